@@ -1,0 +1,3 @@
+pub mod Structured
+pub mod Wishes
+pub mod Refused

@@ -1,0 +1,34 @@
+-- When a part of the structured attributes is refused: as `BadAttribute` exactly where nothing has its form.
+-- Want of memory may come at any point, and no other refusal comes.
+use Rattle.std.specs.Prelude.{◌≡◌, ℕ, List, Option, None}
+use Rattle.serde_json.specs.Data.{Data, Items}
+use Rattle.nd_graph.specs.Structured.{IsJson, strings, features_in, preference_in}
+use Rattle.nd_graph.specs.Wishes.{Says}
+use Rattle.nd_graph.specs.declared.structured.Wishes.{Wishes}
+use Rattle.nd_graph.specs.declared.refusal.LineFault.{LineFault}
+use Rattle.nd_graph.specs.declared.refusal.LineFault.TheVariants.{BadLine, BadPath, BadDerivation, UnknownOutput, BadAttribute, WrongPath, Memory}
+
+-- the fault is `BadAttribute` with this cause, or it is want of memory
+abbrev pub Attribute : LineFault → Type 0 → Type 0
+Attribute BadLine cause = ⊥
+Attribute BadPath cause = ⊥
+Attribute BadDerivation cause = ⊥
+Attribute UnknownOutput cause = ⊥
+Attribute BadAttribute cause = cause
+Attribute WrongPath cause = ⊥
+Attribute Memory cause = Unit {0}
+
+abbrev pub NotJson : List ℕ → LineFault → Type 0
+NotJson text fault = Attribute fault ((value : Data) → IsJson text value → ⊥)
+
+abbrev pub NotStrings : Items → LineFault → Type 0
+NotStrings items fault = Attribute fault (strings items ≡ None)
+
+abbrev pub NotFeatures : Option Data → LineFault → Type 0
+NotFeatures member fault = Attribute fault (features_in member ≡ None)
+
+abbrev pub NotPreference : Option Data → LineFault → Type 0
+NotPreference member fault = Attribute fault (preference_in member ≡ None)
+
+abbrev pub SaysNothing : List ℕ → LineFault → Type 0
+SaysNothing text fault = Attribute fault ((wishes : Wishes) → Says text wishes → ⊥)

@@ -1,0 +1,5 @@
+//! Bundles of derivations as graphs.
+#![tactic(auto)]
+
+pub mod refusal;
+mod structured;

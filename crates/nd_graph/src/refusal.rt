@@ -1,0 +1,63 @@
+//! Why a line of a bundle is refused.
+
+use std::alloc::{AllocError, AllocFailed};
+use std::error::Error;
+use std::fmt::{self, Display, Formatter};
+
+/// Why a line of a bundle is refused, the causes in the order in which they are looked for.
+#[derive(Clone, Copy, Debug, PartialEq, Eq)]
+pub enum LineFault {
+    /// The line is empty or has no space.
+    BadLine,
+    /// What stands before the first space is no store path, or doesn't end in `.drv`.
+    BadPath,
+    /// What stands after it is no derivation text, an input derivation of it is no store path that
+    /// ends in `.drv`, or a source or an output path that isn't empty is no store path.
+    BadDerivation,
+    /// The path of an output is empty: it isn't known before the build.
+    UnknownOutput,
+    /// The structured attributes aren't what they have to be.
+    BadAttribute,
+    /// The line's path isn't the text path of its derivation text.
+    WrongPath,
+    /// No memory was to be had.
+    Memory,
+}
+
+impl From<AllocError> for LineFault {
+    ghost use Rattle.std.specs.Prelude.{◌≡◌};
+    ghost use Rattle.nd_graph.specs.declared.refusal.LineFault.TheVariants.{Memory};
+
+    ghost from_gives = { λ _ e. e ≡ Memory };
+
+    fn from(_refused: AllocError) -> LineFault {
+        LineFault::Memory
+    }
+}
+
+impl<T: Drop> From<AllocFailed<T>> for LineFault {
+    ghost use Rattle.std.specs.Prelude.{◌≡◌};
+    ghost use Rattle.nd_graph.specs.declared.refusal.LineFault.TheVariants.{Memory};
+
+    ghost from_gives = { λ _ e. e ≡ Memory };
+
+    fn from(_refused: AllocFailed<T>) -> LineFault {
+        LineFault::Memory
+    }
+}
+
+impl Display for LineFault {
+    fn fmt(&self, f: &mut Formatter<'_>) -> fmt::Result {
+        f.write_str(match self {
+            LineFault::BadLine => "BadLine",
+            LineFault::BadPath => "BadPath",
+            LineFault::BadDerivation => "BadDerivation",
+            LineFault::UnknownOutput => "UnknownOutput",
+            LineFault::BadAttribute => "BadAttribute",
+            LineFault::WrongPath => "WrongPath",
+            LineFault::Memory => "Memory",
+        })
+    }
+}
+
+impl Error for LineFault {}
