@@ -1,0 +1,5 @@
+pub mod Spelling
+pub mod SpellingOnce
+pub mod Derivations
+pub mod DerivationsOnce
+pub mod Texts

@@ -1,0 +1,29 @@
+-- What the calls on derivation texts answer.
+use Rattle.std.specs.Prelude.{ℕ, ◌<◌, ◌≤◌, List, length}
+use Rattle.nd_aterm.specs.declared.records.Parts.{Parts}
+use Rattle.nd_aterm.specs.declared.derivations.Derivation.{Derivation}
+use Rattle.nd_aterm.specs.declared.fault.AtermError.{AtermError}
+use Rattle.nd_aterm.specs.declared.fault.AtermError.TheVariants.{TooLong, NotDerivation, Order, Memory}
+use Rattle.nd_aterm.specs.Derivations.{Loose, Text}
+
+-- a derivation's parts
+abbrev pub parts_of : Derivation → Parts
+parts_of d = record { outputs = d.outputs; input_drvs = d.input_drvs; input_srcs = d.input_srcs; platform = d.platform; builder = d.builder; args = d.args; env = d.env }
+
+-- the longest text, in bytes: this project's own choice
+abbrev pub text_limit : ℕ
+text_limit = 16777216
+
+-- When reading a text answers which refusal.
+abbrev pub IsRefused : List ℕ → AtermError → Type 0
+IsRefused bytes TooLong = text_limit < length bytes
+IsRefused bytes NotDerivation = (length bytes ≤ text_limit) × ((p : Parts) → Loose p bytes → ⊥)
+IsRefused bytes Order = (length bytes ≤ text_limit) × ((p : Parts) × Loose p bytes) × ((p : Parts) → Text p bytes → ⊥)
+IsRefused bytes Memory = Unit {0}
+
+-- When writing a derivation of these parts answers which refusal.
+abbrev pub IsUnwritten : Parts → AtermError → Type 0
+IsUnwritten p TooLong = (bytes : List ℕ) → Text p bytes → text_limit < length bytes
+IsUnwritten p NotDerivation = ⊥
+IsUnwritten p Order = ⊥
+IsUnwritten p Memory = Unit {0}

@@ -1,0 +1,28 @@
+//! A derivation, whose lists stand in order.
+
+ghost use Rattle.std.specs.Prelude.{◌≡◌, true};
+ghost use Rattle.nd_aterm.specs.Derivations.{in_order};
+
+use crate::records::{EnvEntry, InputDrv, Output};
+use nd_bytes::{ByteString, Items};
+
+/// A store derivation. Its outputs (by name), input derivations (by path), the output names of each
+/// of these, its input sources and its environment (by key) stand in strictly rising byte order.
+#[derive(Debug, Drop)]
+pub struct Derivation {
+    /// What the build makes, by name.
+    pub outputs: Items<Output>,
+    /// The derivations that must be built first, by path.
+    pub input_drvs: Items<InputDrv>,
+    /// The store paths that are sources.
+    pub input_srcs: Items<ByteString>,
+    /// The system to build on, as `x86_64-linux`.
+    pub platform: ByteString,
+    /// The program that builds.
+    pub builder: ByteString,
+    /// The program's arguments.
+    pub args: Items<ByteString>,
+    /// The builder's environment, by key.
+    pub env: Items<EnvEntry>,
+    pub ghost ordered: { in_order (record { outputs = outputs; input_drvs = input_drvs; input_srcs = input_srcs; platform = platform; builder = builder; args = args; env = env }) ≡ true },
+}
