@@ -2,7 +2,7 @@
 
 use std::alloc::{AllocError, AllocFailed};
 use std::error::Error;
-use std::fmt::{self, Display, Formatter};
+use std::fmt::{self, Display, Formatter, Write};
 
 /// Why a line of a bundle is refused, the causes in the order in which they are looked for.
 #[derive(Clone, Copy, Debug, PartialEq, Eq)]
@@ -47,7 +47,7 @@ impl<T: Drop> From<AllocFailed<T>> for LineFault {
 }
 
 impl Display for LineFault {
-    fn fmt(&self, f: &mut Formatter<'_>) -> fmt::Result {
+    fn fmt<W: Write>(&self, f: &mut Formatter<W>) -> fmt::Result {
         f.write_str(match self {
             LineFault::BadLine => "BadLine",
             LineFault::BadPath => "BadPath",
