@@ -1,1 +1,3 @@
+pub mod Rows
 mod Strings
+pub mod Walked

@@ -1,3 +1,5 @@
-pub mod Structured
-pub mod Wishes
+pub mod Graphs
 pub mod Refused
+pub mod Structured
+pub mod Walks
+pub mod Wishes

@@ -1,5 +1,11 @@
-//! Bundles of derivations as graphs.
+//! The graph of a bundle of store derivations: nodes numbered in bundle order, each with the nodes
+//! that it needs, and an order in which every node stands after its inputs.
 #![tactic(auto)]
 
+pub mod fault;
+pub mod graph;
 pub mod refusal;
 mod structured;
+
+pub use fault::GraphError;
+pub use graph::{Graph, Input};
