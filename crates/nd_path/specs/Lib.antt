@@ -1,0 +1,5 @@
+pub mod StorePath
+pub mod Refusals
+pub mod SamePaths
+pub mod Lengths
+pub mod PathSets

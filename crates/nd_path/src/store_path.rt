@@ -1,0 +1,211 @@
+//! A store path.
+
+ghost use Rattle.std.specs.Prelude.{◌≡◌, ℕ, List, Option, None, IfOk, IfErr};
+ghost use Rattle.std.proofs.Common.{rules};
+ghost use Rattle.std.specs.Cmp as Cmp;
+ghost use Rattle.std.specs.Cmp.Lexicographic.{nat_list_eq_equiv, nat_list_cmp_total, texts_ties, texts_po};
+ghost use Rattle.std.specs.Ordering.{as_partial_cmp};
+ghost use Rattle.nd_path.specs.StorePath.{path_eq, path_cmp, path_input, name_of, is_drv_path, is_digest_byte, is_dash_and_name, is_name_byte, is_name};
+ghost use Rattle.std.specs.List.{list_all};
+ghost use Rattle.nd_path.specs.Refusals.{fault_of, fault_behind_directory, IsPath, IsRefused};
+ghost use Rattle.nd_path.specs.SamePaths.{paths_alike};
+
+use crate::path_error::PathError;
+use std::alloc::{AllocError, Global};
+use std::cmp::Ordering;
+use std::hash::{Hash, Hasher};
+use std::marker::Model;
+
+/// The number of characters of a digest in base 32.
+const DIGEST_LENGTH: usize = 32;
+
+/// Where the name begins: behind the store directory, the digest and the dash.
+const NAME_START: usize = 44;
+
+/// The greatest number of bytes of a name.
+const NAME_LIMIT: usize = 211;
+
+/// A store path: `/nix/store/`, a digest of 32 characters, `-` and a name (Nix Reference Manual,
+/// "Store Path"). Contracts see the list of its bytes, which is a store path. Two are equal where
+/// their bytes are, and they stand in the order of their bytes.
+#[derive(Debug, Drop, Clone)]
+pub struct StorePath {
+    bytes: Vec<u8>,
+}
+
+impl Model for StorePath {
+    ghost use Rattle.std.specs.Prelude.{ℕ, List};
+    ghost use Rattle.nd_path.specs.Refusals.{IsPath};
+
+    ghost Value = { List ℕ };
+
+    ghost view = { λ p. p.bytes.items };
+
+    ghost invariant = { λ p. IsPath p.bytes.items };
+}
+
+impl StorePath {
+    /// The store path with these bytes.
+    ///
+    /// Refuses with the first of `Prefix` (1), `Digest` (2) and `Name` (3) that the bytes give cause
+    /// for, and with `Memory` (4) where the copy is refused.
+    pub fn parse(alloc: Global, bytes: &[u8]) -> Result<StorePath, PathError>
+        ensures found { IfOk result (λ p. p ≡ bytes.now) }
+        ensures path { IfOk result (λ p. IsPath p) }
+        ensures refused { IfErr result (λ e. IsRefused bytes.now e) }
+    {
+        if let Some(fault) = fault(bytes) {
+            return Err(fault);
+        }
+        Ok(StorePath {
+            bytes: Vec::from_slice(alloc, bytes)?,
+        })
+    }
+
+    /// The whole path's bytes.
+    pub fn bytes(&self) -> &[u8]
+        ensures value { result.now ≡ self.now }
+        ensures path { IsPath result.now }
+    {
+        self.bytes.as_slice()
+    }
+
+    /// The name: 1 to 211 bytes behind the digest and its dash.
+    #[tactic(auto, using(crate::specs::Lengths::path_long))]
+    pub fn name(&self) -> &[u8]
+        ensures { result.now ≡ name_of self.now }
+    {
+        let (_, name) = self.bytes.as_slice().split_at(NAME_START);
+        name
+    }
+
+    /// Whether the name ends in `.drv`, as a derivation's does.
+    pub fn is_drv(&self) -> bool
+        ensures { result ≡ is_drv_path self.now }
+    {
+        self.name().ends_with(b".drv")
+    }
+
+    /// A copy that is equal to the original.
+    pub fn try_clone(&self) -> Result<StorePath, AllocError>
+        ensures { IfOk result (λ p. p ≡ self.now) }
+    {
+        self.clone()
+    }
+}
+
+impl PartialEq for StorePath {
+    ghost eq = { path_eq };
+
+    ghost laws = { Cmp.partial_equiv_from_equiv nat_list_eq_equiv };
+
+    fn eq(&self, other: &StorePath) -> bool {
+        self.bytes.as_slice() == other.bytes.as_slice()
+    }
+}
+
+impl Eq for StorePath {
+    ghost laws = { nat_list_eq_equiv };
+}
+
+impl PartialOrd for StorePath {
+    ghost partial_cmp = { as_partial_cmp path_cmp };
+
+    ghost laws = { texts_po };
+
+    fn partial_cmp(&self, other: &StorePath) -> Option<Ordering> {
+        Some(self.cmp(other))
+    }
+}
+
+impl Ord for StorePath {
+    ghost cmp = { path_cmp };
+
+    ghost total = { nat_list_cmp_total };
+
+    ghost matches_partial_cmp = { Prim.search rules };
+
+    ghost matches_eq = { texts_ties };
+
+    fn cmp(&self, other: &StorePath) -> Ordering {
+        self.bytes.as_slice().cmp(other.bytes.as_slice())
+    }
+}
+
+impl Hash for StorePath {
+    ghost hash_input = { path_input };
+
+    ghost respects_eq = { paths_alike };
+
+    fn hash<H: Hasher>(&self, state: &mut H) {
+        self.bytes.as_slice().hash(state);
+    }
+}
+
+/// The first fault of the bytes, from left to right.
+fn fault(bytes: &[u8]) -> Option<PathError>
+    ensures { result ≡ fault_of bytes.now }
+{
+    match bytes.strip_prefix(b"/nix/store/") {
+        Some(base) => fault_in_base(base),
+        None => Some(PathError::Prefix),
+    }
+}
+
+/// The first fault of what stands behind the store directory.
+fn fault_in_base(base: &[u8]) -> Option<PathError>
+    ensures { result ≡ fault_behind_directory base.now }
+{
+    if base.len() < DIGEST_LENGTH {
+        return Some(PathError::Digest);
+    }
+    let (digest, rest) = base.split_at(DIGEST_LENGTH);
+    if !are_digest_bytes(digest) {
+        return Some(PathError::Digest);
+    }
+    if !is_dash_then_name(rest) {
+        return Some(PathError::Name);
+    }
+    None
+}
+
+/// Whether each byte is of Nix's base-32 alphabet.
+fn are_digest_bytes(bytes: &[u8]) -> bool
+    ensures { result ≡ list_all is_digest_byte bytes.now }
+{
+    bytes.iter().all(
+        |b| matches!(*b, b'0'..=b'9' | b'a'..=b'd' | b'f'..=b'n' | b'p'..=b's' | b'v'..=b'z'),
+    )
+}
+
+/// Whether the bytes are a dash and a name.
+fn is_dash_then_name(bytes: &[u8]) -> bool
+    ensures { result ≡ is_dash_and_name bytes.now }
+{
+    match bytes {
+        [b'-', name @ ..] => is_path_name(name),
+        _ => false,
+    }
+}
+
+/// Whether the bytes are a store path's name.
+pub(crate) fn is_path_name(name: &[u8]) -> bool
+    ensures { result ≡ is_name name.now }
+{
+    if name.is_empty() {
+        return false;
+    }
+    if name.len() > NAME_LIMIT {
+        return false;
+    }
+    are_name_bytes(name)
+}
+
+/// Whether each byte is one that a name may have.
+fn are_name_bytes(bytes: &[u8]) -> bool
+    ensures { result ≡ list_all is_name_byte bytes.now }
+{
+    bytes.iter().all(|b| {
+        matches!(*b, b'0'..=b'9' | b'A'..=b'Z' | b'a'..=b'z' | b'+' | b'-' | b'.' | b'_' | b'?' | b'=')
+    })
+}
