@@ -1,0 +1,56 @@
+-- Sets of byte strings, as strictly rising lists: the systems and the features of a machine
+-- (Nix Reference Manual, setting `builders`).
+use Rattle.std.specs.Prelude.{◌≡◌, ℕ, Bool, true, List, [], ◌∷◌}
+use Rattle.std.specs.Cmp.{IsEquivalence, IsPartialEquivalence, IsTotalOrder, IsPartialOrder, partial_equiv_from_equiv, partial_order_from_agreeing_total}
+use Rattle.std.specs.Cmp.Lexicographic.{pointwise, slice_cmp, lists_ties}
+use Rattle.std.specs.Ordering.{match_ordering, eq_by_cmp, as_partial_cmp}
+use Rattle.std.specs.declared.cmp.Ordering.{Ordering}
+use Rattle.std.specs.List.Sorted.{IsStrictlySortedBy}
+use Rattle.std.proofs.Common.{refl}
+use Rattle.std.proofs.lemmas.Cmp.{lists_equiv, lists_total}
+use Rattle.std.proofs.lemmas.Slice.Eq.{slice_eq-Decides, bytes_eq-Decides}
+use Rattle.nd_bytes.specs.Compared.{bytes_eq, bytes_cmp, bytes_equal, bytes_ordered, bytes_ties}
+
+-- each item comes before those after it, in byte order
+abbrev pub IsRising : List (List ℕ) → Type 0
+IsRising = IsStrictlySortedBy bytes_cmp
+
+-- a rising list with one more item at its place, or as it is where the item stands in it already
+unfoldable pub put : List ℕ → List (List ℕ) → List (List ℕ)
+put x [] = x ∷ []
+put x (y ∷ ys) = match_ordering (bytes_cmp x y) (x ∷ y ∷ ys) (y ∷ ys) (y ∷ put x ys)
+
+-- the set of the items of a list: each once, rising
+unfoldable pub set_of : List (List ℕ) → List (List ℕ)
+set_of [] = []
+set_of (x ∷ xs) = put x (set_of xs)
+
+-- ---- how sets compare: item by item, a proper prefix first
+
+-- the same items
+abbrev pub sets_eq : List (List ℕ) → List (List ℕ) → Bool
+sets_eq = pointwise bytes_eq
+
+-- the first item that differs decides
+abbrev pub sets_cmp : List (List ℕ) → List (List ℕ) → Ordering
+sets_cmp = slice_cmp bytes_cmp
+
+pub sets_equal : IsEquivalence sets_eq
+sets_equal = lists_equiv bytes_equal
+
+pub sets_partly_equal : IsPartialEquivalence sets_eq
+sets_partly_equal = partial_equiv_from_equiv sets_equal
+
+pub sets_ordered : IsTotalOrder sets_cmp
+sets_ordered = lists_total bytes_ordered
+
+-- equal exactly where neither comes first
+pub sets_ties : (xs ys : List (List ℕ)) → sets_eq xs ys ≡ eq_by_cmp sets_cmp xs ys
+sets_ties = lists_ties bytes_cmp bytes_ties
+
+pub sets_partly_ordered : IsPartialOrder sets_eq (as_partial_cmp sets_cmp)
+sets_partly_ordered = partial_order_from_agreeing_total sets_cmp sets_ordered (λ x y. refl) sets_ties
+
+-- equal sets are one list
+pub sets_same : (xs ys : List (List ℕ)) → sets_eq xs ys ≡ true → xs ≡ ys
+sets_same xs ys = (slice_eq-Decides bytes_eq-Decides xs ys (sets_eq xs ys) refl).0

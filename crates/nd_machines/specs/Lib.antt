@@ -1,0 +1,2 @@
+pub mod FeatureSets
+pub mod Builders
