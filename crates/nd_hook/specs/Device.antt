@@ -1,0 +1,10 @@
+-- Which answers of a whole read say that the device refused it.
+use Rattle.std.specs.Prelude.{Bool, true, false, Result, Ok, Err}
+use Rattle.nd_hook.specs.declared.told.TakeError.{TakeError}
+use Rattle.nd_hook.specs.declared.told.TakeError.TheVariants.{Fault, Memory}
+
+-- the answer is the device's fault
+abbrev pub is_fault_of : {A : Type 0} → Result A TakeError → Bool
+is_fault_of (Ok _) = false
+is_fault_of (Err Fault) = true
+is_fault_of (Err Memory) = false
