@@ -43,7 +43,7 @@ impl ByteString {
     pub fn as_slice(&self) -> &[u8]
         ensures { result.now ≡ self.now }
     {
-        self.bytes.as_slice()
+        &self.bytes[..]
     }
 
     /// The number of bytes.
