@@ -1,0 +1,7 @@
+use Rattle.std.proofs.Common.{take}
+use Rattle.nd_eligible.specs.Eligibility.{IsSubset}
+use Rattle.nd_eligible.proofs.eligibility.lies_in.Given as goal
+
+-- each item so far is in the other set
+abbrev pub invariant-loop-item : goal.invariant-loop-item
+invariant-loop-item l = IsSubset (take l.item-index l.item-items) l.others
