@@ -55,3 +55,8 @@ Loose p bytes = bytes ≡ derivation p []
 -- the bytes are the derivation text of these parts
 abbrev pub Text : Parts → List ℕ → Type 0
 Text p bytes = Loose p bytes × (in_order p ≡ true)
+
+-- No spelling is a proper prefix of another, and each spells one value: where one begins another, nothing
+-- follows it, and both spell the same parts.
+abbrev pub NoPrefix : Type 0
+NoPrefix = (p q : Parts) (front whole rest : List ℕ) → Loose p front → Loose q whole → whole ≡ front ++ rest → (rest ≡ []) × (p ≡ q)

@@ -2,4 +2,5 @@ pub mod Spelling
 pub mod SpellingOnce
 pub mod Derivations
 pub mod DerivationsOnce
+pub mod Refusals
 pub mod Texts

@@ -3,7 +3,9 @@
 ghost use Rattle.std.specs.Prelude.{◌≡◌, true};
 ghost use Rattle.nd_aterm.specs.Derivations.{in_order};
 
-use crate::records::{EnvEntry, InputDrv, Output};
+use crate::fault::AtermError;
+use crate::orders::is_in_order;
+use crate::records::{EnvEntry, InputDrv, Output, Parts};
 use nd_bytes::{ByteString, Items};
 
 /// A store derivation. Its outputs (by name), input derivations (by path), the output names of each
@@ -25,4 +27,38 @@ pub struct Derivation {
     /// The builder's environment, by key.
     pub env: Items<EnvEntry>,
     pub ghost ordered: { in_order (record { outputs = outputs; input_drvs = input_drvs; input_srcs = input_srcs; platform = platform; builder = builder; args = args; env = env }) ≡ true },
+}
+
+impl Derivation {
+    ghost use Rattle.std.specs.Prelude.{false, MatchResult};
+    ghost use Rattle.nd_aterm.specs.Texts.{parts_of};
+
+    /// The derivation of these parts. They are refused as `Order` (3) exactly where one of the five
+    /// kinds of list doesn't strictly rise, and are then dropped. It takes no memory, so `Memory`
+    /// doesn't come.
+    pub fn new(parts: Parts) -> Result<Self, AtermError>
+        ensures { MatchResult result (λ d. (in_order parts ≡ true) × (parts_of d ≡ parts)) (λ e. (in_order parts ≡ false) × (e ≡ AtermError.Order)) }
+    {
+        if !is_in_order(&parts) {
+            return Err(AtermError::Order);
+        }
+        let Parts {
+            outputs,
+            input_drvs,
+            input_srcs,
+            platform,
+            builder,
+            args,
+            env,
+        } = parts;
+        Ok(Derivation {
+            outputs,
+            input_drvs,
+            input_srcs,
+            platform,
+            builder,
+            args,
+            env,
+        })
+    }
 }

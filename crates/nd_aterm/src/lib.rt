@@ -5,8 +5,16 @@
 
 mod derivations;
 mod fault;
+pub mod laws;
+mod lists;
+mod orders;
+mod part;
+mod record_texts;
 mod records;
+mod strings;
+mod texts;
 
 pub use derivations::Derivation;
 pub use fault::AtermError;
 pub use records::{EnvEntry, InputDrv, Output, Parts};
+pub use texts::{parse, write};

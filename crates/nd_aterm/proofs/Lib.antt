@@ -1,0 +1,5 @@
+pub mod ListLemmas
+pub mod OrderLemmas
+pub mod PrefixLemmas
+pub mod RefusalLemmas
+pub mod StringLemmas

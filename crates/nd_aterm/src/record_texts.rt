@@ -1,0 +1,92 @@
+//! The texts of outputs, input derivations and environment entries.
+
+ghost use Rattle.std.specs.Prelude.{◌≡◌, ℕ, List};
+ghost use Rattle.nd_aterm.specs.Derivations.{output, input_drv, env_entry};
+ghost use Rattle.nd_aterm.specs.DerivationsOnce.{output_once, output_opens, input_drv_once, input_drv_opens, env_entry_once, env_entry_opens};
+
+use crate::fault::AtermError;
+use crate::part::{Part, expect, field, put_field};
+use crate::records::{EnvEntry, InputDrv, Output};
+use std::alloc::{AllocError, Global};
+
+impl Part for Output {
+    ghost text = { output };
+
+    #[tactic(auto, using(crate::specs::DerivationsOnce::onces), unfolding(crate::specs::Derivations::output))]
+    fn read(alloc: Global, bytes: &[u8]) -> Result<(Self, &[u8]), AtermError> {
+        let rest = expect(bytes, b'(')?;
+        let (name, rest) = field(alloc, rest, b',')?;
+        let (path, rest) = field(alloc, rest, b',')?;
+        let (hash_algo, rest) = field(alloc, rest, b',')?;
+        let (hash, rest) = field(alloc, rest, b')')?;
+        let output = Output {
+            name,
+            path,
+            hash_algo,
+            hash,
+        };
+        Ok((output, rest))
+    }
+
+    #[tactic(auto, unfolding(crate::specs::Derivations::output))]
+    fn write(&self, out: &mut Vec<u8>) -> Result<(), AllocError> {
+        out.push(b'(')?;
+        put_field(&self.name, b',', out)?;
+        put_field(&self.path, b',', out)?;
+        put_field(&self.hash_algo, b',', out)?;
+        put_field(&self.hash, b')', out)?;
+        Ok(())
+    }
+
+    ghost once = { output_once };
+
+    ghost opens = { output_opens };
+}
+
+impl Part for InputDrv {
+    ghost text = { input_drv };
+
+    #[tactic(auto, using(crate::specs::DerivationsOnce::onces), unfolding(crate::specs::Derivations::input_drv))]
+    fn read(alloc: Global, bytes: &[u8]) -> Result<(Self, &[u8]), AtermError> {
+        let rest = expect(bytes, b'(')?;
+        let (path, rest) = field(alloc, rest, b',')?;
+        let (outputs, rest) = field(alloc, rest, b')')?;
+        Ok((InputDrv { path, outputs }, rest))
+    }
+
+    #[tactic(auto, unfolding(crate::specs::Derivations::input_drv))]
+    fn write(&self, out: &mut Vec<u8>) -> Result<(), AllocError> {
+        out.push(b'(')?;
+        put_field(&self.path, b',', out)?;
+        put_field(&self.outputs, b')', out)?;
+        Ok(())
+    }
+
+    ghost once = { input_drv_once };
+
+    ghost opens = { input_drv_opens };
+}
+
+impl Part for EnvEntry {
+    ghost text = { env_entry };
+
+    #[tactic(auto, using(crate::specs::DerivationsOnce::onces), unfolding(crate::specs::Derivations::env_entry))]
+    fn read(alloc: Global, bytes: &[u8]) -> Result<(Self, &[u8]), AtermError> {
+        let rest = expect(bytes, b'(')?;
+        let (key, rest) = field(alloc, rest, b',')?;
+        let (value, rest) = field(alloc, rest, b')')?;
+        Ok((EnvEntry { key, value }, rest))
+    }
+
+    #[tactic(auto, unfolding(crate::specs::Derivations::env_entry))]
+    fn write(&self, out: &mut Vec<u8>) -> Result<(), AllocError> {
+        out.push(b'(')?;
+        put_field(&self.key, b',', out)?;
+        put_field(&self.value, b')', out)?;
+        Ok(())
+    }
+
+    ghost once = { env_entry_once };
+
+    ghost opens = { env_entry_opens };
+}

@@ -1,0 +1,105 @@
+//! Quoted strings.
+
+ghost use Rattle.std.specs.Prelude.{◌≡◌, ℕ, ◌≤◌, ◌<◌, List, ◌∷◌, ◌++◌, length, IfOk, IfErr, OnOk, IfSome, MatchOption};
+ghost use Rattle.nd_aterm.specs.Refusals.{Refuses};
+ghost use Rattle.nd_aterm.specs.Spelling.{quote, letter_of, character, characters, string};
+ghost use Rattle.nd_aterm.specs.SpellingOnce.{string_once, string_opens};
+
+use crate::fault::AtermError;
+use crate::part::{Part, expect};
+use nd_bytes::ByteString;
+use std::alloc::{AllocError, Global};
+
+/// What stands behind the backslash of a byte that is escaped.
+fn letter(byte: u8) -> Option<u8>
+    ensures { result ≡ letter_of byte }
+{
+    match byte {
+        b'"' => Some(b'"'),
+        b'\\' => Some(b'\\'),
+        b'\n' => Some(b'n'),
+        b'\r' => Some(b'r'),
+        b'\t' => Some(b't'),
+        _ => None,
+    }
+}
+
+/// The byte that stands first in a string, and what stands behind its spelling.
+#[tactic(auto, unfolding(crate::specs::Spelling::character))]
+fn character_at(bytes: &[u8]) -> Option<(u8, &[u8])>
+    ensures found { MatchOption result ((c : ℕ) (rest : List ℕ) → bytes.now ≡ character c rest → ⊥) (λ x. bytes.now ≡ character x.0 x.1.now) }
+    ensures shorter { IfSome result (λ x. length x.1.now < length bytes.now) }
+{
+    let (first, rest) = bytes.split_first()?;
+    match *first {
+        b'"' | b'\n' | b'\r' | b'\t' => None,
+        b'\\' => {
+            let (letter, rest) = rest.split_first()?;
+            match *letter {
+                b'"' => Some((b'"', rest)),
+                b'\\' => Some((b'\\', rest)),
+                b'n' => Some((b'\n', rest)),
+                b'r' => Some((b'\r', rest)),
+                b't' => Some((b'\t', rest)),
+                _ => None,
+            }
+        }
+        byte => Some((byte, rest)),
+    }
+}
+
+/// The bytes of a string up to its closing quote, and what stands behind that.
+fn characters_at(alloc: Global, bytes: &[u8]) -> Result<(Vec<u8>, &[u8]), AtermError>
+    ensures found { IfOk result (λ x. bytes.now ≡ characters x.0.items (quote ∷ x.1.now)) }
+    ensures shorter { IfOk result (λ x. length x.1.now ≤ length bytes.now) }
+    ensures none { IfErr result (λ e. Refuses e ((cs : List ℕ) (rest : List ℕ) → bytes.now ≡ characters cs (quote ∷ rest) → ⊥)) }
+{
+    let mut read = Vec::new(alloc);
+    let mut rest = bytes;
+    while let Some((byte, after)) = character_at(rest) {
+        read.push(byte)?;
+        rest = after;
+    }
+    let rest = expect(rest, b'"')?;
+    Ok((read, rest))
+}
+
+/// Writes the bytes as they stand in a string.
+#[tactic(auto, unfolding(crate::specs::Spelling::character))]
+fn put_characters(bytes: &[u8], out: &mut Vec<u8>) -> Result<(), AllocError>
+    ensures { OnOk result ((rest : List ℕ) → out.new.items ++ rest ≡ out.old.items ++ characters bytes.now rest) }
+{
+    for byte in bytes {
+        match letter(*byte) {
+            Some(letter) => {
+                out.push(b'\\')?;
+                out.push(letter)?;
+            }
+            None => out.push(*byte)?,
+        }
+    }
+    Ok(())
+}
+
+impl Part for ByteString {
+    ghost text = { string };
+
+    #[tactic(auto, unfolding(crate::specs::Spelling::string))]
+    fn read(alloc: Global, bytes: &[u8]) -> Result<(Self, &[u8]), AtermError> {
+        let rest = expect(bytes, b'"')?;
+        let (read, rest) = characters_at(alloc, rest)?;
+        Ok((ByteString::new(read), rest))
+    }
+
+    #[tactic(auto, unfolding(crate::specs::Spelling::string))]
+    fn write(&self, out: &mut Vec<u8>) -> Result<(), AllocError> {
+        out.push(b'"')?;
+        put_characters(self.as_slice(), out)?;
+        out.push(b'"')?;
+        Ok(())
+    }
+
+    ghost once = { string_once };
+
+    ghost opens = { string_opens };
+}

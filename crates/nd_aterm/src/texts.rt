@@ -1,0 +1,117 @@
+//! Reading and writing of whole derivation texts.
+
+ghost use Rattle.std.specs.Prelude.{◌≡◌, ℕ, ◌≤◌, ◌<◌, List, [], ◌++◌, codes, length, IfOk, IfErr, OnOk, MatchOption, MatchResult};
+ghost use Rattle.nd_aterm.specs.declared.records.Parts.{Parts};
+ghost use Rattle.nd_aterm.specs.Derivations.{derivation, Loose, Text};
+ghost use Rattle.nd_aterm.specs.Refusals.{Refuses};
+ghost use Rattle.nd_aterm.specs.Texts.{parts_of, text_limit, IsRefused, IsUnwritten};
+
+use crate::derivations::Derivation;
+use crate::fault::AtermError;
+use crate::part::{expect, field, put_field};
+use crate::records::Parts;
+use std::alloc::{AllocError, Global};
+
+/// The most bytes that a derivation text may have.
+const TEXT_LIMIT: usize = 16_777_216;
+
+/// What stands behind the word that each derivation text begins with.
+fn behind_word(bytes: &[u8]) -> Option<&[u8]>
+    ensures { MatchOption result ((rest : List ℕ) → bytes.now ≡ codes "Derive(" ++ rest → ⊥) (λ rest. bytes.now ≡ codes "Derive(" ++ rest.now) }
+{
+    match bytes {
+        [b'D', b'e', b'r', b'i', b'v', b'e', b'(', rest @ ..] => Some(rest),
+        _ => None,
+    }
+}
+
+/// Reads the parts of a derivation, its lists in any order, and gives them with what stands behind
+/// the text.
+#[tactic(auto, using(crate::specs::DerivationsOnce::onces), unfolding(crate::specs::Derivations::derivation))]
+fn parts_at(alloc: Global, bytes: &[u8]) -> Result<(Parts, &[u8]), AtermError>
+    ensures found { IfOk result (λ x. bytes.now ≡ derivation x.0 x.1.now) }
+    ensures none { IfErr result (λ e. Refuses e ((p : Parts) (rest : List ℕ) → bytes.now ≡ derivation p rest → ⊥)) }
+{
+    let rest = behind_word(bytes).ok_or(AtermError::NotDerivation)?;
+    let (outputs, rest) = field(alloc, rest, b',')?;
+    let (input_drvs, rest) = field(alloc, rest, b',')?;
+    let (input_srcs, rest) = field(alloc, rest, b',')?;
+    let (platform, rest) = field(alloc, rest, b',')?;
+    let (builder, rest) = field(alloc, rest, b',')?;
+    let (args, rest) = field(alloc, rest, b',')?;
+    let (env, rest) = field(alloc, rest, b')')?;
+    let parts = Parts {
+        outputs,
+        input_drvs,
+        input_srcs,
+        platform,
+        builder,
+        args,
+        env,
+    };
+    Ok((parts, rest))
+}
+
+/// Reads a derivation text, in one pass. Whatever the bytes are, the derivation is the one whose text
+/// they are; refusals, first to last, `Memory` at any point:
+///
+/// 1. `TooLong`: there are more than 16,777,216 bytes.
+/// 2. `NotDerivation`: no derivation has this text, in whatever order its lists stand.
+/// 3. `Order`: it would be a derivation's text, but one of its lists doesn't strictly rise.
+/// 4. `Memory`: there was no memory left.
+///
+/// The form is the ATerm form of the Nix Reference Manual ("Derivation "ATerm" file format"), read as
+/// Nix writes it and in no other spelling.
+#[tactic(auto, using(crate::specs::DerivationsOnce::derivation_once))]
+pub fn parse(alloc: Global, bytes: &[u8]) -> Result<Derivation, AtermError>
+    // What is read has this text.
+    ensures found { IfOk result (λ d. (length bytes.now ≤ text_limit) × Text (parts_of d) bytes.now) }
+    // What has this text is read, unless memory runs out.
+    ensures exactly { (p : Parts) → length bytes.now ≤ text_limit → Text p bytes.now → MatchResult result (λ d. parts_of d ≡ p) (λ e. e ≡ AtermError.Memory) }
+    // When each refusal comes.
+    ensures refused { IfErr result (IsRefused bytes.now) }
+    ensures too_long { text_limit < length bytes.now → result ≡ Err AtermError.TooLong }
+{
+    if bytes.len() > TEXT_LIMIT {
+        return Err(AtermError::TooLong);
+    }
+    let (parts, rest) = parts_at(alloc, bytes)?;
+    if !rest.is_empty() {
+        return Err(AtermError::NotDerivation);
+    }
+    Derivation::new(parts)
+}
+
+/// Writes a derivation's text at the end.
+#[tactic(auto, unfolding(crate::specs::Derivations::derivation))]
+fn put_derivation(drv: &Derivation, out: &mut Vec<u8>) -> Result<(), AllocError>
+    ensures { OnOk result ((rest : List ℕ) → out.new.items ++ rest ≡ out.old.items ++ derivation (parts_of drv.now) rest) }
+{
+    out.extend_from_slice(b"Derive(")?;
+    put_field(&drv.outputs, b',', out)?;
+    put_field(&drv.input_drvs, b',', out)?;
+    put_field(&drv.input_srcs, b',', out)?;
+    put_field(&drv.platform, b',', out)?;
+    put_field(&drv.builder, b',', out)?;
+    put_field(&drv.args, b',', out)?;
+    put_field(&drv.env, b')', out)?;
+    Ok(())
+}
+
+/// The one text of a derivation. It is refused as `TooLong` (1) where that has more than 16,777,216
+/// bytes, and as `Memory` (4) where there was no memory left.
+pub fn write(alloc: Global, derivation: &Derivation) -> Result<Vec<u8>, AtermError>
+    // What is written is the derivation's text.
+    ensures written { IfOk result (λ text. (length text.items ≤ text_limit) × Text (parts_of derivation.now) text.items) }
+    // A text that isn't too long is written, unless memory runs out.
+    ensures exactly { (bytes : List ℕ) → length bytes ≤ text_limit → Text (parts_of derivation.now) bytes → MatchResult result (λ text. text.items ≡ bytes) (λ e. e ≡ AtermError.Memory) }
+    // When each refusal comes.
+    ensures refused { IfErr result (IsUnwritten (parts_of derivation.now)) }
+{
+    let mut text = Vec::new(alloc);
+    put_derivation(derivation, &mut text)?;
+    if text.len() > TEXT_LIMIT {
+        return Err(AtermError::TooLong);
+    }
+    Ok(text)
+}
