@@ -8,7 +8,7 @@ use Rattle.nd_path.specs.StorePath.{store_directory, has_digest, is_dash_and_nam
 use Rattle.nd_path.specs.Refusals.{IsPath, fault_behind_directory, fault_behind_digest}
 
 -- a choice between no fault and one has none only where its test passes
-no_fault : (b : Bool) (rest : Option PathError) (e : PathError) → (if b then rest else Some e) ≡ None → (b ≡ true) × (rest ≡ None)
+pub no_fault : (b : Bool) (rest : Option PathError) (e : PathError) → (if b then rest else Some e) ≡ None → (b ≡ true) × (rest ≡ None)
 no_fault true rest e h = (refl, h)
 no_fault false rest e h = cc
 

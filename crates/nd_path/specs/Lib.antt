@@ -3,3 +3,5 @@ pub mod Refusals
 pub mod SamePaths
 pub mod Lengths
 pub mod PathSets
+pub mod Encoding
+pub mod TextPaths

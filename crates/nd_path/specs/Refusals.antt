@@ -1,9 +1,9 @@
 -- When a text is refused as a store path, and with which refusal.
-use Rattle.std.specs.Prelude.{◌≡◌, ℕ, List, drop, nat_eq, Option, Some, None, if◌then◌else◌}
-use Rattle.std.specs.List.{starts_with}
+use Rattle.std.specs.Prelude.{◌≡◌, ℕ, true, List, ◌∷◌, ◌++◌, length, drop, nat_eq, Option, Some, None, if◌then◌else◌}
+use Rattle.std.specs.List.{list_all, starts_with}
 use Rattle.nd_path.specs.declared.path_error.PathError.{PathError}
 use Rattle.nd_path.specs.declared.path_error.PathError.TheVariants.{Prefix, Digest, Name, Memory}
-use Rattle.nd_path.specs.StorePath.{store_directory, has_digest, is_dash_and_name}
+use Rattle.nd_path.specs.StorePath.{store_directory, is_digest_byte, is_name, has_digest, is_dash_and_name}
 
 -- the first fault of what stands behind the digest
 abbrev pub fault_behind_digest : List ℕ → Option PathError
@@ -20,6 +20,15 @@ fault_of bytes = if starts_with nat_eq bytes store_directory then fault_behind_d
 -- a store path
 abbrev pub IsPath : List ℕ → Type 0
 IsPath bytes = fault_of bytes ≡ None
+
+-- a store path, spelled out
+pub record IsSpelled (bytes : List ℕ) : Type 0 where
+  pub digest : List ℕ
+  pub name : List ℕ
+  pub text : bytes ≡ store_directory ++ digest ++ 45 ∷ name
+  pub size : length digest ≡ 32
+  pub digits : list_all is_digest_byte digest ≡ true
+  pub named : is_name name ≡ true
 
 -- a text may be refused with its first fault, and at any point for want of memory
 abbrev pub IsRefused : List ℕ → PathError → Type 0

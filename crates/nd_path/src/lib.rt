@@ -1,10 +1,16 @@
 //! Store paths: their texts, sets of them, Nix's base 32, and the paths of texts.
 #![tactic(auto)]
 
+pub mod encoding;
 pub mod path_error;
 pub mod path_set;
 pub mod store_path;
+#[cfg(test)]
+mod tests;
+pub mod texts;
 
+pub use encoding::{base32, fold};
 pub use path_error::PathError;
 pub use path_set::PathSet;
 pub use store_path::StorePath;
+pub use texts::text_path;

@@ -1,13 +1,14 @@
 //! A store path.
 
-ghost use Rattle.std.specs.Prelude.{◌≡◌, ℕ, List, Option, None, IfOk, IfErr};
+ghost use Rattle.std.specs.Prelude.{true, ◌∷◌, ◌++◌, ◌≡◌, ℕ, List, Option, None, IfOk, IfErr};
 ghost use Rattle.std.proofs.Common.{rules};
 ghost use Rattle.std.specs.Cmp as Cmp;
 ghost use Rattle.std.specs.Cmp.Lexicographic.{nat_list_eq_equiv, nat_list_cmp_total, texts_ties, texts_po};
 ghost use Rattle.std.specs.Ordering.{as_partial_cmp};
-ghost use Rattle.nd_path.specs.StorePath.{path_eq, path_cmp, path_input, name_of, is_drv_path, is_digest_byte, is_dash_and_name, is_name_byte, is_name};
+ghost use Rattle.nd_path.specs.StorePath.{store_directory, path_eq, path_cmp, path_input, name_of, is_drv_path, is_digest_byte, is_dash_and_name, is_name_byte, is_name};
 ghost use Rattle.std.specs.List.{list_all};
-ghost use Rattle.nd_path.specs.Refusals.{fault_of, fault_behind_directory, IsPath, IsRefused};
+ghost use Rattle.nd_path.specs.declared.path_error.PathError.{PathError};
+ghost use Rattle.nd_path.specs.Refusals.{fault_of, fault_behind_directory, IsPath, IsSpelled, IsRefused};
 ghost use Rattle.nd_path.specs.SamePaths.{paths_alike};
 
 use crate::path_error::PathError;
@@ -49,10 +50,12 @@ impl StorePath {
     ///
     /// Refuses with the first of `Prefix` (1), `Digest` (2) and `Name` (3) that the bytes give cause
     /// for, and with `Memory` (4) where the copy is refused.
+    #[tactic(auto, using(crate::proofs::Spelling::spelled))]
     pub fn parse(alloc: Global, bytes: &[u8]) -> Result<StorePath, PathError>
         ensures found { IfOk result (λ p. p ≡ bytes.now) }
-        ensures path { IfOk result (λ p. IsPath p) }
-        ensures refused { IfErr result (λ e. IsRefused bytes.now e) }
+        ensures spelled { IfOk result IsSpelled }
+        ensures refused { IfErr result (IsRefused bytes.now) }
+        ensures taken { IsSpelled bytes.now → IfErr result (λ e. e ≡ PathError.Memory) }
     {
         if let Some(fault) = fault(bytes) {
             return Err(fault);
@@ -62,10 +65,30 @@ impl StorePath {
         })
     }
 
+    /// The store path of a digest in base 32 and a name.
+    pub(crate) fn from_digest(
+        alloc: Global,
+        digest: &[u8; 32],
+        name: &[u8],
+    ) -> Result<StorePath, AllocError>
+        requires digest { list_all is_digest_byte digest.now ≡ true }
+        requires name { is_name name.now ≡ true }
+        ensures { IfOk result (λ p. p ≡ store_directory ++ digest.now ++ 45 ∷ name.now) }
+    {
+        let mut bytes = Vec::new(alloc);
+        bytes.extend_from_slice(b"/nix/store/")?;
+        bytes.extend_from_slice(digest)?;
+        bytes.push(b'-')?;
+        bytes.extend_from_slice(name)?;
+        Ok(StorePath { bytes })
+    }
+
     /// The whole path's bytes.
+    #[tactic(auto, using(crate::proofs::Spelling::spelled))]
     pub fn bytes(&self) -> &[u8]
         ensures value { result.now ≡ self.now }
         ensures path { IsPath result.now }
+        ensures spelled { IsSpelled result.now }
     {
         self.bytes.as_slice()
     }
@@ -73,7 +96,8 @@ impl StorePath {
     /// The name: 1 to 211 bytes behind the digest and its dash.
     #[tactic(auto, using(crate::specs::Lengths::path_long))]
     pub fn name(&self) -> &[u8]
-        ensures { result.now ≡ name_of self.now }
+        ensures value { result.now ≡ name_of self.now }
+        ensures named { is_name result.now ≡ true }
     {
         let (_, name) = self.bytes.as_slice().split_at(NAME_START);
         name
