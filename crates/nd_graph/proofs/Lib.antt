@@ -1,3 +1,4 @@
 pub mod Rows
+pub mod Searching
 mod Strings
 pub mod Walked

@@ -4,6 +4,7 @@
 
 pub mod fault;
 pub mod graph;
+mod order;
 pub mod refusal;
 mod structured;
 
