@@ -5,11 +5,11 @@ use Rattle.std.proofs.lemmas.List.{get_or_append_left, get_or_at, get_or_default
 use Rattle.std.proofs.lemmas.List.Elements.{Contains-get_or, Contains-push, Contains-push_cases, Contains-append_left}
 use Rattle.std.proofs.lemmas.List.Sums.{sum_by-set}
 use Rattle.nd_graph.specs.Orders.{IsCyclic, input_count, left_of, IsNew, IsOpen, IsSearch, Advances}
-use Rattle.nd_graph.specs.Walks.{inputs_of, Walk, IsBelow, IsOrder, IsRising, AreDistinct, AreInRange}
+use Rattle.nd_graph.specs.Walks.{inputs_of, Walk, IsOrder, IsRising, AreDistinct, AreInRange}
 use Rattle.nd_graph.specs.Graphs.{needed}
 use Rattle.nd_graph.specs.declared.graph.Input.{Input}
 use Rattle.nd_graph.proofs.Rows.{rows_length, row_length}
-use Rattle.nd_graph.proofs.Walked.{walk_on, has_row}
+use Rattle.nd_graph.proofs.Walked.{walk_on}
 
 -- a write, read at the place or at another
 pub set_cases : (xs : List ℕ) (i v d : ℕ) → i < length xs → ((d ≡ i) × (get_or (set xs i v) d 0 ≡ v)) ⊎ ((d ≢ i) × (get_or (set xs i v) d 0 ≡ get_or xs d 0))

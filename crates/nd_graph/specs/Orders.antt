@@ -1,10 +1,10 @@
 -- When there is no order of the nodes in which each stands after its inputs: some node is below itself.
 -- And the state of a depth-first search for such an order.
-use Rattle.std.specs.Prelude.{◌≡◌, ℕ, zero, suc, ◌+◌, ◌<◌, ◌≤◌, List, length, Contains}
+use Rattle.std.specs.Prelude.{◌≡◌, ℕ, suc, ◌+◌, ◌<◌, ◌≤◌, List, length, Contains}
 use Rattle.std.specs.List.{slice_index_or}
 use Rattle.nd_graph.specs.Walks.{inputs_of, IsBelow, IsRising, AreDistinct}
 use Rattle.nd_graph.specs.declared.fault.GraphError.{GraphError}
-use Rattle.nd_graph.specs.declared.fault.GraphError.TheVariants.{BadLine, BadPath, BadDerivation, UnknownOutput, BadAttribute, WrongPath, Duplicate, MissingInput, MissingOutput, Cycle, TooMany, Memory}
+use Rattle.nd_graph.specs.declared.fault.GraphError.TheVariants.{Cycle, Memory}
 
 -- some node is below itself
 pub record IsCyclic (rows : List (List ℕ)) : Type 0 where

@@ -1,7 +1,6 @@
-use Rattle.std.proofs.Common.{◌≡◌, ℕ, suc, ◌+◌, ◌-◌, ◌<◌, List, [], ◌∷◌, ◌++◌, length, Contains, get_or, set, sym, ap, ◌∙◌, subst, arith, get_or-set_same}
+use Rattle.std.proofs.Common.{◌≡◌, ℕ, ◌-◌, ◌<◌, List, [], ◌∷◌, ◌++◌, length, set, sym, ap, ◌∙◌, subst, arith, get_or-set_same}
 use Rattle.nd_graph.specs.Graphs.{needed}
-use Rattle.nd_graph.specs.Orders.{input_count, left_of, Advances, IsSearch}
-use Rattle.nd_graph.specs.Walks.{inputs_of}
+use Rattle.nd_graph.specs.Orders.{left_of, Advances, IsSearch}
 use Rattle.nd_graph.proofs.Rows.{rows_length}
 use Rattle.nd_graph.proofs.Searching.{met, advanced}
 use Rattle.nd_graph.proofs.order.visit.Goals as goal

@@ -1,4 +1,4 @@
-use Rattle.std.proofs.Common.{ℕ, ◌<◌, ◌+◌, sum}
+use Rattle.std.proofs.Common.{◌<◌, ◌+◌, sum}
 use Rattle.nd_graph.specs.Graphs.{needed}
 use Rattle.nd_graph.specs.Orders.{input_count, left_of, Advances, IsSearch}
 use Rattle.nd_graph.proofs.order.visit.Given as goal
