@@ -1,7 +1,7 @@
--- The machines of a builders list (Nix Reference Manual, setting `builders`).
+-- One machine of a builders list (Nix Reference Manual, setting `builders`), as contracts see it.
 use Rattle.std.specs.Prelude.{ℕ, List, Option}
 
--- one machine, as contracts see it. A speed of 1 is 1,000,000 millionths
+-- byte strings are lists, and sets are rising lists. A speed of 1 is 1,000,000 millionths
 pub record Builder : Type 0 where
   pub uri : List ℕ
   pub systems : List (List ℕ)

@@ -1,6 +1,7 @@
 -- Sets of byte strings, as strictly rising lists: the systems and the features of a machine
 -- (Nix Reference Manual, setting `builders`).
-use Rattle.std.specs.Prelude.{◌≡◌, ℕ, Bool, true, List, [], ◌∷◌}
+use Rattle.std.specs.Prelude.{◌≡◌, ◌==◌, ℕ, Bool, true, not, List, [], ◌∷◌, length, filter}
+use Rattle.std.specs.List.{slice_split}
 use Rattle.std.specs.Cmp.{IsEquivalence, IsPartialEquivalence, IsTotalOrder, IsPartialOrder, partial_equiv_from_equiv, partial_order_from_agreeing_total}
 use Rattle.std.specs.Cmp.Lexicographic.{pointwise, slice_cmp, lists_ties}
 use Rattle.std.specs.Ordering.{match_ordering, eq_by_cmp, as_partial_cmp}
@@ -24,6 +25,16 @@ put x (y ∷ ys) = match_ordering (bytes_cmp x y) (x ∷ y ∷ ys) (y ∷ ys) (y
 unfoldable pub set_of : List (List ℕ) → List (List ℕ)
 set_of [] = []
 set_of (x ∷ xs) = put x (set_of xs)
+
+-- ---- lists as they stand in a text
+
+-- the parts that are not empty
+abbrev pub filled : {X : Type 0} → List (List X) → List (List X)
+filled parts = filter (λ part. not (length part == 0)) parts
+
+-- the set of a list that is cut at commas (44), without its empty items
+abbrev pub listed : List ℕ → List (List ℕ)
+listed list = set_of (filled (slice_split (λ b. b == 44) list))
 
 -- ---- how sets compare: item by item, a proper prefix first
 

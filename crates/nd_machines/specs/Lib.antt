@@ -1,2 +1,6 @@
 pub mod FeatureSets
 pub mod Builders
+pub mod Fields
+pub mod BuildersList
+pub mod Adding
+pub mod Entries

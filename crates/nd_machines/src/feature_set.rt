@@ -3,9 +3,9 @@
 ghost use Rattle.std.specs.Prelude.{◌≡◌, ◌==◌, ℕ, List, length, IfOk, IsTrue, ◌↔◌, Contains};
 ghost use Rattle.std.proofs.Common.{rules};
 ghost use Rattle.std.specs.Ordering.{as_partial_cmp};
-ghost use Rattle.nd_machines.specs.FeatureSets.{IsRising, set_of, sets_eq, sets_cmp, sets_equal, sets_partly_equal, sets_ordered, sets_partly_ordered, sets_ties};
+ghost use Rattle.nd_machines.specs.FeatureSets.{IsRising, set_of, listed, sets_eq, sets_cmp, sets_equal, sets_partly_equal, sets_ordered, sets_partly_ordered, sets_ties};
 
-use nd_bytes::ByteString;
+use nd_bytes::{ByteString, cut};
 use std::alloc::{AllocError, Global};
 use std::cmp::Ordering;
 use std::marker::Model;
@@ -39,6 +39,22 @@ impl FeatureSet {
         items.sort_unstable();
         items.dedup();
         FeatureSet { items }
+    }
+
+    /// The set of a list as it stands in a text, cut at commas, without its empty items.
+    pub fn from_list(alloc: Global, list: &[u8]) -> Result<Self, AllocError>
+        ensures { IfOk result (λ s. s ≡ listed list.now) }
+    {
+        let mut items = Vec::new(alloc);
+        let mut left = Some(list);
+        while let Some(parts) = left {
+            let (part, rest) = cut(parts, b',');
+            if !part.is_empty() {
+                items.push(ByteString::from_slice(alloc, part)?)?;
+            }
+            left = rest;
+        }
+        Ok(FeatureSet::new(items))
     }
 
     /// The items, strictly rising.

@@ -2,8 +2,14 @@
 //! names them.
 #![tactic(auto)]
 
+pub mod builders;
 pub mod feature_set;
+mod fields;
 pub mod machine;
+pub mod machine_error;
+mod reading;
 
+pub use builders::parse_builders;
 pub use feature_set::FeatureSet;
 pub use machine::Machine;
+pub use machine_error::MachineError;
