@@ -1,7 +1,7 @@
 //! A reader or writer that remembers whether it has refused a call.
 
 ghost use Rattle.std.specs.Prelude.{◌≡◌, ℕ, ◌+◌, ◌≤◌, ◌||◌, false, length, is_err, take, vec_len, List, IfOk, OnOk, OnErr};
-ghost use Rattle.std.specs.Io.KnownBytes.{Appends, Consumes, IsAtEnd, WriteAppends, ReadConsumes};
+ghost use Rattle.std.specs.Io.KnownBytes.{Appends, Consumes, IsAtEnd, Keeps, WriteAppends, ReadConsumes};
 ghost use Rattle.nd_hook.specs.Device.{is_fault_of};
 
 use std::alloc::{AllocError, Global};
@@ -145,6 +145,22 @@ impl<W: Write> Told<W> {
             at += self.put(rest)?;
         }
         Ok(())
+    }
+
+    /// Has the writer pass on what it holds back, as a buffer does.
+    ///
+    /// `Fault`: the device refused. The mark is then set.
+    pub fn flush(&mut self) -> Result<(), Fault>
+        ensures kept { Keeps (W.contents self.old.device) (W.contents self.new.device) }
+        ensures mark { self.new.is_marked ≡ (self.old.is_marked || is_err result) }
+    {
+        match self.device.flush() {
+            Ok(()) => Ok(()),
+            Err(_) => {
+                self.mark = true;
+                Err(Fault)
+            }
+        }
     }
 }
 
