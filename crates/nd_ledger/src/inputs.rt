@@ -1,0 +1,19 @@
+//! What a dispatch is made of: the five inputs, which never change.
+
+use nd_bytes::Items;
+use nd_eligible::Local;
+use nd_graph::Graph;
+use nd_machines::Machine;
+
+/// The inputs of a dispatch. They are fixed from its making on.
+#[derive(Drop, Debug)]
+pub struct Inputs {
+    /// The derivations and what each needs.
+    pub graph: Graph,
+    /// The builders, in the order of the builders list: the one at place p is machine p + 1.
+    pub machines: Items<Machine>,
+    /// The settings of the local machine, which is machine 0.
+    pub local: Local,
+    /// Whether the rest goes on after a failure.
+    pub keep_going: bool,
+}
