@@ -1,3 +1,4 @@
+mod Cutting
 pub mod Rows
 pub mod Searching
 mod Strings

@@ -11,9 +11,9 @@ use Rattle.nd_graph.specs.Walks.{inputs_of}
 pub row_of : (inputs : List (List Input)) (d : ℕ) → nodes_of (get_or inputs d []) ≡ inputs_of (needed inputs) d
 row_of inputs d =
     elim (cases_lt d (length inputs)) [
-      inl lt ↦ sym (get_or-map nodes_of inputs d [] [] lt)
+      | inl lt ↦ sym (get_or-map nodes_of inputs d [] [] lt)
       | inr past ↦
-      ap nodes_of (get_or_past inputs d [] past) ∙ sym (get_or_past (needed inputs) d [] (rw (length-map inputs nodes_of) past))
+          ap nodes_of (get_or_past inputs d [] past) ∙ sym (get_or_past (needed inputs) d [] (rw (length-map inputs nodes_of) past))
     ]
 
 -- as many rows as nodes

@@ -15,7 +15,7 @@ use Rattle.nd_graph.proofs.Walked.{walk_on}
 pub set_cases : (xs : List ℕ) (i v d : ℕ) → i < length xs → ((d ≡ i) × (get_or (set xs i v) d 0 ≡ v)) ⊎ ((d ≢ i) × (get_or (set xs i v) d 0 ≡ get_or xs d 0))
 set_cases xs i v d lt =
     elim (cases_eq d i) [
-      inl same ↦ inl (same, ap (λ (k : ℕ). get_or (set xs i v) k 0) same ∙ get_or-set_same xs i v 0 lt)
+      | inl same ↦ inl (same, ap (λ (k : ℕ). get_or (set xs i v) k 0) same ∙ get_or-set_same xs i v 0 lt)
       | inr other ↦ inr (other, get_or-set_other xs i d v 0 other)
     ]
 
@@ -23,9 +23,9 @@ set_cases xs i v d lt =
 pub set_lower : (xs : List ℕ) (i v : ℕ) → i < length xs → v ≤ get_or xs i 0 → (d : ℕ) → get_or (set xs i v) d 0 ≤ get_or xs d 0
 set_lower xs i v lt low d =
     elim (set_cases xs i v d lt) [
-      inl at ↦
-      let same : get_or xs d 0 ≡ get_or xs i 0 = ap (λ (k : ℕ). get_or xs k 0) at.0 in
-      omega (arith, at.1)
+      | inl at ↦
+          let same : get_or xs d 0 ≡ get_or xs i 0 = ap (λ (k : ℕ). get_or xs k 0) at.0 in
+          omega (arith, at.1)
       | inr other ↦ omega (arith, other.1)
     ]
 
@@ -33,25 +33,25 @@ set_lower xs i v lt low d =
 pub distinct_push : (xs : List ℕ) (x : ℕ) → AreDistinct xs → (Contains xs x → ⊥) → AreDistinct (xs ++ x ∷ [])
 distinct_push xs x distinct fresh = record {
   apart = λ j k d lt inside same.
-    let long : length (xs ++ x ∷ []) ≡ length xs + 1 = length_push xs x in
-    let low : j < length xs = omega arith in
-    let left : get_or (xs ++ x ∷ []) j d ≡ get_or xs j d = get_or_append_left xs (x ∷ []) d j low in
-    elim (cases_lt k (length xs)) [
-      inl inner ↦ distinct.apart j k d lt inner (sym left ∙ same ∙ get_or_append_left xs (x ∷ []) d k inner)
-      | inr past ↦
-      let last : length xs ≡ k = omega arith in
-      let at : get_or xs j d ≡ x = sym left ∙ same ∙ get_or_at xs x [] d k last in
-      fresh (subst (λ (y : ℕ). Contains xs y) at (Contains-get_or xs j d low))
-    ];
+      let long : length (xs ++ x ∷ []) ≡ length xs + 1 = length_push xs x in
+      let low : j < length xs = omega arith in
+      let left : get_or (xs ++ x ∷ []) j d ≡ get_or xs j d = get_or_append_left xs (x ∷ []) d j low in
+      elim (cases_lt k (length xs)) [
+        | inl inner ↦ distinct.apart j k d lt inner (sym left ∙ same ∙ get_or_append_left xs (x ∷ []) d k inner)
+        | inr past ↦
+            let last : length xs ≡ k = omega arith in
+            let at : get_or xs j d ≡ x = sym left ∙ same ∙ get_or_at xs x [] d k last in
+            fresh (subst (λ (y : ℕ). Contains xs y) at (Contains-get_or xs j d low))
+      ];
 }
 
 -- the front of distinct items is distinct, and has not the last
 pub distinct_front : (xs : List ℕ) (x : ℕ) → AreDistinct (xs ++ x ∷ []) → AreDistinct xs
 distinct_front xs x distinct = record {
   apart = λ j k d lt inside same.
-    let long : length (xs ++ x ∷ []) ≡ length xs + 1 = length_push xs x in
-    distinct.apart j k d lt (omega arith)
-    (get_or_append_left xs (x ∷ []) d j (omega arith) ∙ same ∙ sym (get_or_append_left xs (x ∷ []) d k inside));
+      let long : length (xs ++ x ∷ []) ≡ length xs + 1 = length_push xs x in
+      distinct.apart j k d lt (omega arith)
+      (get_or_append_left xs (x ∷ []) d j (omega arith) ∙ same ∙ sym (get_or_append_left xs (x ∷ []) d k inside));
 }
 
 pub distinct_last : (xs : List ℕ) (x : ℕ) → AreDistinct (xs ++ x ∷ []) → Contains xs x → ⊥
@@ -64,18 +64,18 @@ distinct_last xs x distinct at =
 pub rising_push : (rows : List (List ℕ)) (order : List ℕ) (x : ℕ) → IsRising rows order → ((c : ℕ) → Contains (inputs_of rows x) c → Contains order c) → IsRising rows (order ++ x ∷ [])
 rising_push rows order x rises all = record {
   before = λ k c lt input.
-    let long : length (order ++ x ∷ []) ≡ length order + 1 = length_push order x in
-    elim (cases_lt k (length order)) [
-      inl inner ↦
-      let same = get_or_append_left order (x ∷ []) 0 k inner in
-      let was = rises.before k c inner (subst (λ (d : ℕ). Contains (inputs_of rows d) c) same input) in
-      (was.0, was.1, get_or_append_left order (x ∷ []) 0 was.0 (omega arith) ∙ was.2)
-      | inr past ↦
-      let last : length order ≡ k = omega arith in
-      let same = get_or_at order x [] 0 k last in
-      let at = all c (subst (λ (d : ℕ). Contains (inputs_of rows d) c) same input) in
-      (at.0, omega (arith, at.1), get_or_append_left order (x ∷ []) 0 at.0 at.1 ∙ get_or_default order at.0 0 c at.1 ∙ at.2)
-    ];
+      let long : length (order ++ x ∷ []) ≡ length order + 1 = length_push order x in
+      elim (cases_lt k (length order)) [
+        | inl inner ↦
+            let same = get_or_append_left order (x ∷ []) 0 k inner in
+            let was = rises.before k c inner (subst (λ (d : ℕ). Contains (inputs_of rows d) c) same input) in
+            (was.0, was.1, get_or_append_left order (x ∷ []) 0 was.0 (omega arith) ∙ was.2)
+        | inr past ↦
+            let last : length order ≡ k = omega arith in
+            let same = get_or_at order x [] 0 k last in
+            let at = all c (subst (λ (d : ℕ). Contains (inputs_of rows d) c) same input) in
+            (at.0, omega (arith, at.1), get_or_append_left order (x ∷ []) 0 at.0 at.1 ∙ get_or_default order at.0 0 c at.1 ∙ at.2)
+      ];
 }
 
 -- the last item of a trail is a node with steps left
@@ -93,56 +93,56 @@ closed rows left trail order top ranged search one =
       sized = length-set left top 0 ∙ search.sized;
       bounded = λ d lt. omega (arith, lower d, search.bounded d lt);
       passed = λ d k lt inner some.
-        elim (set_cases left top 0 d here) [
-          inl at ↦
-          let was : left_of left d ≡ 1 = ap (left_of left) at.0 ∙ one in
-          let gone = search.passed d k lt inner (omega arith) in
-          omega (arith, lower (get_or (inputs_of rows d) k 0))
-          | inr other ↦
-          let gone = search.passed d k lt inner (omega (arith, other.1)) in
-          omega (arith, lower (get_or (inputs_of rows d) k 0))
-        ];
+          elim (set_cases left top 0 d here) [
+            | inl at ↦
+                let was : left_of left d ≡ 1 = ap (left_of left) at.0 ∙ one in
+                let gone = search.passed d k lt inner (omega arith) in
+                omega (arith, lower (get_or (inputs_of rows d) k 0))
+            | inr other ↦
+                let gone = search.passed d k lt inner (omega (arith, other.1)) in
+                omega (arith, lower (get_or (inputs_of rows d) k 0))
+          ];
       on_trail = λ d lt is.
-        elim (set_cases left top 0 d here) [
-          inl at ↦ absurd (omega (arith, at.1, is.0))
-          | inr other ↦
-          elim (Contains-push_cases trail top d (search.on_trail d lt (omega (arith, other.1, is.0), omega (arith, other.1, is.1)))) [
-            inl on ↦ on
-            | inr same ↦ absurd (other.0 (sym same))
-          ]
-        ];
+          elim (set_cases left top 0 d here) [
+            | inl at ↦ absurd (omega (arith, at.1, is.0))
+            | inr other ↦
+                elim (Contains-push_cases trail top d (search.on_trail d lt (omega (arith, other.1, is.0), omega (arith, other.1, is.1)))) [
+                  | inl on ↦ on
+                  | inr same ↦ absurd (other.0 (sym same))
+                ]
+          ];
       opened = λ d on.
-        let was = search.opened d (Contains-append_left trail (top ∷ []) d on) in
-        elim (set_cases left top 0 d here) [
-          inl at ↦ absurd (distinct_last trail top search.apart (subst (λ (x : ℕ). Contains trail x) at.0 on))
-          | inr other ↦ (was.0, (omega (arith, other.1, was.1.0), omega (arith, other.1, was.1.1)))
-        ];
+          let was = search.opened d (Contains-append_left trail (top ∷ []) d on) in
+          elim (set_cases left top 0 d here) [
+            | inl at ↦ absurd (distinct_last trail top search.apart (subst (λ (x : ℕ). Contains trail x) at.0 on))
+            | inr other ↦ (was.0, (omega (arith, other.1, was.1.0), omega (arith, other.1, was.1.1)))
+          ];
       linked = λ j lt.
-        let long : length (trail ++ top ∷ []) ≡ length trail + 1 = length_push trail top in
-        let link = search.linked j (omega arith) in
-        let first = get_or_append_left trail (top ∷ []) 0 j (omega arith) in
-        let second = get_or_append_left trail (top ∷ []) 0 (suc j) lt in
-        subst (λ (x : ℕ). Contains (inputs_of rows x) (get_or trail (suc j) 0)) first
-        (subst (λ (y : ℕ). Contains (inputs_of rows (get_or (trail ++ top ∷ []) j 0)) y) second link);
+          let long : length (trail ++ top ∷ []) ≡ length trail + 1 = length_push trail top in
+          let link = search.linked j (omega arith) in
+          let first = get_or_append_left trail (top ∷ []) 0 j (omega arith) in
+          let second = get_or_append_left trail (top ∷ []) 0 (suc j) lt in
+          subst (λ (x : ℕ). Contains (inputs_of rows x) (get_or trail (suc j) 0)) first
+          (subst (λ (y : ℕ). Contains (inputs_of rows (get_or (trail ++ top ∷ []) j 0)) y) second link);
       apart = distinct_front trail top search.apart;
       in_order = λ d lt is.
-        elim (set_cases left top 0 d here) [
-          inl at ↦ subst (λ (x : ℕ). Contains (order ++ top ∷ []) x) (sym at.0) (Contains-push order top)
-          | inr other ↦ Contains-append_left order (top ∷ []) d (search.in_order d lt (sym other.1 ∙ is))
-        ];
+          elim (set_cases left top 0 d here) [
+            | inl at ↦ subst (λ (x : ℕ). Contains (order ++ top ∷ []) x) (sym at.0) (Contains-push order top)
+            | inr other ↦ Contains-append_left order (top ∷ []) d (search.in_order d lt (sym other.1 ∙ is))
+          ];
       done = λ d in'.
-        elim (Contains-push_cases order top d in') [
-          inl old ↦
-          let was = search.done d old in
-          (was.0, omega (arith, lower d, was.1))
-          | inr same ↦
-          (subst (λ (x : ℕ). x < length rows) same opened.0, subst (λ (x : ℕ). left_of (set left top 0) x ≡ 0) same (get_or-set_same left top 0 0 here))
-        ];
+          elim (Contains-push_cases order top d in') [
+            | inl old ↦
+                let was = search.done d old in
+                (was.0, omega (arith, lower d, was.1))
+            | inr same ↦
+                (subst (λ (x : ℕ). x < length rows) same opened.0, subst (λ (x : ℕ). left_of (set left top 0) x ≡ 0) same (get_or-set_same left top 0 0 here))
+          ];
       once = distinct_push order top search.once fresh;
       rises = rising_push rows order top search.rises (λ c input.
-        let gone = search.passed top input.0 opened.0 input.1 (omega (arith, one, input.1)) in
-        let is : left_of left c ≡ 0 = ap (left_of left) (sym (get_or_default (inputs_of rows top) input.0 0 c input.1 ∙ input.2)) ∙ gone in
-        search.in_order c (ranged.ranged top c input) is);
+          let gone = search.passed top input.0 opened.0 input.1 (omega (arith, one, input.1)) in
+          let is : left_of left c ≡ 0 = ap (left_of left) (sym (get_or_default (inputs_of rows top) input.0 0 c input.1 ∙ input.2)) ∙ gone in
+          search.in_order c (ranged.ranged top c input) is);
     }
 
 -- a node passes an input that is done
@@ -155,45 +155,45 @@ passed_by rows left trail order top next search more is gone =
       sized = length-set left top (left_of left top - 1) ∙ search.sized;
       bounded = λ d lt. omega (arith, lower d, search.bounded d lt);
       passed = λ d k lt inner some.
-        elim (set_cases left top (left_of left top - 1) d here) [
-          inl at ↦
-          let counts : input_count rows d ≡ input_count rows top = ap (input_count rows) at.0 in
-          elim (cases_lt (input_count rows d) (k + left_of left top)) [
-            inl new ↦
-            let place : k ≡ input_count rows top + 1 - left_of left top = omega (arith, at.1, some, counts) in
-            let read : get_or (inputs_of rows d) k 0 ≡ next = ap (λ (x : ℕ). get_or (inputs_of rows x) k 0) at.0 ∙ ap (λ (i : ℕ). get_or (inputs_of rows top) i 0) place ∙ sym is in
-            let zero_there : left_of left (get_or (inputs_of rows d) k 0) ≡ 0 = ap (left_of left) read ∙ gone in
-            omega (arith, lower (get_or (inputs_of rows d) k 0), zero_there)
-            | inr old ↦
-            let was : left_of left d ≡ left_of left top = ap (left_of left) at.0 in
-            let done = search.passed d k lt inner (omega (arith, was, old)) in
-            omega (arith, lower (get_or (inputs_of rows d) k 0), done)
-          ]
-          | inr other ↦
-          let done = search.passed d k lt inner (omega (arith, other.1, some)) in
-          omega (arith, lower (get_or (inputs_of rows d) k 0), done)
-        ];
+          elim (set_cases left top (left_of left top - 1) d here) [
+            | inl at ↦
+                let counts : input_count rows d ≡ input_count rows top = ap (input_count rows) at.0 in
+                elim (cases_lt (input_count rows d) (k + left_of left top)) [
+                  | inl new ↦
+                      let place : k ≡ input_count rows top + 1 - left_of left top = omega (arith, at.1, some, counts) in
+                      let read : get_or (inputs_of rows d) k 0 ≡ next = ap (λ (x : ℕ). get_or (inputs_of rows x) k 0) at.0 ∙ ap (λ (i : ℕ). get_or (inputs_of rows top) i 0) place ∙ sym is in
+                      let zero_there : left_of left (get_or (inputs_of rows d) k 0) ≡ 0 = ap (left_of left) read ∙ gone in
+                      omega (arith, lower (get_or (inputs_of rows d) k 0), zero_there)
+                  | inr old ↦
+                      let was : left_of left d ≡ left_of left top = ap (left_of left) at.0 in
+                      let done = search.passed d k lt inner (omega (arith, was, old)) in
+                      omega (arith, lower (get_or (inputs_of rows d) k 0), done)
+                ]
+            | inr other ↦
+                let done = search.passed d k lt inner (omega (arith, other.1, some)) in
+                omega (arith, lower (get_or (inputs_of rows d) k 0), done)
+          ];
       on_trail = λ d lt is.
-        elim (set_cases left top (left_of left top - 1) d here) [
-          inl at ↦ subst (λ (x : ℕ). Contains (trail ++ top ∷ []) x) (sym at.0) (Contains-push trail top)
-          | inr other ↦ search.on_trail d lt (omega (arith, other.1, is.0), omega (arith, other.1, is.1))
-        ];
+          elim (set_cases left top (left_of left top - 1) d here) [
+            | inl at ↦ subst (λ (x : ℕ). Contains (trail ++ top ∷ []) x) (sym at.0) (Contains-push trail top)
+            | inr other ↦ search.on_trail d lt (omega (arith, other.1, is.0), omega (arith, other.1, is.1))
+          ];
       opened = λ d on.
-        let was = search.opened d on in
-        elim (set_cases left top (left_of left top - 1) d here) [
-          inl at ↦ (was.0, (omega (arith, at.1, more), omega (arith, lower d, was.1.1)))
-          | inr other ↦ (was.0, (omega (arith, other.1, was.1.0), omega (arith, other.1, was.1.1)))
-        ];
+          let was = search.opened d on in
+          elim (set_cases left top (left_of left top - 1) d here) [
+            | inl at ↦ (was.0, (omega (arith, at.1, more), omega (arith, lower d, was.1.1)))
+            | inr other ↦ (was.0, (omega (arith, other.1, was.1.0), omega (arith, other.1, was.1.1)))
+          ];
       linked = search.linked;
       apart = search.apart;
       in_order = λ d lt is.
-        elim (set_cases left top (left_of left top - 1) d here) [
-          inl at ↦ absurd (omega (arith, at.1, is, more))
-          | inr other ↦ search.in_order d lt (sym other.1 ∙ is)
-        ];
+          elim (set_cases left top (left_of left top - 1) d here) [
+            | inl at ↦ absurd (omega (arith, at.1, is, more))
+            | inr other ↦ search.in_order d lt (sym other.1 ∙ is)
+          ];
       done = λ d in'.
-        let was = search.done d in' in
-        (was.0, omega (arith, lower d, was.1));
+          let was = search.done d in' in
+          (was.0, omega (arith, lower d, was.1));
       once = search.once;
       rises = search.rises;
     }
@@ -208,55 +208,55 @@ met rows left trail order x search row new link =
       sized = length-set left x (left_of left x - 1) ∙ search.sized;
       bounded = λ d lt. omega (arith, lower d, search.bounded d lt);
       passed = λ d k lt inner some.
-        elim (set_cases left x (left_of left x - 1) d here) [
-          inl at ↦
-          let counts : input_count rows d ≡ input_count rows x = ap (input_count rows) at.0 in
-          absurd (omega (arith, at.1, some, new, counts))
-          | inr other ↦
-          let done = search.passed d k lt inner (omega (arith, other.1, some)) in
-          omega (arith, lower (get_or (inputs_of rows d) k 0), done)
-        ];
+          elim (set_cases left x (left_of left x - 1) d here) [
+            | inl at ↦
+                let counts : input_count rows d ≡ input_count rows x = ap (input_count rows) at.0 in
+                absurd (omega (arith, at.1, some, new, counts))
+            | inr other ↦
+                let done = search.passed d k lt inner (omega (arith, other.1, some)) in
+                omega (arith, lower (get_or (inputs_of rows d) k 0), done)
+          ];
       on_trail = λ d lt is.
-        elim (set_cases left x (left_of left x - 1) d here) [
-          inl at ↦ subst (λ (y : ℕ). Contains (trail ++ x ∷ []) y) (sym at.0) (Contains-push trail x)
-          | inr other ↦ Contains-append_left trail (x ∷ []) d (search.on_trail d lt (omega (arith, other.1, is.0), omega (arith, other.1, is.1)))
-        ];
+          elim (set_cases left x (left_of left x - 1) d here) [
+            | inl at ↦ subst (λ (y : ℕ). Contains (trail ++ x ∷ []) y) (sym at.0) (Contains-push trail x)
+            | inr other ↦ Contains-append_left trail (x ∷ []) d (search.on_trail d lt (omega (arith, other.1, is.0), omega (arith, other.1, is.1)))
+          ];
       opened = λ d on.
-        elim (set_cases left x (left_of left x - 1) d here) [
-          inl at ↦
-          let counts : input_count rows d ≡ input_count rows x = ap (input_count rows) at.0 in
-          (subst (λ (y : ℕ). y < length rows) (sym at.0) row, (omega (arith, at.1, new), omega (arith, at.1, new, counts)))
-          | inr other ↦
-          elim (Contains-push_cases trail x d on) [
-            inl old ↦
-            let was = search.opened d old in
-            (was.0, (omega (arith, other.1, was.1.0), omega (arith, other.1, was.1.1)))
-            | inr same ↦ absurd (other.0 (sym same))
-          ]
-        ];
+          elim (set_cases left x (left_of left x - 1) d here) [
+            | inl at ↦
+                let counts : input_count rows d ≡ input_count rows x = ap (input_count rows) at.0 in
+                (subst (λ (y : ℕ). y < length rows) (sym at.0) row, (omega (arith, at.1, new), omega (arith, at.1, new, counts)))
+            | inr other ↦
+                elim (Contains-push_cases trail x d on) [
+                  | inl old ↦
+                      let was = search.opened d old in
+                      (was.0, (omega (arith, other.1, was.1.0), omega (arith, other.1, was.1.1)))
+                  | inr same ↦ absurd (other.0 (sym same))
+                ]
+          ];
       linked = λ j lt.
-        let long : length (trail ++ x ∷ []) ≡ length trail + 1 = length_push trail x in
-        let first = get_or_append_left trail (x ∷ []) 0 j (omega arith) in
-        elim (cases_lt (suc j) (length trail)) [
-          inl inner ↦
-          let second = get_or_append_left trail (x ∷ []) 0 (suc j) inner in
-          subst (λ (y : ℕ). Contains (inputs_of rows y) (get_or (trail ++ x ∷ []) (suc j) 0)) (sym first)
-          (subst (λ (y : ℕ). Contains (inputs_of rows (get_or trail j 0)) y) (sym second) (search.linked j inner))
-          | inr past ↦
-          let last : length trail ≡ suc j = omega arith in
-          let second = get_or_at trail x [] 0 (suc j) last in
-          subst (λ (y : ℕ). Contains (inputs_of rows y) (get_or (trail ++ x ∷ []) (suc j) 0)) (sym first)
-          (subst (λ (y : ℕ). Contains (inputs_of rows (get_or trail j 0)) y) (sym second) (link j (sym last)))
-        ];
+          let long : length (trail ++ x ∷ []) ≡ length trail + 1 = length_push trail x in
+          let first = get_or_append_left trail (x ∷ []) 0 j (omega arith) in
+          elim (cases_lt (suc j) (length trail)) [
+            | inl inner ↦
+                let second = get_or_append_left trail (x ∷ []) 0 (suc j) inner in
+                subst (λ (y : ℕ). Contains (inputs_of rows y) (get_or (trail ++ x ∷ []) (suc j) 0)) (sym first)
+                (subst (λ (y : ℕ). Contains (inputs_of rows (get_or trail j 0)) y) (sym second) (search.linked j inner))
+            | inr past ↦
+                let last : length trail ≡ suc j = omega arith in
+                let second = get_or_at trail x [] 0 (suc j) last in
+                subst (λ (y : ℕ). Contains (inputs_of rows y) (get_or (trail ++ x ∷ []) (suc j) 0)) (sym first)
+                (subst (λ (y : ℕ). Contains (inputs_of rows (get_or trail j 0)) y) (sym second) (link j (sym last)))
+          ];
       apart = distinct_push trail x search.apart fresh;
       in_order = λ d lt is.
-        elim (set_cases left x (left_of left x - 1) d here) [
-          inl at ↦ absurd (omega (arith, at.1, is, new))
-          | inr other ↦ search.in_order d lt (sym other.1 ∙ is)
-        ];
+          elim (set_cases left x (left_of left x - 1) d here) [
+            | inl at ↦ absurd (omega (arith, at.1, is, new))
+            | inr other ↦ search.in_order d lt (sym other.1 ∙ is)
+          ];
       done = λ d in'.
-        let was = search.done d in' in
-        (was.0, omega (arith, lower d, was.1));
+          let was = search.done d in' in
+          (was.0, omega (arith, lower d, was.1));
       once = search.once;
       rises = search.rises;
     }
@@ -265,9 +265,11 @@ met rows left trail order x search row new link =
 pub trail_walk : (rows : List (List ℕ)) (trail : List ℕ) → ((j : ℕ) → suc j < length trail → Contains (inputs_of rows (get_or trail j 0)) (get_or trail (suc j) 0)) → (n j : ℕ) → j + n < length trail → Walk rows (get_or trail j 0) (get_or trail (j + n) 0) n
 trail_walk rows trail linked zero j lt = ap (λ (i : ℕ). get_or trail i 0) (omega arith)
 trail_walk rows trail linked (suc n) j lt =
-    let there : suc j + n ≡ j + suc n = omega arith in
-    (get_or trail (suc j) 0, linked j (omega arith),
-     subst (λ (i : ℕ). Walk rows (get_or trail (suc j) 0) (get_or trail i 0) n) there (trail_walk rows trail linked n (suc j) (omega arith)))
+    let there : suc j + n ≡ j + suc n = omega arith in (
+      get_or trail (suc j) 0,
+      linked j (omega arith),
+      subst (λ (i : ℕ). Walk rows (get_or trail (suc j) 0) (get_or trail i 0) n) there (trail_walk rows trail linked n (suc j) (omega arith)),
+    )
 
 -- an open input of the last of the trail is below itself
 pub cyclic : (rows : List (List ℕ)) (left trail order : List ℕ) (top next : ℕ) → AreInRange rows → IsSearch rows left (trail ++ top ∷ []) order → Contains (inputs_of rows top) next → IsOpen rows left next → IsCyclic rows
@@ -286,7 +288,7 @@ cyclic rows left trail order top next ranged search input open' =
 pub settled : (rows : List (List ℕ)) (left order : List ℕ) (d : ℕ) → IsSearch rows left [] order → d < length rows → left_of left d < input_count rows d + 2 → left_of left d ≡ 0
 settled rows left order d search row less =
     elim (cases_lt 0 (left_of left d)) [
-      inl some ↦ absurd (omega (arith, (search.on_trail d row (some, less)).1))
+      | inl some ↦ absurd (omega (arith, (search.on_trail d row (some, less)).1))
       | inr none ↦ omega arith
     ]
 
@@ -335,7 +337,7 @@ first_counts inputs left is =
     let long : length left ≡ length inputs = ap (λ (ls : List ℕ). length ls) is ∙ length-map inputs size in
     begun (needed inputs) left (long ∙ sym (rows_length inputs))
     (λ d lt.
-      let row : d < length inputs = omega (arith, lt, rows_length inputs) in
-      let read : left_of left d ≡ length (get_or inputs d []) + 2 = ap (λ (ls : List ℕ). get_or ls d 0) is ∙ get_or-map size inputs d [] 0 row in
-      let same : input_count (needed inputs) d ≡ length (get_or inputs d []) = row_length inputs d (get_or inputs d []) row (get_or_default inputs d [] (get_or inputs d []) row) in
-      omega arith)
+    let row : d < length inputs = omega (arith, lt, rows_length inputs) in
+    let read : left_of left d ≡ length (get_or inputs d []) + 2 = ap (λ (ls : List ℕ). get_or ls d 0) is ∙ get_or-map size inputs d [] 0 row in
+    let same : input_count (needed inputs) d ≡ length (get_or inputs d []) = row_length inputs d (get_or inputs d []) row (get_or_default inputs d [] (get_or inputs d []) row) in
+    omega arith)

@@ -8,11 +8,11 @@ use Rattle.nd_graph.specs.Walks.{inputs_of, Walk, IsBelow, IsAcyclic, IsOrder, I
 pub has_row : (rows : List (List ℕ)) (d c : ℕ) → Contains (inputs_of rows d) c → d < length rows
 has_row rows d c h =
     elim (cases_lt d (length rows)) [
-      inl lt ↦ lt
+      | inl lt ↦ lt
       | inr past ↦
-      let none : inputs_of rows d ≡ [] = get_or_past rows d [] past in
-      let gone : Contains [] c = subst (λ (xs : List ℕ). Contains xs c) none h in
-      absurd (omega (arith, gone.1))
+          let none : inputs_of rows d ≡ [] = get_or_past rows d [] past in
+          let gone : Contains [] c = subst (λ (xs : List ℕ). Contains xs c) none h in
+          absurd (omega (arith, gone.1))
     ]
 
 -- a walk goes on by one more input
@@ -51,9 +51,9 @@ place_of-at (x ∷ xs) (suc j) d lt is =
     let behind = place_of-at xs j d (omega (arith, lt)) is in
     let P : Bool → Type 0 = λ b. (cond b 0 (place_of xs d + 1) < suc (length xs)) × (get_or (x ∷ xs) (cond b 0 (place_of xs d + 1)) 0 ≡ d) in
     elim (cases_eq x d) [
-      inl same ↦ subst P (sym (eq-eqb x d same)) (omega arith, same)
+      | inl same ↦ subst P (sym (eq-eqb x d same)) (omega arith, same)
       | inr other ↦
-      subst P (sym (ne_eqb x d other)) (omega (arith, behind.0), rw (add-one (place_of xs d)) behind.1)
+          subst P (sym (ne_eqb x d other)) (omega (arith, behind.0), rw (add-one (place_of xs d)) behind.1)
     ]
 
 -- in an order with inputs first what is below a node stands before it
@@ -68,25 +68,25 @@ below_before rows order rises (suc n) k x lt w =
 pub acyclic : (rows : List (List ℕ)) (order : List ℕ) → IsOrder rows order → IsAcyclic rows
 acyclic rows order is = record {
   apart = λ d below.
-    let row : d < length rows = has_row rows d below.walk.0 below.walk.1 in
-    let at = is.full d row in
-    let here : get_or order at.0 0 ≡ d = get_or_default order at.0 0 d at.1 ∙ at.2 in
-    let turned = subst (λ (x : ℕ). Walk rows x d (suc below.steps)) (sym here) below.walk in
-    let earlier = below_before rows order is.rises below.steps at.0 d at.1 turned in
-    is.once.apart earlier.0 at.0 0 earlier.1 at.1 (earlier.2 ∙ sym here);
+      let row : d < length rows = has_row rows d below.walk.0 below.walk.1 in
+      let at = is.full d row in
+      let here : get_or order at.0 0 ≡ d = get_or_default order at.0 0 d at.1 ∙ at.2 in
+      let turned = subst (λ (x : ℕ). Walk rows x d (suc below.steps)) (sym here) below.walk in
+      let earlier = below_before rows order is.rises below.steps at.0 d at.1 turned in
+      is.once.apart earlier.0 at.0 0 earlier.1 at.1 (earlier.2 ∙ sym here);
 }
 
 -- an input's place is lower
 pub places_fall : (rows : List (List ℕ)) (order : List ℕ) → IsOrder rows order → PlacesFall rows order
 places_fall rows order is = record {
   falls = λ d c row h.
-    let at = is.full d row in
-    let here : get_or order at.0 0 ≡ d = get_or_default order at.0 0 d at.1 ∙ at.2 in
-    let place = place_of-at order at.0 d at.1 here in
-    let input = subst (λ (x : ℕ). Contains (inputs_of rows x) c) (sym place.1) h in
-    let earlier = is.rises.before (place_of order d) c place.0 input in
-    let low = place_of-le order earlier.0 c (omega arith) earlier.2 in
-    omega arith;
+      let at = is.full d row in
+      let here : get_or order at.0 0 ≡ d = get_or_default order at.0 0 d at.1 ∙ at.2 in
+      let place = place_of-at order at.0 d at.1 here in
+      let input = subst (λ (x : ℕ). Contains (inputs_of rows x) c) (sym place.1) h in
+      let earlier = is.rises.before (place_of order d) c place.0 input in
+      let low = place_of-le order earlier.0 c (omega arith) earlier.2 in
+      omega arith;
 }
 
 -- the places fall along any walk down

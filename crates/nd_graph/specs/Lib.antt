@@ -1,5 +1,11 @@
+pub mod Attributes
+pub mod Derived
+pub mod Found
 pub mod Graphs
 pub mod Orders
+pub mod Kinds
+pub mod Lines
+pub mod Reads
 pub mod Refused
 pub mod Stages
 pub mod Structured

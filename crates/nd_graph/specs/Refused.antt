@@ -1,5 +1,5 @@
--- When a part of the structured attributes is refused: as `BadAttribute` exactly where nothing has its form.
--- Want of memory may come at any point, and no other refusal comes.
+-- When a part of a line is refused, by one refusal with a cause. Want of memory may come at any point, and no other
+-- refusal comes.
 use Rattle.std.specs.Prelude.{◌≡◌, ℕ, List, Option, None}
 use Rattle.serde_json.specs.Data.{Data, Items}
 use Rattle.nd_graph.specs.Structured.{IsJson, strings, features_in, preference_in}
@@ -32,3 +32,17 @@ NotPreference member fault = Attribute fault (preference_in member ≡ None)
 
 abbrev pub SaysNothing : List ℕ → LineFault → Type 0
 SaysNothing text fault = Attribute fault ((wishes : Wishes) → Says text wishes → ⊥)
+
+-- the fault is `BadDerivation` with this cause, or it is want of memory
+abbrev pub NotPaths : LineFault → Type 0 → Type 0
+NotPaths BadLine cause = ⊥
+NotPaths BadPath cause = ⊥
+NotPaths BadDerivation cause = cause
+NotPaths UnknownOutput cause = ⊥
+NotPaths BadAttribute cause = ⊥
+NotPaths WrongPath cause = ⊥
+NotPaths Memory cause = Unit {0}
+
+-- the fault is want of memory
+abbrev pub WantsMemory : LineFault → Type 0
+WantsMemory fault = fault ≡ Memory

@@ -5,9 +5,8 @@ ghost use Rattle.std.specs.List.{slice_index_or};
 ghost use Rattle.nd_graph.specs.Graphs.{nodes_of, rows_of};
 ghost use Rattle.nd_graph.specs.Walks.{inputs_of, IsAcyclic, IsOrder, PlacesFall};
 
-use std::marker::Model;
-
 use nd_bytes::Items;
+use std::marker::Model;
 
 /// An input of a node: a node that it needs.
 #[derive(Drop, Debug, Clone)]

@@ -4,6 +4,8 @@
 
 pub mod fault;
 pub mod graph;
+mod kinds;
+pub mod line;
 mod order;
 pub mod refusal;
 mod structured;

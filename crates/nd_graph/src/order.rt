@@ -6,12 +6,10 @@ ghost use Rattle.nd_graph.specs.Orders.{input_count, left_of, Advances, IsOrderF
 ghost use Rattle.nd_graph.specs.Stages.{IsNext, IsStage};
 ghost use Rattle.nd_graph.specs.Walks.{AreInRange, IsOrder};
 
-use std::alloc::{AllocError, Global};
-
-use nd_bytes::Items;
-
 use crate::fault::GraphError;
 use crate::graph::Input;
+use nd_bytes::Items;
+use std::alloc::{AllocError, Global};
 
 /// How far the search is with a node.
 #[derive(Clone, Copy)]

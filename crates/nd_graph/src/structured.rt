@@ -9,14 +9,15 @@ ghost use Rattle.nd_graph.specs.Wishes.{Says};
 
 use crate::refusal::LineFault;
 use nd_bytes::{ByteString, Items};
+use nd_eligible::FeatureSet;
 use serde_json::Value;
 use std::alloc::Global;
 
 /// What a derivation asks of the machine that builds it, beside its platform.
 #[derive(Debug, Drop)]
 pub(crate) struct Wishes {
-    /// The required system features, as they are listed.
-    pub features: Items<ByteString>,
+    /// The required system features.
+    pub features: FeatureSet,
     /// Whether a local build is preferred.
     pub prefer_local: bool,
 }
@@ -30,10 +31,10 @@ pub(crate) fn read_structured(alloc: Global, text: &[u8]) -> Result<Wishes, Line
     if !value.is_object() {
         return Err(LineFault::BadAttribute);
     }
-    let features = features_of(alloc, value.get("requiredSystemFeatures"))?;
+    let listed = features_of(alloc, value.get("requiredSystemFeatures"))?;
     let prefer_local = preference_of(value.get("preferLocalBuild"))?;
     Ok(Wishes {
-        features,
+        features: FeatureSet::new(listed.into_vec()),
         prefer_local,
     })
 }

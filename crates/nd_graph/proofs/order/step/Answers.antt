@@ -20,7 +20,7 @@ returns-in_default-clause-search c =
     let rows : List (List ℕ) = needed c.args.inputs.now in
     let left : List ℕ = set c.args.left.now c.args.top 0 in
     let kept : IsSearch rows left c.args.trail.now.items (c.args.order.now.items ++ c.args.top ∷ []) =
-        closed rows c.args.left.now c.args.trail.now.items c.args.order.now.items c.args.top c.requires.ranged c.requires.search c.in_default.ensures in
+    closed rows c.args.left.now c.args.trail.now.items c.args.order.now.items c.args.top c.requires.ranged c.requires.search c.in_default.ensures in
     subst (λ (order : List ℕ). IsSearch rows left c.args.trail.now.items order) (sym c.in_ok-push.ensures.items) kept
 
 pub stage_of-requires-clause-within : goal.stage_of-requires-clause-within
@@ -39,13 +39,13 @@ returns-in_ok-meet-in-New-clause-search c =
     let order : List ℕ = c.args.order.now.items in
     let row : next < length rows = c.requires.ranged.ranged c.args.top next c.in-Some.ensures.1 in
     let link : (j : ℕ) → suc j ≡ length trail → Contains (inputs_of rows (get_or trail j 0)) next = λ j last.
-      let long : length trail ≡ length c.args.trail.now.items + 1 = length_push c.args.trail.now.items c.args.top in
-      let here : get_or trail j 0 ≡ c.args.top = get_or_at c.args.trail.now.items c.args.top [] 0 j (omega arith) in
-      subst (λ (d : ℕ). Contains (inputs_of rows d) next) (sym here) c.in-Some.ensures.1 in
+    let long : length trail ≡ length c.args.trail.now.items + 1 = length_push c.args.trail.now.items c.args.top in
+    let here : get_or trail j 0 ≡ c.args.top = get_or_at c.args.trail.now.items c.args.top [] 0 j (omega arith) in
+    subst (λ (d : ℕ). Contains (inputs_of rows d) next) (sym here) c.in-Some.ensures.1 in
     let kept : IsSearch rows (set old next (left_of old next - 1)) (trail ++ next ∷ []) order =
-        met rows old trail order next c.requires.search row c.in-New.ensures link in
+    met rows old trail order next c.requires.search row c.in-New.ensures link in
     let grown : c.meet.new.trail.items ≡ trail ++ next ∷ [] =
-        c.in_ok-meet-in-New.ensures.trail ∙ ap (λ (xs : List ℕ). xs ++ next ∷ []) c.in_ok-push-2.ensures.items in
+    c.in_ok-meet-in-New.ensures.trail ∙ ap (λ (xs : List ℕ). xs ++ next ∷ []) c.in_ok-push-2.ensures.items in
     subst (λ (xs : List ℕ). IsSearch rows c.meet.new.left xs order) (sym grown)
     (subst (λ (ls : List ℕ). IsSearch rows ls (trail ++ next ∷ []) order) (sym c.in_ok-meet-in-New.ensures.left) kept)
 
@@ -62,5 +62,5 @@ returns-in-Done-clause-search c =
     let rows : List (List ℕ) = needed c.args.inputs.now in
     let left : List ℕ = set c.args.left.now c.args.top (left_of c.args.left.now c.args.top - 1) in
     let kept : IsSearch rows left (c.args.trail.now.items ++ c.args.top ∷ []) c.args.order.now.items =
-        passed_by rows c.args.left.now c.args.trail.now.items c.args.order.now.items c.args.top c.in-Some.next c.requires.search c.in-Some.ensures.0 c.in-Some.ensures.2 c.in-Done.ensures in
+    passed_by rows c.args.left.now c.args.trail.now.items c.args.order.now.items c.args.top c.in-Some.next c.requires.search c.in-Some.ensures.0 c.in-Some.ensures.2 c.in-Done.ensures in
     subst (λ (xs : List ℕ). IsSearch rows left xs c.args.order.now.items) (sym c.in_ok-push-2.ensures.items) kept

@@ -14,9 +14,9 @@ loop-top-init c =
     let row : root < length rows = omega (arith, c.requires.root, rows_length c.args.inputs.now) in
     let here : root < length old = omega (arith, row, c.requires.search.sized) in
     let kept : IsSearch rows (set old root (left_of old root - 1)) ([] ++ root ∷ []) order =
-        met rows old [] order root c.requires.search row c.in-New.ensures (λ j last. absurd (omega (arith, last))) in
+    met rows old [] order root c.requires.search row c.in-New.ensures (λ j last. absurd (omega (arith, last))) in
     let grown : c.meet.new.trail.items ≡ root ∷ [] =
-        c.in_ok-meet.ensures.trail ∙ ap (λ (xs : List ℕ). xs ++ root ∷ []) c.new-trail.ensures.items in
+    c.in_ok-meet.ensures.trail ∙ ap (λ (xs : List ℕ). xs ++ root ∷ []) c.new-trail.ensures.items in
     let left : c.meet.new.left ≡ set old root (left_of old root - 1) = c.in_ok-meet.ensures.left in
     let steps : Advances old (set old root (left_of old root - 1)) = advanced old root (left_of old root - 1) here (omega (arith, c.in-New.ensures)) in
     let advances : Advances old c.meet.new.left = subst (λ (ls : List ℕ). Advances old ls) (sym left) steps in
@@ -24,6 +24,6 @@ loop-top-init c =
       search = subst (λ (xs : List ℕ). IsSearch rows c.meet.new.left xs order) (sym grown) (subst (λ (ls : List ℕ). IsSearch rows ls (root ∷ []) order) (sym left) kept);
       advances = advances;
       met =
-        let now : left_of c.meet.new.left root ≡ left_of old root - 1 = ap (λ (ls : List ℕ). left_of ls root) left ∙ get_or-set_same old root (left_of old root - 1) 0 here in
-        omega (arith, now, c.in-New.ensures);
+          let now : left_of c.meet.new.left root ≡ left_of old root - 1 = ap (λ (ls : List ℕ). left_of ls root) left ∙ get_or-set_same old root (left_of old root - 1) 0 here in
+          omega (arith, now, c.in-New.ensures);
     }

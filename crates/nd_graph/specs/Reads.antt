@@ -1,0 +1,89 @@
+-- What a line of a bundle says, and when it is refused with which refusal (this project's own format).
+use Rattle.std.specs.Prelude.{◌≡◌, ℕ, Bool, true, false, ◌==◌, List, map, Option, Some, None, Result, Ok, Err}
+use Rattle.nd_bytes.specs.Cut.{until, behind}
+use Rattle.nd_aterm.specs.declared.records.InputDrv.{InputDrv}
+use Rattle.nd_aterm.specs.declared.records.Output.{Output}
+use Rattle.nd_aterm.specs.declared.records.Parts.{Parts}
+use Rattle.nd_path.specs.StorePath.{name_of}
+use Rattle.nd_graph.specs.Kinds.{is_drv, knows_outputs}
+use Rattle.nd_graph.specs.Derived.{Derives, IsOwnPath}
+use Rattle.nd_graph.specs.Attributes.{Needs, AsksNothing}
+use Rattle.nd_graph.specs.declared.line.NamedInput.{NamedInput}
+use Rattle.nd_graph.specs.declared.line.LineNode.{LineNode}
+use Rattle.nd_graph.specs.declared.refusal.LineFault.{LineFault}
+use Rattle.nd_graph.specs.declared.refusal.LineFault.TheVariants.{BadLine, BadPath, BadDerivation, UnknownOutput, BadAttribute, WrongPath, Memory}
+
+-- what stands before the first space
+abbrev pub front : List ℕ → List ℕ
+front line = until (λ b. b == 32) line
+
+-- what stands behind the first space
+abbrev pub back : List ℕ → Option (List ℕ)
+back line = behind (λ b. b == 32) line
+
+-- the line is the path of a derivation, a space and this text
+pub record Splits (line text : List ℕ) : Type 0 where
+  pub text_is : back line ≡ Some text
+  pub path_is : is_drv (front line) ≡ true
+
+-- an input derivation with the outputs that are wanted of it
+abbrev pub named : InputDrv → NamedInput
+named input = record { path = input.path; names = input.outputs }
+
+-- the node has the need and the paths of the derivation with these parts
+pub record HasParts (parts : Parts) (node : LineNode) : Type 0 where
+  pub need : Needs parts.platform parts.builder parts.env node.need
+  pub inputs : node.inputs ≡ map named parts.input_drvs
+  pub sources : node.sources ≡ parts.input_srcs
+  pub output_names : node.output_names ≡ map (λ (output : Output). output.name) parts.outputs
+  pub outputs : node.outputs ≡ map (λ (output : Output). output.path) parts.outputs
+
+-- the text says this of the node
+pub record Tells (text : List ℕ) (parts : Parts) (node : LineNode) : Type 0 where
+  pub derives : Derives text parts
+  pub known : knows_outputs parts ≡ true
+  pub has : HasParts parts node
+
+-- What the line says; with the check its path is the one that the derivation's text has.
+pub record IsLine (check : Bool) (line : List ℕ) (node : LineNode) : Type 0 where
+  pub text : List ℕ
+  pub parts : Parts
+  pub splits : Splits line text
+  pub path : node.path ≡ front line
+  pub tells : Tells text parts node
+  pub own : check ≡ true → IsOwnPath (name_of node.path) text parts node.path
+
+-- When the text is refused: it is no derivation's; an output isn't known; its structured attributes say nothing.
+abbrev pub IsBadText : List ℕ → LineFault → Type 0
+IsBadText text BadLine = ⊥
+IsBadText text BadPath = ⊥
+IsBadText text BadDerivation = (parts : Parts) → Derives text parts → ⊥
+IsBadText text UnknownOutput = (parts : Parts) × Derives text parts × (knows_outputs parts ≡ false)
+IsBadText text BadAttribute = (parts : Parts) × Derives text parts × (knows_outputs parts ≡ true) × AsksNothing parts.env
+IsBadText text WrongPath = ⊥
+IsBadText text Memory = Unit {0}
+
+-- the line's path isn't the one that the derivation's text has
+pub record IsElsewhere (line text : List ℕ) (node : LineNode) : Type 0 where
+  pub parts : Parts
+  pub own : List ℕ
+  pub path : node.path ≡ front line
+  pub tells : Tells text parts node
+  pub is_own : IsOwnPath (name_of (front line)) text parts own
+  pub differs : own ≡ front line → ⊥
+
+-- When the line is refused with which refusal. The causes exclude one another, the earlier one first. Want of
+-- memory may come at any point.
+abbrev pub IsFaulty : Bool → List ℕ → LineFault → Type 0
+IsFaulty check line BadLine = back line ≡ None
+IsFaulty check line BadPath = (text : List ℕ) × (back line ≡ Some text) × (is_drv (front line) ≡ false)
+IsFaulty check line BadDerivation = (text : List ℕ) × Splits line text × IsBadText text BadDerivation
+IsFaulty check line UnknownOutput = (text : List ℕ) × Splits line text × IsBadText text UnknownOutput
+IsFaulty check line BadAttribute = (text : List ℕ) × Splits line text × IsBadText text BadAttribute
+IsFaulty check line WrongPath = (check ≡ true) × ((text : List ℕ) × (node : LineNode) × Splits line text × IsElsewhere line text node)
+IsFaulty check line Memory = Unit {0}
+
+-- What reading a line answers.
+abbrev pub Reads : Bool → List ℕ → Result LineNode LineFault → Type 0
+Reads check line (Ok node) = IsLine check line node
+Reads check line (Err fault) = IsFaulty check line fault

@@ -1,0 +1,128 @@
+//! The paths of a derivation, each of its kind.
+
+ghost use Rattle.std.specs.Prelude.{◌≡◌, true, false, map, IfOk, IfErr, MatchOption};
+ghost use Rattle.nd_graph.specs.Kinds.{is_path, is_drv, is_known, are_drvs, are_paths, are_outputs};
+ghost use Rattle.nd_graph.specs.Reads.{named};
+ghost use Rattle.nd_graph.specs.Refused.{WantsMemory, NotPaths};
+ghost use Rattle.nd_graph.specs.Found.{HasOutputs};
+
+use crate::line::NamedInput;
+use crate::refusal::LineFault;
+use nd_aterm::{InputDrv, Output};
+use nd_bytes::{ByteString, Items};
+use nd_path::{PathError, StorePath};
+use std::alloc::Global;
+
+/// The store path with these bytes, or `None` where they are no store path.
+pub(crate) fn store_path(alloc: Global, bytes: &[u8]) -> Result<Option<StorePath>, LineFault>
+    ensures ok { IfOk result (λ found. MatchOption found (is_path bytes.now ≡ false)
+        (λ path. (path ≡ bytes.now) × (is_path bytes.now ≡ true))) }
+    ensures err { IfErr result WantsMemory }
+{
+    match StorePath::parse(alloc, bytes) {
+        Ok(path) => Ok(Some(path)),
+        Err(PathError::Memory) => Err(LineFault::Memory),
+        Err(_) => Ok(None),
+    }
+}
+
+/// The store path of a derivation with these bytes, or `None` where they are none.
+pub(crate) fn drv_store_path(alloc: Global, bytes: &[u8]) -> Result<Option<StorePath>, LineFault>
+    ensures ok { IfOk result (λ found. MatchOption found (is_drv bytes.now ≡ false)
+        (λ path. (path ≡ bytes.now) × (is_drv bytes.now ≡ true))) }
+    ensures err { IfErr result WantsMemory }
+{
+    let Some(path) = store_path(alloc, bytes)? else {
+        return Ok(None);
+    };
+    if path.is_drv() {
+        Ok(Some(path))
+    } else {
+        Ok(None)
+    }
+}
+
+/// The input derivations with their store paths.
+pub(crate) fn inputs_of(
+    alloc: Global,
+    drvs: Items<InputDrv>,
+) -> Result<Items<NamedInput>, LineFault>
+    ensures same { IfOk result (λ inputs. inputs ≡ map named drvs) }
+    ensures paths { IfOk result (λ _. are_drvs drvs ≡ true) }
+    ensures err { IfErr result (λ fault. NotPaths fault (are_drvs drvs ≡ false)) }
+{
+    let mut inputs = Vec::with_capacity(alloc, drvs.len())?;
+    for drv in drvs.into_vec() {
+        let InputDrv { path, outputs } = drv;
+        let Some(path) = drv_store_path(alloc, path.as_slice())? else {
+            return Err(LineFault::BadDerivation);
+        };
+        inputs.push(NamedInput {
+            path,
+            names: outputs,
+        })?;
+    }
+    Ok(Items::new(inputs))
+}
+
+/// The sources as store paths.
+pub(crate) fn sources_of(
+    alloc: Global,
+    sources: &[ByteString],
+) -> Result<Items<StorePath>, LineFault>
+    ensures same { IfOk result (λ paths. paths ≡ sources.now) }
+    ensures paths { IfOk result (λ _. are_paths sources.now ≡ true) }
+    ensures err { IfErr result (λ fault. NotPaths fault (are_paths sources.now ≡ false)) }
+{
+    let mut paths = Vec::with_capacity(alloc, sources.len())?;
+    for source in sources {
+        let Some(path) = store_path(alloc, source.as_slice())? else {
+            return Err(LineFault::BadDerivation);
+        };
+        paths.push(path)?;
+    }
+    Ok(Items::new(paths))
+}
+
+/// The outputs of a derivation.
+pub(crate) struct Outputs {
+    /// The names.
+    pub(crate) names: Items<ByteString>,
+    /// The paths that are known before the build.
+    pub(crate) paths: Items<StorePath>,
+    /// Whether all are known.
+    pub(crate) known: bool,
+}
+
+/// The outputs' names and paths.
+pub(crate) fn outputs_of(alloc: Global, outputs: Items<Output>) -> Result<Outputs, LineFault>
+    ensures found { IfOk result (HasOutputs outputs) }
+    ensures paths { IfOk result (λ _. are_outputs outputs ≡ true) }
+    ensures err { IfErr result (λ fault. NotPaths fault (are_outputs outputs ≡ false)) }
+{
+    let mut names = Vec::with_capacity(alloc, outputs.len())?;
+    let mut paths = Vec::with_capacity(alloc, outputs.len())?;
+    let mut known = true;
+    for output in outputs.into_vec() {
+        let Output {
+            name,
+            path,
+            hash_algo: _,
+            hash: _,
+        } = output;
+        names.push(name)?;
+        if path.is_empty() {
+            known = false;
+            continue;
+        }
+        let Some(path) = store_path(alloc, path.as_slice())? else {
+            return Err(LineFault::BadDerivation);
+        };
+        paths.push(path)?;
+    }
+    Ok(Outputs {
+        names: Items::new(names),
+        paths: Items::new(paths),
+        known,
+    })
+}
