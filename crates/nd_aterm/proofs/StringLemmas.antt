@@ -1,6 +1,6 @@
 -- Lemmas on the spelling of strings.
-use Rattle.std.proofs.Common.{◌≡◌, ℕ, List, [], ◌∷◌, ◌++◌, refl, ap}
-use Rattle.nd_aterm.specs.Spelling.{quote, character, characters}
+use Rattle.std.proofs.Common.{◌≡◌, ℕ, List, [], ◌∷◌, ◌++◌, None, refl, sym, ap, ◌∙◌, append_assoc}
+use Rattle.nd_aterm.specs.Spelling.{quote, letter_of, spelled, character, characters, IsPlain}
 use Rattle.nd_aterm.specs.SpellingOnce.{character_once, character_quote}
 
 pub characters-append : (cs ds rest : List ℕ) → characters (cs ++ ds) rest ≡ characters cs (characters ds rest)
@@ -14,3 +14,28 @@ characters_end [] rest no_byte no_quote [] r e = no_quote r e
 characters_end [] rest no_byte no_quote (d ∷ ds) r e = no_byte d _ e
 characters_end (c ∷ cs) rest no_byte no_quote [] r e = character_quote c _ r e
 characters_end (c ∷ cs) rest no_byte no_quote (d ∷ ds) r e = characters_end cs rest no_byte no_quote ds r (character_once c d _ _ e).1
+
+pub character-plain : (c : ℕ) (rest : List ℕ) → letter_of c ≡ None → character c rest ≡ c ∷ rest
+unfolding character
+character-plain c rest none = ap (λ letter. spelled letter c rest) none
+
+-- one more byte that is spelled as it is
+pub IsPlain-push : (cs : List ℕ) (c : ℕ) → IsPlain cs → letter_of c ≡ None → IsPlain (cs ++ c ∷ [])
+IsPlain-push cs c plain none rest =
+    characters-append cs (c ∷ []) rest ∙ ap (characters cs) (character-plain c rest none) ∙ plain (c ∷ rest) ∙ sym (append_assoc cs (c ∷ []) rest)
+
+-- bytes that are spelled as they are, behind others
+pub characters-plain : (cs plain rest : List ℕ) → IsPlain plain → characters (cs ++ plain) rest ≡ characters cs (plain ++ rest)
+characters-plain cs plain rest as_is = characters-append cs plain rest ∙ ap (characters cs) (as_is rest)
+
+-- one more byte, and bytes behind it that are spelled as they are
+pub characters-step : (cs : List ℕ) (c : ℕ) (plain rest : List ℕ) → IsPlain plain → characters ((cs ++ c ∷ []) ++ plain) rest ≡ characters cs (character c (plain ++ rest))
+characters-step cs c plain rest as_is = characters-plain (cs ++ c ∷ []) plain rest as_is ∙ characters-append cs (c ∷ []) (plain ++ rest)
+
+-- a text with bytes behind it that are spelled as they are
+pub written_plain : (out new bytes plain after : List ℕ) → new ≡ out ++ plain → bytes ≡ plain ++ after → IsPlain plain
+    → (rest : List ℕ) → new ++ characters after rest ≡ out ++ characters bytes rest
+written_plain out new bytes plain after is split as_is rest =
+    ap (λ t. t ++ characters after rest) is ∙ append_assoc out plain (characters after rest)
+    ∙ ap (λ t. out ++ t) (sym (characters-append plain after rest ∙ as_is (characters after rest)))
+    ∙ ap (λ t. out ++ characters t rest) (sym split)

@@ -2,7 +2,7 @@
 -- the bytes of `rest` behind it. The form is the ATerm format of store derivations (Nix Reference Manual,
 -- 'Derivation "ATerm" file format'; Dolstra 2006, section 5.4). That a string escapes exactly these five
 -- bytes, also where Nix's writer leaves them as they are, is this project's own choice.
-use Rattle.std.specs.Prelude.{ℕ, ◌==◌, List, [], ◌∷◌, if◌then◌else◌, Option, None, Some}
+use Rattle.std.specs.Prelude.{◌≡◌, ℕ, ◌==◌, List, [], ◌∷◌, ◌++◌, if◌then◌else◌, Option, None, Some}
 
 abbrev pub quote : ℕ
 quote = 34
@@ -48,6 +48,10 @@ character c rest = spelled (letter_of c) c rest
 abbrev pub characters : List ℕ → List ℕ → List ℕ
 characters [] rest = rest
 characters (c ∷ cs) rest = character c (characters cs rest)
+
+-- bytes that a string spells as they are
+abbrev pub IsPlain : List ℕ → Type 0
+IsPlain cs = (rest : List ℕ) → characters cs rest ≡ cs ++ rest
 
 -- a string stands between quotes
 unfoldable pub string : List ℕ → List ℕ → List ℕ

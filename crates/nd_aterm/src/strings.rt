@@ -2,7 +2,7 @@
 
 ghost use Rattle.std.specs.Prelude.{◌≡◌, ℕ, ◌≤◌, ◌<◌, List, ◌∷◌, ◌++◌, length, IfOk, IfErr, OnOk, IfSome, MatchOption};
 ghost use Rattle.nd_aterm.specs.Refusals.{Refuses};
-ghost use Rattle.nd_aterm.specs.Spelling.{quote, letter_of, character, characters, string};
+ghost use Rattle.nd_aterm.specs.Spelling.{quote, letter_of, character, characters, IsPlain, string};
 ghost use Rattle.nd_aterm.specs.SpellingOnce.{string_once, string_opens};
 
 use crate::fault::AtermError;
@@ -48,35 +48,64 @@ fn character_at(bytes: &[u8]) -> Option<(u8, &[u8])>
     }
 }
 
+/// The bytes in front that a string spells as they are, and what stands behind them.
+#[tactic(auto, unfolding(crate::specs::Spelling::character))]
+fn plain_at(bytes: &[u8]) -> (&[u8], &[u8])
+    ensures split { bytes.now ≡ result.0.now ++ result.1.now }
+    ensures plain { IsPlain result.0.now }
+{
+    for (i, byte) in bytes.iter().enumerate() {
+        if letter(*byte).is_some() {
+            return bytes.split_at(i);
+        }
+    }
+    bytes.split_at(bytes.len())
+}
+
 /// The bytes of a string up to its closing quote, and what stands behind that.
 fn characters_at(alloc: Global, bytes: &[u8]) -> Result<(Vec<u8>, &[u8]), AtermError>
     ensures found { IfOk result (λ x. bytes.now ≡ characters x.0.items (quote ∷ x.1.now)) }
     ensures shorter { IfOk result (λ x. length x.1.now ≤ length bytes.now) }
     ensures none { IfErr result (λ e. Refuses e ((cs : List ℕ) (rest : List ℕ) → bytes.now ≡ characters cs (quote ∷ rest) → ⊥)) }
 {
-    let mut read = Vec::new(alloc);
-    let mut rest = bytes;
+    let (plain, mut rest) = plain_at(bytes);
+    let mut read = Vec::from_slice(alloc, plain)?;
     while let Some((byte, after)) = character_at(rest) {
         read.push(byte)?;
+        let (plain, after) = plain_at(after);
+        read.extend_from_slice(plain)?;
         rest = after;
     }
     let rest = expect(rest, b'"')?;
     Ok((read, rest))
 }
 
-/// Writes the bytes as they stand in a string.
+/// Writes a byte as it stands in a string.
 #[tactic(auto, unfolding(crate::specs::Spelling::character))]
+fn put_character(byte: u8, out: &mut Vec<u8>) -> Result<(), AllocError>
+    ensures { OnOk result ((rest : List ℕ) → out.new.items ++ rest ≡ out.old.items ++ character byte rest) }
+{
+    match letter(byte) {
+        Some(letter) => {
+            out.push(b'\\')?;
+            out.push(letter)?;
+        }
+        None => out.push(byte)?,
+    }
+    Ok(())
+}
+
+/// Writes the bytes as they stand in a string.
 fn put_characters(bytes: &[u8], out: &mut Vec<u8>) -> Result<(), AllocError>
     ensures { OnOk result ((rest : List ℕ) → out.new.items ++ rest ≡ out.old.items ++ characters bytes.now rest) }
 {
-    for byte in bytes {
-        match letter(*byte) {
-            Some(letter) => {
-                out.push(b'\\')?;
-                out.push(letter)?;
-            }
-            None => out.push(*byte)?,
-        }
+    let (plain, mut left) = plain_at(bytes);
+    out.extend_from_slice(plain)?;
+    while let Some((byte, after)) = left.split_first() {
+        put_character(*byte, out)?;
+        let (plain, after) = plain_at(after);
+        out.extend_from_slice(plain)?;
+        left = after;
     }
     Ok(())
 }
