@@ -13,7 +13,7 @@ use std::marker::Model;
 
 /// A set of store paths. Contracts see the list of its paths in strictly rising byte order, so two
 /// sets with the same members are equal.
-#[derive(Debug, Drop, Clone)]
+#[derive(Debug, Drop)]
 pub struct PathSet {
     items: Vec<StorePath>,
 }
@@ -93,7 +93,17 @@ impl PathSet {
     pub fn try_clone(&self) -> Result<PathSet, AllocError>
         ensures { IfOk result (λ s. s ≡ self.now) }
     {
-        self.clone()
+        Ok(PathSet {
+            items: self.items.clone()?,
+        })
+    }
+}
+
+impl Clone for PathSet {
+    ghost is_clone = { λ s t. t ≡ s };
+
+    fn clone(&self) -> Result<PathSet, AllocError> {
+        self.try_clone()
     }
 }
 
@@ -103,7 +113,7 @@ impl PartialEq for PathSet {
     ghost laws = { Cmp.partial_equiv_from_equiv (lists_equiv nat_list_eq_equiv) };
 
     fn eq(&self, other: &PathSet) -> bool {
-        self.items.as_slice() == other.items.as_slice()
+        self.as_slice() == other.as_slice()
     }
 }
 

@@ -29,7 +29,7 @@ const NAME_LIMIT: usize = 211;
 /// A store path: `/nix/store/`, a digest of 32 characters, `-` and a name (Nix Reference Manual,
 /// "Store Path"). Contracts see the list of its bytes, which is a store path. Two are equal where
 /// their bytes are, and they stand in the order of their bytes.
-#[derive(Debug, Drop, Clone)]
+#[derive(Debug, Drop)]
 pub struct StorePath {
     bytes: Vec<u8>,
 }
@@ -114,7 +114,17 @@ impl StorePath {
     pub fn try_clone(&self) -> Result<StorePath, AllocError>
         ensures { IfOk result (λ p. p ≡ self.now) }
     {
-        self.clone()
+        Ok(StorePath {
+            bytes: self.bytes.clone()?,
+        })
+    }
+}
+
+impl Clone for StorePath {
+    ghost is_clone = { λ p q. q ≡ p };
+
+    fn clone(&self) -> Result<StorePath, AllocError> {
+        self.try_clone()
     }
 }
 
@@ -124,7 +134,7 @@ impl PartialEq for StorePath {
     ghost laws = { Cmp.partial_equiv_from_equiv nat_list_eq_equiv };
 
     fn eq(&self, other: &StorePath) -> bool {
-        self.bytes.as_slice() == other.bytes.as_slice()
+        self.bytes() == other.bytes()
     }
 }
 
@@ -152,7 +162,7 @@ impl Ord for StorePath {
     ghost matches_eq = { texts_ties };
 
     fn cmp(&self, other: &StorePath) -> Ordering {
-        self.bytes.as_slice().cmp(other.bytes.as_slice())
+        self.bytes().cmp(other.bytes())
     }
 }
 
@@ -162,7 +172,7 @@ impl Hash for StorePath {
     ghost respects_eq = { paths_alike };
 
     fn hash<H: Hasher>(&self, state: &mut H) {
-        self.bytes.as_slice().hash(state);
+        self.bytes().hash(state);
     }
 }
 
