@@ -1,12 +1,16 @@
--- Sets as strictly rising lists: there is one for each choice of items.
-use Rattle.std.proofs.Common.{◌≡◌, ℕ, Bool, true, false, ◌||◌, List, [], ◌∷◌, ◌↔◌, Contains, refl, sym, ◌∙◌, ap}
+-- Sets as strictly rising lists: there is one for each choice of items, and a binary search finds what it has.
+use Rattle.std.proofs.Common.{◌≡◌, ℕ, Bool, true, false, ◌||◌, List, [], ◌∷◌, ◌↔◌, ◌≤◌, zero, suc, length, get_or, IsTrue, Contains, Ok, Err, inl, inr, refl, sym, ◌∙◌, ap, arith}
+use Rattle.std.specs.Prelude.{Result, is_ok}
+use Rattle.std.specs.declared.cmp.Ordering.{Ordering}
 use Rattle.std.specs.declared.cmp.Ordering.TheVariants.{Less, Equal, Greater}
-use Rattle.std.specs.Ordering.{eq_by_cmp, is_eq, ordering_reverse, match_ordering}
+use Rattle.std.specs.Ordering.{eq_by_cmp, is_eq, ordering_reverse, ordering_index, match_ordering}
 use Rattle.std.specs.List.{list_any, AllByRecursion, dedup}
-use Rattle.std.specs.List.Sorted.{IsStrictlySortedBy, IsSorted, IsPermutation}
-use Rattle.std.specs.Cmp.{IsEquivalence, both_ways}
+use Rattle.std.specs.List.Sorted.{IsStrictlySortedBy, IsSorted, IsPermutation, IsNonDecreasingBy, IsBinarySearchResult, IsSearchInRange}
+use Rattle.std.specs.Cmp.{IsEquivalence, both_ways, tied_itself}
 use Rattle.std.specs.FinMap.{IsAntisymmetric, nat_cmp-IsAntisymmetric, slice_cmp-IsAntisymmetric}
 use Rattle.std.proofs.lemmas.Cmp.{eq_by_cmp_equiv}
+use Rattle.std.proofs.lemmas.Bool.{cases_lt}
+use Rattle.std.proofs.lemmas.List.Elements.{All-from_recursion}
 use Rattle.std.proofs.lemmas.List.Kept.{IsStrictlySortedBy-dedup, Contains-dedup, Contains-from_dedup}
 use Rattle.std.proofs.lemmas.List.Sorted.{Contains-permutation, IsPermutation-sym}
 use Rattle.std.proofs.lemmas.Map.Views.{list_any-from_Contains, Contains-from_any}
@@ -150,3 +154,46 @@ module _ (xs ys zs : List (List ℕ)) (moved : IsPermutation xs ys) (sorted : Is
   pub sorted_set : zs ≡ set_of xs
   sorted_set =
       same_items zs (set_of xs) sorted_rises (set_rises xs) (λ x. (λ h. (Contains-set_of xs x).1 ((sorted_same x).0 h), λ h. (sorted_same x).1 ((Contains-set_of xs x).0 h)))
+
+-- ---- a search in a rising list
+
+at_most_two : (o : Ordering) → ordering_index o ≤ 2
+at_most_two Less = omega arith
+at_most_two Equal = omega arith
+at_most_two Greater = omega arith
+
+-- an earlier item stands no later against a third one
+no_later : (x y z : List ℕ) → bytes_cmp x y ≡ Less → ordering_index (bytes_cmp x z) ≤ ordering_index (bytes_cmp y z)
+no_later x y z before =
+    elim (bytes_cmp y z) as (λ o. bytes_cmp y z ≡ o → ordering_index (bytes_cmp x z) ≤ ordering_index o) [
+      | Less ↦ λ e. let none = ap ordering_index (bytes_ordered.trans x y z before e) in omega (arith, none)
+      | Equal ↦ λ e. let none = ap ordering_index (ap (bytes_cmp x) (sym (tied_same y z e)) ∙ before) in omega (arith, none)
+      | Greater ↦ λ e. at_most_two (bytes_cmp x z)
+    ] refl
+
+rising_against : (z : List ℕ) (xs : List (List ℕ)) → IsRising xs → IsNonDecreasingBy (λ y. ordering_index (bytes_cmp y z)) xs
+unfolding IsStrictlySortedBy
+rising_against z [] rises i j d le within = absurd (omega arith)
+rising_against z (x ∷ xs) rises zero zero d le within = omega arith
+rising_against z (x ∷ xs) rises zero (suc j) d le within =
+    no_later x (get_or xs j d) z (All-from_recursion (λ y. bytes_cmp x y ≡ Less) xs rises.0 j d (omega arith))
+rising_against z (x ∷ xs) rises (suc i) zero d le within = absurd (omega arith)
+rising_against z (x ∷ xs) rises (suc i) (suc j) d le within = rising_against z xs rises.1 i j d (omega arith) (omega arith)
+
+-- a binary search in a rising list finds an item exactly where the list has it
+pub searched : (z : List ℕ) (xs : List (List ℕ)) (r : Result ℕ ℕ) → IsRising xs → IsSearchInRange r (length xs) → IsBinarySearchResult (λ y. bytes_cmp y z) xs r → IsTrue (is_ok r) ↔ Contains xs z
+searched z xs (Ok i) rises within found = (λ _. (i, within, tied_same (get_or xs i z) z (found z)), λ _. refl)
+searched z xs (Err i) rises within parted =
+    let parts = parted (rising_against z xs rises) in (
+      λ never. absurd (true_not_false false false never refl refl),
+      λ has_it. elim (cases_lt has_it.0 i) [
+        | inl below ↦ not_tied (get_or xs has_it.0 z) Less (parts.0 has_it.0 z (omega arith) below) (at_itself has_it.2) refl
+        | inr above ↦ not_tied (get_or xs has_it.0 z) Greater (parts.1 has_it.0 z above has_it.1) (at_itself has_it.2) refl
+      ],
+    )
+  where
+    at_itself : {y : List ℕ} → y ≡ z → bytes_cmp y z ≡ Equal
+    at_itself e = ap (λ y. bytes_cmp y z) e ∙ tied_itself bytes_ordered z
+
+    not_tied : (y : List ℕ) (o : Ordering) → bytes_cmp y z ≡ o → bytes_cmp y z ≡ Equal → is_eq o ≡ false → IsTrue false
+    not_tied y o p q never = absurd (true_not_false (is_eq Equal) (is_eq o) refl never (ap is_eq (sym q ∙ p)))

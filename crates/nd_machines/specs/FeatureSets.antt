@@ -2,6 +2,7 @@
 -- (Nix Reference Manual, setting `builders`).
 use Rattle.std.specs.Prelude.{◌≡◌, ◌==◌, ℕ, Bool, true, not, List, [], ◌∷◌, length, filter}
 use Rattle.std.specs.List.{slice_split}
+use Rattle.std.specs.Bool.{Decides}
 use Rattle.std.specs.Cmp.{IsEquivalence, IsPartialEquivalence, IsTotalOrder, IsPartialOrder, partial_equiv_from_equiv, partial_order_from_agreeing_total}
 use Rattle.std.specs.Cmp.Lexicographic.{pointwise, slice_cmp, lists_ties}
 use Rattle.std.specs.Ordering.{match_ordering, eq_by_cmp, as_partial_cmp}
@@ -62,6 +63,9 @@ sets_ties = lists_ties bytes_cmp bytes_ties
 pub sets_partly_ordered : IsPartialOrder sets_eq (as_partial_cmp sets_cmp)
 sets_partly_ordered = partial_order_from_agreeing_total sets_cmp sets_ordered (λ x y. refl) sets_ties
 
--- equal sets are one list
+-- two sets are equal exactly where they are one list
+pub sets_eq-Decides : (xs ys : List (List ℕ)) → Decides (sets_eq xs ys) (xs ≡ ys)
+sets_eq-Decides xs ys = slice_eq-Decides bytes_eq-Decides xs ys (sets_eq xs ys) refl
+
 pub sets_same : (xs ys : List (List ℕ)) → sets_eq xs ys ≡ true → xs ≡ ys
-sets_same xs ys = (slice_eq-Decides bytes_eq-Decides xs ys (sets_eq xs ys) refl).0
+sets_same xs ys = (sets_eq-Decides xs ys).0

@@ -79,11 +79,13 @@ impl FeatureSet {
         self.items.is_empty()
     }
 
-    /// Whether the set has this item.
+    /// Whether the set has this item. It is found by a binary search.
     pub fn contains(&self, item: &[u8]) -> bool
         ensures { IsTrue result ↔ Contains self.now item.now }
     {
-        self.items.iter().any(|known| known.as_slice() == item)
+        self.items
+            .binary_search_by(|known| known.as_slice().cmp(item))
+            .is_ok()
     }
 
     /// A copy that is equal to the original.

@@ -2,6 +2,7 @@
 
 ghost use Rattle.std.specs.Prelude.{◌≡◌, ◌≤◌, ◌^◌, IfOk};
 ghost use Rattle.std.specs.Option.{option_copied};
+ghost use Rattle.nd_machines.specs.Builders.{builder_eq, builder_equal, builder_partly_equal};
 
 use crate::feature_set::FeatureSet;
 use nd_bytes::ByteString;
@@ -122,6 +123,27 @@ impl Machine {
             host_key: copy_of(&self.host_key)?,
         })
     }
+}
+
+impl PartialEq for Machine {
+    ghost eq = { builder_eq };
+
+    ghost laws = { builder_partly_equal };
+
+    fn eq(&self, other: &Machine) -> bool {
+        self.uri == other.uri
+            && self.systems == other.systems
+            && self.key == other.key
+            && self.jobs == other.jobs
+            && self.speed == other.speed
+            && self.supported == other.supported
+            && self.mandatory == other.mandatory
+            && self.host_key == other.host_key
+    }
+}
+
+impl Eq for Machine {
+    ghost laws = { builder_equal };
 }
 
 /// A copy that is equal to the original.
