@@ -1,4 +1,5 @@
 mod Cutting
+pub mod Numbers
 pub mod Rows
 pub mod Searching
 mod Strings

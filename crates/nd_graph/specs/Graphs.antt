@@ -1,11 +1,22 @@
 -- The graph of a bundle, as contracts see it.
-use Rattle.std.specs.Prelude.{ℕ, List, map}
+use Rattle.std.specs.Prelude.{◌≡◌, ℕ, ◌<◌, ◌≤◌, List, [], length, map, Contains, Option, None, Some}
+use Rattle.std.specs.List.{slice_index_or}
+use Rattle.nd_eligible.specs.declared.need.Need.{Need}
 use Rattle.nd_graph.specs.declared.graph.Input.{Input}
+use Rattle.nd_graph.specs.Walks.{AreDistinct, AreInRange, IsOrder}
 
--- the nodes of a graph: node i is the item at i of each list
+-- the nodes of a graph, numbered in the order of the bundle's lines: node i has the item at i of each list
 pub record Nodes : Type 0 where
+  -- each derivation's path
+  pub paths : List (List ℕ)
+  -- what each needs of the machine that builds it
+  pub needs : List Need
   -- the nodes that each needs, with the places of the outputs that it names of them
   pub inputs : List (List Input)
+  -- the input sources of each
+  pub sources : List (List (List ℕ))
+  -- the output paths of each, in the order of the outputs' names
+  pub outputs : List (List (List ℕ))
 
 -- the nodes that inputs name
 abbrev pub nodes_of : List Input → List ℕ
@@ -18,3 +29,32 @@ needed inputs = map nodes_of inputs
 -- the graph as rows of inputs
 abbrev pub rows_of : Nodes → List (List ℕ)
 rows_of nodes = needed nodes.inputs
+
+-- the greatest number of nodes (this project's own choice)
+abbrev pub node_limit : ℕ
+node_limit = 65536
+
+-- each named output is one of the node that it is named of
+pub record NamesOutputs (inputs : List (List Input)) (outputs : List (List (List ℕ))) : Type 0 where
+  pub named : (d : ℕ) (i : Input) (place : ℕ) → Contains (slice_index_or inputs d []) i → Contains i.outputs place → place < length (slice_index_or outputs i.node [])
+
+-- the lists have one item per node, no two nodes have one path, and inputs and named outputs are there
+pub record IsSound (nodes : Nodes) : Type 0 where
+  pub needs_sized : length nodes.needs ≡ length nodes.paths
+  pub inputs_sized : length nodes.inputs ≡ length nodes.paths
+  pub sources_sized : length nodes.sources ≡ length nodes.paths
+  pub outputs_sized : length nodes.outputs ≡ length nodes.paths
+  pub few : length nodes.paths ≤ node_limit
+  pub distinct : AreDistinct nodes.paths
+  pub ranged : AreInRange (rows_of nodes)
+  pub names : NamesOutputs nodes.inputs nodes.outputs
+
+-- the order has each node once, after its inputs
+pub record IsGraph (nodes : Nodes) (order : List ℕ) : Type 0 where
+  pub sound : IsSound nodes
+  pub ordered : IsOrder (rows_of nodes) order
+
+-- the number of the node with this path, or none where there is no such node
+abbrev pub IsNumber : List (List ℕ) → List ℕ → Option ℕ → Type 0
+IsNumber paths path None = Contains paths path → ⊥
+IsNumber paths path (Some i) = (i < length paths) × (slice_index_or paths i [] ≡ path)

@@ -1,15 +1,19 @@
 //! The graph of a bundle.
 
-ghost use Rattle.std.specs.Prelude.{◌≡◌, ℕ, ◌==◌, ◌<◌, length, []};
+ghost use Rattle.std.specs.Prelude.{◌≡◌, ◌==◌, ◌<◌, length, [], IfOk};
 ghost use Rattle.std.specs.List.{slice_index_or};
-ghost use Rattle.nd_graph.specs.Graphs.{nodes_of, rows_of};
+ghost use Rattle.nd_graph.specs.Graphs.{nodes_of, rows_of, IsNumber, IsSound};
 ghost use Rattle.nd_graph.specs.Walks.{inputs_of, IsAcyclic, IsOrder, PlacesFall};
 
+use indexmap::IndexSet;
 use nd_bytes::Items;
+use nd_eligible::Need;
+use nd_path::StorePath;
+use std::alloc::{AllocError, Global};
 use std::marker::Model;
 
 /// An input of a node: a node that it needs.
-#[derive(Drop, Debug, Clone)]
+#[derive(Drop, Debug)]
 pub struct Input {
     /// The number of the node that is needed.
     pub node: u32,
@@ -24,50 +28,113 @@ impl Input {
     {
         self.node as usize
     }
+
+    /// A copy that is equal to the original.
+    pub fn try_clone(&self, alloc: Global) -> Result<Input, AllocError>
+        ensures { IfOk result (λ input. input ≡ self.now) }
+    {
+        Ok(Input {
+            node: self.node,
+            outputs: Items::new(Vec::from_slice(alloc, self.outputs.as_slice())?),
+        })
+    }
 }
 
-/// The nodes of a bundle, numbered from 0 in bundle order.
+/// The nodes of a bundle, numbered from 0 in bundle order: at most 65,536, with distinct paths, and
+/// none below itself. Contracts see the lists of the nodes' paths, needs, inputs, sources and
+/// outputs.
 #[derive(Drop, Debug)]
 pub struct Graph {
+    paths: IndexSet<StorePath>,
+    needs: Vec<Need>,
     inputs: Vec<Items<Input>>,
+    sources: Vec<Items<StorePath>>,
+    outputs: Vec<Items<StorePath>>,
     order: Vec<usize>,
 }
 
 impl Model for Graph {
-    ghost use Rattle.nd_graph.specs.Graphs.{Nodes, needed};
-    ghost use Rattle.nd_graph.specs.Walks.{AreInRange, IsOrder};
+    ghost use Rattle.nd_graph.specs.Graphs.{Nodes, IsGraph};
 
     ghost Value = { Nodes };
 
-    ghost view = { λ g. record { inputs = g.inputs.items } };
+    ghost view = { λ g. record { paths = g.paths.keys; needs = g.needs.items; inputs = g.inputs.items; sources = g.sources.items; outputs = g.outputs.items } };
 
-    ghost invariant = { λ g. IsOrder (needed g.inputs.items) g.order.items };
+    ghost invariant = { λ g. IsGraph (record { paths = g.paths.keys; needs = g.needs.items; inputs = g.inputs.items; sources = g.sources.items; outputs = g.outputs.items }) g.order.items };
 }
 
 impl Graph {
     /// The number of nodes.
     pub fn len(&self) -> usize
-        ensures inputs { result ≡ length self.now.inputs }
+        ensures len { result ≡ length self.now.paths }
         ensures rows { result ≡ length (rows_of self.now) }
+        ensures sound { IsSound self.now }
     {
-        self.inputs.len()
+        self.paths.as_slice().len()
     }
 
     /// Whether there is no node.
     pub fn is_empty(&self) -> bool
-        ensures { result ≡ (length self.now.inputs == 0) }
+        ensures { result ≡ (length self.now.paths == 0) }
     {
-        self.inputs.is_empty()
+        self.paths.as_slice().is_empty()
+    }
+
+    /// The path of node `i`.
+    pub fn path(&self, i: usize) -> &StorePath
+        requires { i < length self.now.paths }
+        ensures { result.now ≡ slice_index_or self.now.paths i [] }
+    {
+        &self.paths.as_slice()[i]
+    }
+
+    /// What node `i` needs of the machine that builds it.
+    pub fn need(&self, i: usize) -> &Need
+        requires { i < length self.now.paths }
+        ensures { result.now ≡ slice_index_or self.now.needs i result.now }
+    {
+        &self.needs[i]
+    }
+
+    /// What each node needs of the machine that builds it.
+    pub fn needs(&self) -> &[Need]
+        ensures needs { result.now ≡ self.now.needs }
+        ensures len { length result.now ≡ length self.now.paths }
+    {
+        self.needs.as_slice()
     }
 
     /// The inputs of node `i`.
     #[tactic(auto, using(crate::proofs::Rows::row_of))]
     pub fn inputs(&self, i: usize) -> &[Input]
-        requires { i < length self.now.inputs }
+        requires { i < length self.now.paths }
         ensures inputs { result.now ≡ slice_index_or self.now.inputs i [] }
         ensures nodes { nodes_of result.now ≡ inputs_of (rows_of self.now) i }
     {
         self.inputs[i].as_slice()
+    }
+
+    /// The input sources of node `i`.
+    pub fn sources(&self, i: usize) -> &[StorePath]
+        requires { i < length self.now.paths }
+        ensures { result.now ≡ slice_index_or self.now.sources i [] }
+    {
+        self.sources[i].as_slice()
+    }
+
+    /// The output paths of node `i`, in the order of the outputs' names.
+    pub fn outputs(&self, i: usize) -> &[StorePath]
+        requires { i < length self.now.paths }
+        ensures { result.now ≡ slice_index_or self.now.outputs i [] }
+    {
+        self.outputs[i].as_slice()
+    }
+
+    /// The number of the node with this path. The path is looked up by hash.
+    pub fn index_of(&self, path: &StorePath) -> Option<usize>
+        ensures { IsNumber self.now.paths path.now result }
+    {
+        self.paths.get_index_of(path)
     }
 
     /// The nodes, each once and after its inputs.
@@ -79,4 +146,85 @@ impl Graph {
     {
         self.order.as_slice()
     }
+
+    /// A copy that is equal to the original.
+    pub fn try_clone(&self, alloc: Global) -> Result<Graph, AllocError>
+        ensures { IfOk result (λ graph. graph ≡ self.now) }
+    {
+        Ok(Graph {
+            paths: copy_paths(&self.paths)?,
+            needs: copy_needs(alloc, self.needs.as_slice())?,
+            inputs: copy_inputs(alloc, self.inputs.as_slice())?,
+            sources: copy_path_lists(alloc, self.sources.as_slice())?,
+            outputs: copy_path_lists(alloc, self.outputs.as_slice())?,
+            order: Vec::from_slice(alloc, self.order.as_slice())?,
+        })
+    }
+}
+
+/// A copy of the paths.
+fn copy_paths(paths: &IndexSet<StorePath>) -> Result<IndexSet<StorePath>, AllocError>
+    ensures { IfOk result (λ copy. copy.keys ≡ paths.now.keys) }
+{
+    paths.clone()
+}
+
+/// A copy of the needs.
+fn copy_needs(alloc: Global, needs: &[Need]) -> Result<Vec<Need>, AllocError>
+    ensures { IfOk result (λ copy. copy.items ≡ needs.now) }
+{
+    let mut copy = Vec::with_capacity(alloc, needs.len())?;
+    for need in needs {
+        copy.push(need.try_clone(alloc)?)?;
+    }
+    Ok(copy)
+}
+
+/// A copy of the inputs of nodes.
+fn copy_inputs(alloc: Global, rows: &[Items<Input>]) -> Result<Vec<Items<Input>>, AllocError>
+    ensures { IfOk result (λ copy. copy.items ≡ rows.now) }
+{
+    let mut copy = Vec::with_capacity(alloc, rows.len())?;
+    for row in rows {
+        copy.push(copy_row(alloc, row)?)?;
+    }
+    Ok(copy)
+}
+
+/// A copy of the inputs of a node.
+fn copy_row(alloc: Global, row: &Items<Input>) -> Result<Items<Input>, AllocError>
+    ensures { IfOk result (λ copy. copy ≡ row.now) }
+{
+    let inputs = row.as_slice();
+    let mut copy = Vec::with_capacity(alloc, inputs.len())?;
+    for input in inputs {
+        copy.push(input.try_clone(alloc)?)?;
+    }
+    Ok(Items::new(copy))
+}
+
+/// A copy of lists of paths.
+fn copy_path_lists(
+    alloc: Global,
+    lists: &[Items<StorePath>],
+) -> Result<Vec<Items<StorePath>>, AllocError>
+    ensures { IfOk result (λ copy. copy.items ≡ lists.now) }
+{
+    let mut copy = Vec::with_capacity(alloc, lists.len())?;
+    for list in lists {
+        copy.push(copy_path_list(alloc, list)?)?;
+    }
+    Ok(copy)
+}
+
+/// A copy of a list of paths.
+fn copy_path_list(alloc: Global, list: &Items<StorePath>) -> Result<Items<StorePath>, AllocError>
+    ensures { IfOk result (λ copy. copy ≡ list.now) }
+{
+    let paths = list.as_slice();
+    let mut copy = Vec::with_capacity(alloc, paths.len())?;
+    for path in paths {
+        copy.push(path.try_clone()?)?;
+    }
+    Ok(Items::new(copy))
 }

@@ -12,3 +12,4 @@ mod structured;
 
 pub use fault::GraphError;
 pub use graph::{Graph, Input};
+pub use line::{LineNode, NamedInput};
