@@ -10,4 +10,5 @@ pub mod Refused
 pub mod Stages
 pub mod Structured
 pub mod Walks
+pub mod Whole
 pub mod Wishes

@@ -16,19 +16,12 @@ use std::marker::Model;
 #[derive(Drop, Debug)]
 pub struct Input {
     /// The number of the node that is needed.
-    pub node: u32,
+    pub node: usize,
     /// The places of the outputs that are named of it, in its list of outputs; maybe none.
-    pub outputs: Items<u32>,
+    pub outputs: Items<usize>,
 }
 
 impl Input {
-    /// The number of the node that is needed, as an index.
-    pub fn node(&self) -> usize
-        ensures { result ≡ self.now.node }
-    {
-        self.node as usize
-    }
-
     /// A copy that is equal to the original.
     pub fn try_clone(&self, alloc: Global) -> Result<Input, AllocError>
         ensures { IfOk result (λ input. input ≡ self.now) }

@@ -125,7 +125,7 @@ fn next_input(inputs: &[Items<Input>], left: &[usize], top: usize) -> Option<usi
     if steps == 1 {
         return None;
     }
-    Some(row[row.len() + 1 - steps].node())
+    Some(row[row.len() + 1 - steps].node)
 }
 
 /// One step of the search: `top`, which was taken off the trail, goes into the order, or it goes

@@ -13,7 +13,7 @@ returns c =
     let long : length (inputs_of (needed c.args.inputs.now) c.args.top) ≡ length row = row_length c.args.inputs.now c.args.top row c.requires.within is in
     let place : length row + 1 - steps ≡ length (inputs_of (needed c.args.inputs.now) c.args.top) + 1 - steps = ap (λ (n : ℕ). n + 1 - steps) (sym long) in
     let read = next_read c.args.inputs.now c.args.top (length row + 1 - steps) row c.index-row-row.result c.requires.within is (omega (arith, c.requires.few, c.if-steps-eq1.false)) c.index-row-row.is in
-    let same = sym c.node.ensures in (
+    let same = ap (λ (i : Input). i.node) c.index-row-row.is in (
       omega (arith, c.requires.some, c.if-steps-eq1.false),
       subst (λ (x : ℕ). Contains (inputs_of (needed c.args.inputs.now) c.args.top) x) same read.0,
       sym same ∙ read.1 ∙ ap (λ (i : ℕ). get_or (inputs_of (needed c.args.inputs.now) c.args.top) i 0) place,
