@@ -1,2 +1,6 @@
 pub mod Device
+pub mod Decisions
+pub mod Replies
+pub mod ReplyText
 pub mod Watched
+pub mod Written

@@ -1,6 +1,12 @@
 //! The replies of a build hook, and how they are written.
 #![tactic(auto)]
 
+mod decisions;
+mod kinds;
+mod replies;
 mod told;
 
+pub use decisions::{decide, decide_in};
+pub use kinds::{Decision, Reply};
+pub use replies::{reply, reply_in};
 pub use told::{Fault, TakeError, Told};
