@@ -106,7 +106,7 @@ impl PartialEq for FeatureSet {
     ghost laws = { sets_partly_equal };
 
     fn eq(&self, other: &FeatureSet) -> bool {
-        self.items.as_slice() == other.items.as_slice()
+        self.as_slice() == other.as_slice()
     }
 }
 
@@ -134,6 +134,6 @@ impl Ord for FeatureSet {
     ghost matches_eq = { sets_ties };
 
     fn cmp(&self, other: &FeatureSet) -> Ordering {
-        self.items.as_slice().cmp(other.items.as_slice())
+        self.as_slice().cmp(other.as_slice())
     }
 }
