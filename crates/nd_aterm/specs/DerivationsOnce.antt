@@ -1,8 +1,10 @@
 -- That derivations are read in one way: a text that begins with the text of one begins with no other's.
-use Rattle.std.specs.Prelude.{refl}
+use Rattle.std.specs.Prelude.{◌≡◌, ℕ, List, [], refl}
+use Rattle.std.proofs.Common.{sym, ◌∙◌}
+use Rattle.nd_aterm.specs.declared.records.Parts.{Parts}
 use Rattle.nd_aterm.specs.Spelling.{right_bracket, left_parenthesis, string, list}
 use Rattle.nd_aterm.specs.SpellingOnce.{IsOnce, Opens, GoesOn, tail_is, differ, string_once, string_opens, string_goes, list_once, list_opens, list_goes}
-use Rattle.nd_aterm.specs.Derivations.{output, input_drv, env_entry, derivation}
+use Rattle.nd_aterm.specs.Derivations.{output, input_drv, env_entry, derivation, Loose}
 
 pub strings_once : IsOnce (list string)
 strings_once = list_once string string_once string_opens
@@ -92,5 +94,9 @@ derivation_once p q r s e =
 pub derivation_goes : GoesOn derivation
 unfolding derivation
 derivation_goes p r s = simp (string_goes, strings_go, outputs_go, input_drvs_go, env_goes)
+
+-- one text, one derivation
+pub Loose-same : (p q : Parts) (bytes : List ℕ) → Loose p bytes → Loose q bytes → p ≡ q
+Loose-same p q bytes of_p of_q = (derivation_once p q [] [] (sym of_p ∙ of_q)).0
 
 pub ruleset onces = (string_once, strings_once, output_once, input_drv_once, env_entry_once, outputs_once, input_drvs_once, env_once, derivation_once)

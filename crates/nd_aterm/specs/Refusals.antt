@@ -1,4 +1,5 @@
--- How a part of a derivation text is refused.
+-- What the refusals of derivation texts say.
+use Rattle.std.specs.Prelude.{ℕ, List, codes}
 use Rattle.nd_aterm.specs.declared.fault.AtermError.{AtermError}
 use Rattle.nd_aterm.specs.declared.fault.AtermError.TheVariants.{TooLong, NotDerivation, Order, Memory}
 
@@ -8,3 +9,10 @@ Refuses TooLong cause = ⊥
 Refuses NotDerivation cause = cause
 Refuses Order cause = ⊥
 Refuses Memory cause = Unit {0}
+
+-- the plain name of a refusal
+abbrev pub refusal_name : AtermError → List ℕ
+refusal_name TooLong = codes "TooLong"
+refusal_name NotDerivation = codes "NotDerivation"
+refusal_name Order = codes "Order"
+refusal_name Memory = codes "Memory"

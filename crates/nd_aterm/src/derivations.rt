@@ -26,7 +26,9 @@ pub struct Derivation {
     pub args: Items<ByteString>,
     /// The builder's environment, by key.
     pub env: Items<EnvEntry>,
-    pub ghost ordered: { in_order (record { outputs = outputs; input_drvs = input_drvs; input_srcs = input_srcs; platform = platform; builder = builder; args = args; env = env }) ≡ true },
+    pub ghost ordered: { in_order (record {
+        outputs = outputs; input_drvs = input_drvs; input_srcs = input_srcs; platform = platform;
+        builder = builder; args = args; env = env }) ≡ true },
 }
 
 impl Derivation {
@@ -37,7 +39,9 @@ impl Derivation {
     /// kinds of list doesn't strictly rise, and are then dropped. It takes no memory, so `Memory`
     /// doesn't come.
     pub fn new(parts: Parts) -> Result<Self, AtermError>
-        ensures { MatchResult result (λ d. (in_order parts ≡ true) × (parts_of d ≡ parts)) (λ e. (in_order parts ≡ false) × (e ≡ AtermError.Order)) }
+        ensures { MatchResult result
+            (λ d. (in_order parts ≡ true) × (parts_of d ≡ parts))
+            (λ e. (in_order parts ≡ false) × (e ≡ AtermError.Order)) }
     {
         if !is_in_order(&parts) {
             return Err(AtermError::Order);

@@ -23,13 +23,18 @@ pub enum AtermError {
 }
 
 impl fmt::Display for AtermError {
+    ghost use Rattle.std.specs.Prelude.{Some};
+    ghost use Rattle.nd_aterm.specs.Refusals.{refusal_name};
+
+    ghost output = { λ e. Some (refusal_name e) };
+
     fn fmt<W: fmt::Write>(&self, f: &mut fmt::Formatter<W>) -> fmt::Result {
-        f.write_str(match self {
-            AtermError::TooLong => "TooLong",
-            AtermError::NotDerivation => "NotDerivation",
-            AtermError::Order => "Order",
-            AtermError::Memory => "Memory",
-        })
+        match self {
+            AtermError::TooLong => f.write_str("TooLong"),
+            AtermError::NotDerivation => f.write_str("NotDerivation"),
+            AtermError::Order => f.write_str("Order"),
+            AtermError::Memory => f.write_str("Memory"),
+        }
     }
 }
 

@@ -13,9 +13,11 @@ use std::alloc::{AllocError, Global};
 /// The items of a list that begins with `first`, up to the closing bracket, and what stands behind
 /// that. The bytes are those behind the first item.
 fn listed_at<T: Part>(alloc: Global, first: T, bytes: &[u8]) -> Result<(Vec<T>, &[u8]), AtermError>
-    ensures found { IfOk result (λ x. T.text first bytes.now ≡ listed T.text x.0.items (right_bracket ∷ x.1.now)) }
+    ensures found { IfOk result (λ x.
+        T.text first bytes.now ≡ listed T.text x.0.items (right_bracket ∷ x.1.now)) }
     ensures shorter { IfOk result (λ x. length x.1.now ≤ length bytes.now) }
-    ensures none { IfErr result (λ e. Refuses e ((xs : List T) (rest : List ℕ) → T.text first bytes.now ≡ listed T.text xs (right_bracket ∷ rest) → ⊥)) }
+    ensures none { IfErr result (λ e. Refuses e ((xs : List T) (rest : List ℕ)
+        → T.text first bytes.now ≡ listed T.text xs (right_bracket ∷ rest) → ⊥)) }
 {
     let mut items = Vec::new(alloc);
     items.push(first)?;
@@ -31,7 +33,8 @@ fn listed_at<T: Part>(alloc: Global, first: T, bytes: &[u8]) -> Result<(Vec<T>, 
 
 /// Writes items, each with a comma before it.
 fn put_others<T: Part>(items: &[T], out: &mut Vec<u8>) -> Result<(), AllocError>
-    ensures { OnOk result ((rest : List ℕ) → out.new.items ++ rest ≡ out.old.items ++ others T.text items.now rest) }
+    ensures { OnOk result ((rest : List ℕ)
+        → out.new.items ++ rest ≡ out.old.items ++ others T.text items.now rest) }
 {
     for item in items {
         out.push(b',')?;
@@ -42,7 +45,8 @@ fn put_others<T: Part>(items: &[T], out: &mut Vec<u8>) -> Result<(), AllocError>
 
 /// Writes items with commas between them.
 fn put_listed<T: Part>(items: &[T], out: &mut Vec<u8>) -> Result<(), AllocError>
-    ensures { OnOk result ((rest : List ℕ) → out.new.items ++ rest ≡ out.old.items ++ listed T.text items.now rest) }
+    ensures { OnOk result ((rest : List ℕ)
+        → out.new.items ++ rest ≡ out.old.items ++ listed T.text items.now rest) }
 {
     if let [first, others @ ..] = items {
         first.write(out)?;

@@ -15,11 +15,13 @@ pub trait Part: Drop {
     fn read(alloc: Global, bytes: &[u8]) -> Result<(Self, &[u8]), AtermError>
         ensures found { IfOk result (λ x. bytes.now ≡ text x.0 x.1.now) }
         ensures shorter { IfOk result (λ x. length x.1.now ≤ length bytes.now) }
-        ensures none { IfErr result (λ e. Refuses e ((x : Self) (rest : List ℕ) → bytes.now ≡ text x rest → ⊥)) };
+        ensures none { IfErr result (λ e. Refuses e
+            ((x : Self) (rest : List ℕ) → bytes.now ≡ text x rest → ⊥)) };
 
     /// Writes the part's text at the end.
     fn write(&self, out: &mut Vec<u8>) -> Result<(), AllocError>
-        ensures { OnOk result ((rest : List ℕ) → out.new.items ++ rest ≡ out.old.items ++ text self.now rest) };
+        ensures { OnOk result ((rest : List ℕ)
+            → out.new.items ++ rest ≡ out.old.items ++ text self.now rest) };
 
     // Two parts whose texts begin a text are one part, and leave the same rest.
     ghost once: { (x y : Self) (r s : List ℕ) → text x r ≡ text y s → (x ≡ y) × (r ≡ s) };
@@ -30,7 +32,9 @@ pub trait Part: Drop {
 
 /// What stands behind this byte, where the bytes begin with it.
 pub fn strip(bytes: &[u8], first: u8) -> Option<&[u8]>
-    ensures { MatchOption result ((rest : List ℕ) → bytes.now ≡ first ∷ rest → ⊥) (λ rest. bytes.now ≡ first ∷ rest.now) }
+    ensures { MatchOption result
+        ((rest : List ℕ) → bytes.now ≡ first ∷ rest → ⊥)
+        (λ rest. bytes.now ≡ first ∷ rest.now) }
 {
     match bytes {
         [byte, rest @ ..] if *byte == first => Some(rest),
@@ -41,7 +45,8 @@ pub fn strip(bytes: &[u8], first: u8) -> Option<&[u8]>
 /// What stands behind this byte, which has to come first.
 pub fn expect(bytes: &[u8], first: u8) -> Result<&[u8], AtermError>
     ensures found { IfOk result (λ rest. bytes.now ≡ first ∷ rest.now) }
-    ensures none { IfErr result (λ e. (e ≡ AtermError.NotDerivation) × ((rest : List ℕ) → bytes.now ≡ first ∷ rest → ⊥)) }
+    ensures none { IfErr result (λ e.
+        (e ≡ AtermError.NotDerivation) × ((rest : List ℕ) → bytes.now ≡ first ∷ rest → ⊥)) }
 {
     strip(bytes, first).ok_or(AtermError::NotDerivation)
 }
@@ -50,7 +55,8 @@ pub fn expect(bytes: &[u8], first: u8) -> Result<&[u8], AtermError>
 pub fn field<T: Part>(alloc: Global, bytes: &[u8], end: u8) -> Result<(T, &[u8]), AtermError>
     ensures found { IfOk result (λ x. bytes.now ≡ T.text x.0 (end ∷ x.1.now)) }
     ensures shorter { IfOk result (λ x. length x.1.now < length bytes.now) }
-    ensures none { IfErr result (λ e. Refuses e ((x : T) (rest : List ℕ) → bytes.now ≡ T.text x (end ∷ rest) → ⊥)) }
+    ensures none { IfErr result (λ e. Refuses e
+        ((x : T) (rest : List ℕ) → bytes.now ≡ T.text x (end ∷ rest) → ⊥)) }
 {
     let (part, rest) = T::read(alloc, bytes)?;
     let rest = expect(rest, end)?;
@@ -59,7 +65,8 @@ pub fn field<T: Part>(alloc: Global, bytes: &[u8], end: u8) -> Result<(T, &[u8])
 
 /// Writes a part at the end, and this byte behind it.
 pub fn put_field<T: Part>(part: &T, end: u8, out: &mut Vec<u8>) -> Result<(), AllocError>
-    ensures { OnOk result ((rest : List ℕ) → out.new.items ++ rest ≡ out.old.items ++ T.text part.now (end ∷ rest)) }
+    ensures { OnOk result ((rest : List ℕ)
+        → out.new.items ++ rest ≡ out.old.items ++ T.text part.now (end ∷ rest)) }
 {
     part.write(out)?;
     out.push(end)?;

@@ -27,7 +27,9 @@ fn letter(byte: u8) -> Option<u8>
 /// The byte that stands first in a string, and what stands behind its spelling.
 #[tactic(auto, unfolding(crate::specs::Spelling::character))]
 fn character_at(bytes: &[u8]) -> Option<(u8, &[u8])>
-    ensures found { MatchOption result ((c : ℕ) (rest : List ℕ) → bytes.now ≡ character c rest → ⊥) (λ x. bytes.now ≡ character x.0 x.1.now) }
+    ensures found { MatchOption result
+        ((c : ℕ) (rest : List ℕ) → bytes.now ≡ character c rest → ⊥)
+        (λ x. bytes.now ≡ character x.0 x.1.now) }
     ensures shorter { IfSome result (λ x. length x.1.now < length bytes.now) }
 {
     let (first, rest) = bytes.split_first()?;
@@ -66,7 +68,8 @@ fn plain_at(bytes: &[u8]) -> (&[u8], &[u8])
 fn characters_at(alloc: Global, bytes: &[u8]) -> Result<(Vec<u8>, &[u8]), AtermError>
     ensures found { IfOk result (λ x. bytes.now ≡ characters x.0.items (quote ∷ x.1.now)) }
     ensures shorter { IfOk result (λ x. length x.1.now ≤ length bytes.now) }
-    ensures none { IfErr result (λ e. Refuses e ((cs : List ℕ) (rest : List ℕ) → bytes.now ≡ characters cs (quote ∷ rest) → ⊥)) }
+    ensures none { IfErr result (λ e. Refuses e
+        ((cs : List ℕ) (rest : List ℕ) → bytes.now ≡ characters cs (quote ∷ rest) → ⊥)) }
 {
     let (plain, mut rest) = plain_at(bytes);
     let mut read = Vec::from_slice(alloc, plain)?;
@@ -83,7 +86,8 @@ fn characters_at(alloc: Global, bytes: &[u8]) -> Result<(Vec<u8>, &[u8]), AtermE
 /// Writes a byte as it stands in a string.
 #[tactic(auto, unfolding(crate::specs::Spelling::character))]
 fn put_character(byte: u8, out: &mut Vec<u8>) -> Result<(), AllocError>
-    ensures { OnOk result ((rest : List ℕ) → out.new.items ++ rest ≡ out.old.items ++ character byte rest) }
+    ensures { OnOk result ((rest : List ℕ)
+        → out.new.items ++ rest ≡ out.old.items ++ character byte rest) }
 {
     match letter(byte) {
         Some(letter) => {
@@ -97,7 +101,8 @@ fn put_character(byte: u8, out: &mut Vec<u8>) -> Result<(), AllocError>
 
 /// Writes the bytes as they stand in a string.
 fn put_characters(bytes: &[u8], out: &mut Vec<u8>) -> Result<(), AllocError>
-    ensures { OnOk result ((rest : List ℕ) → out.new.items ++ rest ≡ out.old.items ++ characters bytes.now rest) }
+    ensures { OnOk result ((rest : List ℕ)
+        → out.new.items ++ rest ≡ out.old.items ++ characters bytes.now rest) }
 {
     let (plain, mut left) = plain_at(bytes);
     out.extend_from_slice(plain)?;

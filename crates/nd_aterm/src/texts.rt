@@ -17,7 +17,9 @@ const TEXT_LIMIT: usize = 16_777_216;
 
 /// What stands behind the word that each derivation text begins with.
 fn behind_word(bytes: &[u8]) -> Option<&[u8]>
-    ensures { MatchOption result ((rest : List ℕ) → bytes.now ≡ codes "Derive(" ++ rest → ⊥) (λ rest. bytes.now ≡ codes "Derive(" ++ rest.now) }
+    ensures { MatchOption result
+        ((rest : List ℕ) → bytes.now ≡ codes "Derive(" ++ rest → ⊥)
+        (λ rest. bytes.now ≡ codes "Derive(" ++ rest.now) }
 {
     match bytes {
         [b'D', b'e', b'r', b'i', b'v', b'e', b'(', rest @ ..] => Some(rest),
@@ -30,7 +32,8 @@ fn behind_word(bytes: &[u8]) -> Option<&[u8]>
 #[tactic(auto, using(crate::specs::DerivationsOnce::onces), unfolding(crate::specs::Derivations::derivation))]
 fn parts_at(alloc: Global, bytes: &[u8]) -> Result<(Parts, &[u8]), AtermError>
     ensures found { IfOk result (λ x. bytes.now ≡ derivation x.0 x.1.now) }
-    ensures none { IfErr result (λ e. Refuses e ((p : Parts) (rest : List ℕ) → bytes.now ≡ derivation p rest → ⊥)) }
+    ensures none { IfErr result (λ e. Refuses e
+        ((p : Parts) (rest : List ℕ) → bytes.now ≡ derivation p rest → ⊥)) }
 {
     let rest = behind_word(bytes).ok_or(AtermError::NotDerivation)?;
     let (outputs, rest) = field(alloc, rest, b',')?;
@@ -67,7 +70,8 @@ pub fn parse(alloc: Global, bytes: &[u8]) -> Result<Derivation, AtermError>
     // What is read has this text.
     ensures found { IfOk result (λ d. (length bytes.now ≤ text_limit) × Text (parts_of d) bytes.now) }
     // What has this text is read, unless memory runs out.
-    ensures exactly { (p : Parts) → length bytes.now ≤ text_limit → Text p bytes.now → MatchResult result (λ d. parts_of d ≡ p) (λ e. e ≡ AtermError.Memory) }
+    ensures exactly { (p : Parts) → length bytes.now ≤ text_limit → Text p bytes.now
+        → MatchResult result (λ d. parts_of d ≡ p) (λ e. e ≡ AtermError.Memory) }
     // When each refusal comes.
     ensures refused { IfErr result (IsRefused bytes.now) }
     ensures too_long { text_limit < length bytes.now → result ≡ Err AtermError.TooLong }
@@ -85,7 +89,8 @@ pub fn parse(alloc: Global, bytes: &[u8]) -> Result<Derivation, AtermError>
 /// Writes a derivation's text at the end.
 #[tactic(auto, unfolding(crate::specs::Derivations::derivation))]
 fn put_derivation(drv: &Derivation, out: &mut Vec<u8>) -> Result<(), AllocError>
-    ensures { OnOk result ((rest : List ℕ) → out.new.items ++ rest ≡ out.old.items ++ derivation (parts_of drv.now) rest) }
+    ensures { OnOk result ((rest : List ℕ)
+        → out.new.items ++ rest ≡ out.old.items ++ derivation (parts_of drv.now) rest) }
 {
     out.extend_from_slice(b"Derive(")?;
     put_field(&drv.outputs, b',', out)?;
@@ -102,9 +107,12 @@ fn put_derivation(drv: &Derivation, out: &mut Vec<u8>) -> Result<(), AllocError>
 /// bytes, and as `Memory` (4) where there was no memory left.
 pub fn write(alloc: Global, derivation: &Derivation) -> Result<Vec<u8>, AtermError>
     // What is written is the derivation's text.
-    ensures written { IfOk result (λ text. (length text.items ≤ text_limit) × Text (parts_of derivation.now) text.items) }
+    ensures written { IfOk result (λ text.
+        (length text.items ≤ text_limit) × Text (parts_of derivation.now) text.items) }
     // A text that isn't too long is written, unless memory runs out.
-    ensures exactly { (bytes : List ℕ) → length bytes ≤ text_limit → Text (parts_of derivation.now) bytes → MatchResult result (λ text. text.items ≡ bytes) (λ e. e ≡ AtermError.Memory) }
+    ensures exactly { (bytes : List ℕ) → length bytes ≤ text_limit
+        → Text (parts_of derivation.now) bytes
+        → MatchResult result (λ text. text.items ≡ bytes) (λ e. e ≡ AtermError.Memory) }
     // When each refusal comes.
     ensures refused { IfErr result (IsUnwritten (parts_of derivation.now)) }
 {
