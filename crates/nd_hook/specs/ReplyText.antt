@@ -6,16 +6,20 @@ use Rattle.nd_hook.specs.declared.kinds.Reply.{Reply}
 use Rattle.nd_hook.specs.declared.kinds.Reply.TheVariants.{Accept, Postpone, Decline, DeclinePermanently}
 
 -- a line with its newline
-abbrev pub line : List ℕ → List ℕ
+unfoldable pub line : List ℕ → List ℕ
 line text = text ++ 10 ∷ []
 
 -- the URI of a machine of the list (past its end: nothing)
 abbrev pub uri_at : List Builder → ℕ → List ℕ
 uri_at machines place = option_map_or (λ machine. machine.uri) (slice_get machines place) []
 
+-- the two lines that accept the machine with this URI
+abbrev pub accept_text : List ℕ → List ℕ
+accept_text uri = line (codes "# accept") ++ line uri
+
 -- the text of a reply
 abbrev pub reply_text : List Builder → Reply → List ℕ
-reply_text machines (Accept place) = line (codes "# accept") ++ line (uri_at machines place)
+reply_text machines (Accept place) = accept_text (uri_at machines place)
 reply_text machines Postpone = line (codes "# postpone")
 reply_text machines Decline = line (codes "# decline")
 reply_text machines DeclinePermanently = line (codes "# decline-permanently")

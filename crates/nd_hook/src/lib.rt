@@ -5,8 +5,10 @@ mod decisions;
 mod kinds;
 mod replies;
 mod told;
+mod writing;
 
 pub use decisions::{decide, decide_in};
 pub use kinds::{Decision, Reply};
 pub use replies::{reply, reply_in};
 pub use told::{Fault, TakeError, Told};
+pub use writing::{WriteError, write_reply};

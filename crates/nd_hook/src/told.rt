@@ -3,6 +3,7 @@
 ghost use Rattle.std.specs.Prelude.{◌≡◌, ℕ, ◌+◌, ◌≤◌, ◌||◌, false, length, is_err, take, vec_len, List, IfOk, OnOk, OnErr};
 ghost use Rattle.std.specs.Io.KnownBytes.{Appends, Consumes, IsAtEnd, Keeps, WriteAppends, ReadConsumes};
 ghost use Rattle.nd_hook.specs.Device.{is_fault_of};
+ghost use Rattle.nd_hook.specs.Written.{WritesPart};
 
 use std::alloc::{AllocError, Global};
 use std::error::Error;
@@ -134,9 +135,10 @@ impl<W: Write> Told<W> {
     ///
     /// `Fault`: the device refused a write. A part of the text, from its beginning, may then be
     /// out, and the mark is set.
+    #[tactic(auto, using(crate::proofs::Pieces::part_taken))]
     pub fn put_all(&mut self, text: &[u8]) -> Result<(), Fault>
         ensures written { OnOk result (Appends (W.contents self.old.device) (W.contents self.new.device) text.now) }
-        ensures partly { OnErr result ((n : ℕ) × Appends (W.contents self.old.device) (W.contents self.new.device) (take n text.now)) }
+        ensures partly { OnErr result (WritesPart (W.contents self.old.device) (W.contents self.new.device) text.now) }
         ensures mark { self.new.is_marked ≡ (self.old.is_marked || is_err result) }
     {
         let mut at = 0;

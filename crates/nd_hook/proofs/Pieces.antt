@@ -1,0 +1,40 @@
+-- A text that is written in pieces, one after the other.
+use Rattle.std.proofs.Common.{◌∙◌, ℕ, List, ◌++◌, Option, sym, ap, append_assoc, take, drop, take-append-drop}
+use Rattle.std.specs.Io.KnownBytes.{Appends}
+use Rattle.std.proofs.KnownBytes.{Appends-trans}
+use Rattle.nd_hook.specs.Written.{WritesPart}
+
+-- the first piece was written in part
+pub part_of_first : (old new : Option (List ℕ)) (text more : List ℕ) → WritesPart old new text → WritesPart old new (text ++ more)
+part_of_first old new text more h = record {
+  part = h.part;
+  rest = h.rest ++ more;
+  whole = ap (λ (l : List ℕ). l ++ more) h.whole ∙ append_assoc h.part h.rest more;
+  written = h.written;
+}
+
+-- one piece was written, and of what follows a part
+pub part_after : (old between new : Option (List ℕ)) (text more : List ℕ) → Appends old between text → WritesPart between new more
+    → WritesPart old new (text ++ more)
+part_after old between new text more whole h = record {
+  part = text ++ h.part;
+  rest = h.rest;
+  whole = ap (λ (l : List ℕ). text ++ l) h.whole ∙ sym (append_assoc text h.part h.rest);
+  written = Appends-trans old between new text h.part whole h.written;
+}
+
+-- a part of a text, said by its length
+pub part_taken : (old new : Option (List ℕ)) (text : List ℕ) (n : ℕ) → Appends old new (take n text) → WritesPart old new text
+part_taken old new text n h = record {
+  part = take n text;
+  rest = drop n text;
+  whole = sym (take-append-drop n text);
+  written = h;
+}
+
+-- one piece after another
+pub written_after : (old between new : Option (List ℕ)) (text more : List ℕ) → Appends old between text → Appends between new more
+    → Appends old new (text ++ more)
+written_after = Appends-trans
+
+pub ruleset writes = (part_of_first, part_after, written_after)
