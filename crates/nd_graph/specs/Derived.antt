@@ -6,7 +6,7 @@ use Rattle.nd_aterm.specs.Derivations.{Text}
 use Rattle.nd_aterm.specs.Texts.{text_limit}
 use Rattle.nd_path.specs.PathSets.{IsRising, HasSameMembers}
 use Rattle.nd_path.specs.TextPaths.{text_path_of}
-use Rattle.nd_graph.specs.Kinds.{has_paths, references}
+use Rattle.nd_graph.specs.Kinds.{has_paths}
 
 -- the text is that of a derivation with these parts, and is not too long
 pub record Spells (text : List ℕ) (parts : Parts) : Type 0 where
@@ -18,10 +18,10 @@ pub record Derives (text : List ℕ) (parts : Parts) : Type 0 where
   pub spells : Spells text parts
   pub paths : has_paths parts ≡ true
 
--- The path of the derivation with this name, this text and these parts: the text path over what the derivation
--- refers to, each path once, in rising byte order.
-pub record IsOwnPath (name text : List ℕ) (parts : Parts) (path : List ℕ) : Type 0 where
+-- The path of a derivation with this name, this text and these references: the text path over the references, each
+-- once, in rising byte order.
+pub record IsOwnPath (name text : List ℕ) (references : List (List ℕ)) (path : List ℕ) : Type 0 where
   pub refs : List (List ℕ)
   pub rising : IsRising refs
-  pub members : HasSameMembers (references parts) refs
+  pub members : HasSameMembers references refs
   pub is : path ≡ text_path_of name refs text

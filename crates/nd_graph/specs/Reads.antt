@@ -5,7 +5,7 @@ use Rattle.nd_aterm.specs.declared.records.InputDrv.{InputDrv}
 use Rattle.nd_aterm.specs.declared.records.Output.{Output}
 use Rattle.nd_aterm.specs.declared.records.Parts.{Parts}
 use Rattle.nd_path.specs.StorePath.{name_of}
-use Rattle.nd_graph.specs.Kinds.{is_drv, knows_outputs}
+use Rattle.nd_graph.specs.Kinds.{is_drv, knows_outputs, references}
 use Rattle.nd_graph.specs.Derived.{Derives, IsOwnPath}
 use Rattle.nd_graph.specs.Attributes.{Needs, AsksNothing}
 use Rattle.nd_graph.specs.declared.line.NamedInput.{NamedInput}
@@ -44,43 +44,53 @@ pub record Tells (text : List ℕ) (parts : Parts) (node : LineNode) : Type 0 wh
   pub known : knows_outputs parts ≡ true
   pub has : HasParts parts node
 
--- What the line says; with the check its path is the one that the derivation's text has.
+-- The node of the derivation with this path and this text; with the check the path is the one that the text has.
+pub record IsNode (check : Bool) (path text : List ℕ) (node : LineNode) : Type 0 where
+  pub parts : Parts
+  pub path_is : node.path ≡ path
+  pub tells : Tells text parts node
+  pub own : check ≡ true → IsOwnPath (name_of path) text (references parts) path
+
+-- What the line says.
 pub record IsLine (check : Bool) (line : List ℕ) (node : LineNode) : Type 0 where
   pub text : List ℕ
-  pub parts : Parts
   pub splits : Splits line text
-  pub path : node.path ≡ front line
-  pub tells : Tells text parts node
-  pub own : check ≡ true → IsOwnPath (name_of node.path) text parts node.path
+  pub is_node : IsNode check (front line) text node
 
--- When the text is refused: it is no derivation's; an output isn't known; its structured attributes say nothing.
-abbrev pub IsBadText : List ℕ → LineFault → Type 0
-IsBadText text BadLine = ⊥
-IsBadText text BadPath = ⊥
-IsBadText text BadDerivation = (parts : Parts) → Derives text parts → ⊥
-IsBadText text UnknownOutput = (parts : Parts) × Derives text parts × (knows_outputs parts ≡ false)
-IsBadText text BadAttribute = (parts : Parts) × Derives text parts × (knows_outputs parts ≡ true) × AsksNothing parts.env
-IsBadText text WrongPath = ⊥
-IsBadText text Memory = Unit {0}
-
--- the line's path isn't the one that the derivation's text has
-pub record IsElsewhere (line text : List ℕ) (node : LineNode) : Type 0 where
+-- the text tells of a node, whose path is another one
+pub record IsElsewhere (path text : List ℕ) : Type 0 where
   pub parts : Parts
-  pub own : List ℕ
-  pub path : node.path ≡ front line
+  pub node : LineNode
   pub tells : Tells text parts node
-  pub is_own : IsOwnPath (name_of (front line)) text parts own
-  pub differs : own ≡ front line → ⊥
+  pub own : List ℕ
+  pub is_own : IsOwnPath (name_of path) text (references parts) own
+  pub differs : own ≡ path → ⊥
 
--- When the line is refused with which refusal. The causes exclude one another, the earlier one first. Want of
--- memory may come at any point.
+-- When the text behind a path is refused: it is no derivation's; an output isn't known; its structured attributes
+-- say nothing; with the check, its path is another one. The causes exclude one another, the earlier one first.
+abbrev pub IsBad : Bool → List ℕ → List ℕ → LineFault → Type 0
+IsBad check path text BadLine = ⊥
+IsBad check path text BadPath = ⊥
+IsBad check path text BadDerivation = (parts : Parts) → Derives text parts → ⊥
+IsBad check path text UnknownOutput = (parts : Parts) × Derives text parts × (knows_outputs parts ≡ false)
+IsBad check path text BadAttribute = (parts : Parts) × Derives text parts × (knows_outputs parts ≡ true) × AsksNothing parts.env
+IsBad check path text WrongPath = (check ≡ true) × IsElsewhere path text
+IsBad check path text Memory = Unit {0}
+
+-- the line splits, and its text is refused
+pub record IsBadText (check : Bool) (line : List ℕ) (fault : LineFault) : Type 0 where
+  pub text : List ℕ
+  pub splits : Splits line text
+  pub is_bad : IsBad check (front line) text fault
+
+-- When the line is refused with which refusal. Want of memory may come at any point.
 abbrev pub IsFaulty : Bool → List ℕ → LineFault → Type 0
 IsFaulty check line BadLine = back line ≡ None
 IsFaulty check line BadPath = (text : List ℕ) × (back line ≡ Some text) × (is_drv (front line) ≡ false)
-IsFaulty check line BadDerivation = (text : List ℕ) × Splits line text × IsBadText text BadDerivation
-IsFaulty check line UnknownOutput = (text : List ℕ) × Splits line text × IsBadText text UnknownOutput
-IsFaulty check line BadAttribute = (text : List ℕ) × Splits line text × IsBadText text BadAttribute
-IsFaulty check line WrongPath = (check ≡ true) × ((text : List ℕ) × (node : LineNode) × Splits line text × IsElsewhere line text node)
+IsFaulty check line BadDerivation = IsBadText check line BadDerivation
+IsFaulty check line UnknownOutput = IsBadText check line UnknownOutput
+IsFaulty check line BadAttribute = IsBadText check line BadAttribute
+IsFaulty check line WrongPath = IsBadText check line WrongPath
 IsFaulty check line Memory = Unit {0}
 
 -- What reading a line answers.

@@ -85,6 +85,7 @@ pub(crate) fn sources_of(
 }
 
 /// The outputs of a derivation.
+#[derive(Drop)]
 pub(crate) struct Outputs {
     /// The names.
     pub(crate) names: Items<ByteString>,

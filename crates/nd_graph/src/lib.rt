@@ -2,11 +2,15 @@
 //! that it needs, and an order in which every node stands after its inputs.
 #![tactic(auto)]
 
+mod attributes;
+mod collect;
+mod derived;
 pub mod fault;
 pub mod graph;
 mod kinds;
 pub mod line;
 mod order;
+mod reading;
 pub mod refusal;
 mod structured;
 

@@ -1,0 +1,115 @@
+//! The derivation of a text, and the path that its text has.
+
+ghost use Rattle.std.specs.Prelude.{◌≡◌, ℕ, List, ◌++◌, map, true, IfOk, IfErr};
+ghost use Rattle.nd_aterm.specs.declared.records.Parts.{Parts};
+ghost use Rattle.nd_aterm.specs.Texts.{parts_of};
+ghost use Rattle.nd_path.specs.StorePath.{is_name};
+ghost use Rattle.nd_path.specs.PathSets.{IsRising, HasSameMembers};
+ghost use Rattle.nd_graph.specs.Derived.{Spells, Derives, IsOwnPath};
+ghost use Rattle.nd_graph.specs.Found.{HasContents, path_of};
+ghost use Rattle.nd_graph.specs.Refused.{NotPaths, WantsMemory};
+
+use crate::kinds::{Outputs, inputs_of, outputs_of, sources_of};
+use crate::line::NamedInput;
+use crate::refusal::LineFault;
+use nd_aterm::{AtermError, Derivation, EnvEntry, parse};
+use nd_bytes::{ByteString, Items};
+use nd_path::{PathError, PathSet, StorePath, text_path};
+use std::alloc::{AllocError, Global};
+
+/// What a derivation text says.
+#[derive(Drop)]
+pub(crate) struct Contents {
+    /// The input derivations.
+    pub(crate) inputs: Items<NamedInput>,
+    /// The input sources.
+    pub(crate) sources: Items<StorePath>,
+    /// The outputs.
+    pub(crate) outputs: Outputs,
+    /// The platform.
+    pub(crate) platform: ByteString,
+    /// The builder.
+    pub(crate) builder: ByteString,
+    /// The environment.
+    pub(crate) env: Items<EnvEntry>,
+}
+
+/// What the text of a derivation says, whose paths are of their kinds.
+pub(crate) fn contents_of(alloc: Global, text: &[u8]) -> Result<Contents, LineFault>
+    ensures found { IfOk result (λ contents. (parts : Parts) × Derives text.now parts × HasContents parts contents) }
+    ensures err { IfErr result (λ fault. NotPaths fault ((parts : Parts) → Derives text.now parts → ⊥)) }
+{
+    let Derivation {
+        outputs,
+        input_drvs,
+        input_srcs,
+        platform,
+        builder,
+        args: _,
+        env,
+    } = derivation_of(alloc, text)?;
+    let inputs = inputs_of(alloc, input_drvs)?;
+    let sources = sources_of(alloc, input_srcs.as_slice())?;
+    let outputs = outputs_of(alloc, outputs)?;
+    Ok(Contents {
+        inputs,
+        sources,
+        outputs,
+        platform,
+        builder,
+        env,
+    })
+}
+
+/// The derivation of a text.
+fn derivation_of(alloc: Global, text: &[u8]) -> Result<Derivation, LineFault>
+    ensures found { IfOk result (λ derivation. Spells text.now (parts_of derivation)) }
+    ensures once { (parts : Parts) → Spells text.now parts
+        → IfOk result (λ derivation. parts_of derivation ≡ parts) }
+    ensures err { IfErr result (λ fault. NotPaths fault ((parts : Parts) → Spells text.now parts → ⊥)) }
+{
+    match parse(alloc, text) {
+        Ok(derivation) => Ok(derivation),
+        Err(AtermError::Memory) => Err(LineFault::Memory),
+        Err(_) => Err(LineFault::BadDerivation),
+    }
+}
+
+/// The path of the derivation with this name, this text and these inputs and sources.
+pub(crate) fn own_path(
+    alloc: Global,
+    name: &[u8],
+    inputs: &[NamedInput],
+    sources: &[StorePath],
+    text: &[u8],
+) -> Result<StorePath, LineFault>
+    requires { is_name name.now ≡ true }
+    ensures own { IfOk result (IsOwnPath name.now text.now (sources.now ++ map path_of inputs.now)) }
+    ensures err { IfErr result WantsMemory }
+{
+    let refs = references_of(alloc, inputs, sources)?;
+    match text_path(alloc, name, refs.as_slice(), text) {
+        Ok(path) => Ok(path),
+        Err(PathError::Memory) => Err(LineFault::Memory),
+        Err(_) => unreachable!(),
+    }
+}
+
+/// The sources and the paths of the inputs as a set.
+fn references_of(
+    alloc: Global,
+    inputs: &[NamedInput],
+    sources: &[StorePath],
+) -> Result<PathSet, AllocError>
+    ensures members { IfOk result (HasSameMembers (sources.now ++ map path_of inputs.now)) }
+    ensures rising { IfOk result IsRising }
+{
+    let mut paths = Vec::new(alloc);
+    for source in sources {
+        paths.push(source.try_clone()?)?;
+    }
+    for input in inputs {
+        paths.push(input.path.try_clone()?)?;
+    }
+    PathSet::from_vec(paths)
+}

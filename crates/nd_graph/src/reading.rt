@@ -1,0 +1,105 @@
+//! Reading a line of a bundle.
+
+ghost use Rattle.std.specs.Prelude.{◌≡◌, false, IfOk, IfErr, OnOk};
+ghost use Rattle.nd_aterm.specs.declared.records.Parts.{Parts};
+ghost use Rattle.nd_graph.specs.Found.{IsOwnPathOf, IsAnother};
+ghost use Rattle.nd_graph.specs.Reads.{Tells, IsNode, IsBad, Reads};
+
+use crate::attributes::need_of;
+use crate::derived::{Contents, contents_of, own_path};
+use crate::kinds::{Outputs, drv_store_path};
+use crate::line::LineNode;
+use crate::refusal::LineFault;
+use nd_bytes::cut;
+use nd_path::StorePath;
+use std::alloc::Global;
+
+/// What a line says. With `check` its path has to be the one that its derivation's text has.
+///
+/// Refuses with the first of `BadLine`, `BadPath`, `BadDerivation`, `UnknownOutput`, `BadAttribute`
+/// and, with `check`, `WrongPath` that the line gives cause for, and with `Memory` where an
+/// allocation is refused.
+#[tactic(auto, using(crate::proofs::Sayings::lines))]
+pub(crate) fn read_line(alloc: Global, line: &[u8], check: bool) -> Result<LineNode, LineFault>
+    ensures { Reads check line.now result }
+{
+    let (front, back) = cut(line, b' ');
+    let Some(text) = back else {
+        return Err(LineFault::BadLine);
+    };
+    let Some(path) = drv_store_path(alloc, front)? else {
+        return Err(LineFault::BadPath);
+    };
+    read_text(alloc, path, text, check)
+}
+
+/// What the text behind a derivation's path says. With `check` the path has to be the one that the
+/// text has.
+#[tactic(auto, using(crate::proofs::Sayings::checks))]
+fn read_text(
+    alloc: Global,
+    path: StorePath,
+    text: &[u8],
+    check: bool,
+) -> Result<LineNode, LineFault>
+    ensures ok { IfOk result (IsNode check path text.now) }
+    ensures err { IfErr result (IsBad check path text.now) }
+{
+    let node = node_of(alloc, path, text)?;
+    if check {
+        check_path(alloc, &node, text)?;
+    }
+    Ok(node)
+}
+
+/// Whether the node's path is the one that its text has.
+fn check_path(alloc: Global, node: &LineNode, text: &[u8]) -> Result<(), LineFault>
+    ensures ok { OnOk result (IsOwnPathOf node.now text.now node.now.path) }
+    ensures err { IfErr result (IsAnother node.now text.now) }
+{
+    let inputs = node.inputs.as_slice();
+    let own = own_path(
+        alloc,
+        node.path.name(),
+        inputs,
+        node.sources.as_slice(),
+        text,
+    )?;
+    if own != node.path {
+        return Err(LineFault::WrongPath);
+    }
+    Ok(())
+}
+
+/// The node of the derivation with this path and this text.
+fn node_of(alloc: Global, path: StorePath, text: &[u8]) -> Result<LineNode, LineFault>
+    ensures path { IfOk result (λ node. node.path ≡ path) }
+    ensures tells { IfOk result (λ node. (parts : Parts) × Tells text.now parts node) }
+    ensures err { IfErr result (IsBad false path text.now) }
+{
+    let Contents {
+        inputs,
+        sources,
+        outputs,
+        platform,
+        builder,
+        env,
+    } = contents_of(alloc, text)?;
+    let Outputs {
+        names,
+        paths,
+        known,
+    } = outputs;
+    if !known {
+        return Err(LineFault::UnknownOutput);
+    }
+    let need = need_of(alloc, platform, builder.as_slice(), env.as_slice())?;
+    Ok(LineNode {
+        path,
+        need,
+        inputs,
+        sources,
+        output_names: names,
+        outputs: paths,
+    })
+}
