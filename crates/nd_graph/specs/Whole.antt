@@ -6,7 +6,7 @@ use Rattle.nd_graph.specs.declared.line.NamedInput.{NamedInput}
 use Rattle.nd_graph.specs.declared.line.LineNode.{LineNode}
 use Rattle.nd_graph.specs.declared.graph.Input.{Input}
 use Rattle.nd_graph.specs.declared.fault.GraphError.{GraphError}
-use Rattle.nd_graph.specs.declared.fault.GraphError.TheVariants.{BadLine, BadPath, BadDerivation, UnknownOutput, BadAttribute, WrongPath, Duplicate, MissingInput, MissingOutput, Cycle, TooMany, Memory}
+use Rattle.nd_graph.specs.declared.fault.GraphError.TheVariants.{Duplicate, MissingInput, MissingOutput, Cycle, TooMany, Memory}
 use Rattle.nd_graph.specs.Graphs.{Nodes, needed, node_limit}
 use Rattle.nd_graph.specs.Orders.{IsCyclic}
 use Rattle.nd_graph.specs.Walks.{AreDistinct, IsAcyclic}
