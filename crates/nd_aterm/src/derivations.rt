@@ -27,8 +27,14 @@ pub struct Derivation {
     /// The builder's environment, by key.
     pub env: Items<EnvEntry>,
     pub ghost ordered: { in_order (record {
-        outputs = outputs; input_drvs = input_drvs; input_srcs = input_srcs; platform = platform;
-        builder = builder; args = args; env = env }) ≡ true },
+      outputs = outputs;
+      input_drvs = input_drvs;
+      input_srcs = input_srcs;
+      platform = platform;
+      builder = builder;
+      args = args;
+      env = env;
+    }) ≡ true },
 }
 
 impl Derivation {
