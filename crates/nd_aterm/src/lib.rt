@@ -1,6 +1,8 @@
 //! The texts of store derivations.
 //!
-//! A derivation text is the ATerm form in which Nix stores a derivation.
+//! A derivation text is the ATerm form in which Nix stores a derivation (Nix Reference Manual,
+//! Derivation "ATerm" file format). [`parse`] reads exactly these texts, [`write`] gives the one text of
+//! a derivation, and [`laws`] says that no text begins another.
 #![tactic(auto)]
 
 mod derivations;

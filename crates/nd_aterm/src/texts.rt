@@ -55,16 +55,17 @@ fn parts_at(alloc: Global, bytes: &[u8]) -> Result<(Parts, &[u8]), AtermError>
     Ok((parts, rest))
 }
 
-/// Reads a derivation text, in one pass. Whatever the bytes are, the derivation is the one whose text
-/// they are; refusals, first to last, `Memory` at any point:
+/// Reads a derivation text, in one pass, and gives the derivation whose text the bytes are. Refusals,
+/// first to last, `Memory` at any point:
 ///
 /// 1. `TooLong`: there are more than 16,777,216 bytes.
 /// 2. `NotDerivation`: no derivation has this text, in whatever order its lists stand.
 /// 3. `Order`: it would be a derivation's text, but one of its lists doesn't strictly rise.
 /// 4. `Memory`: there was no memory left.
 ///
-/// The form is the ATerm form of the Nix Reference Manual ("Derivation "ATerm" file format"), read as
-/// Nix writes it and in no other spelling.
+/// The form is that of the Nix Reference Manual (Derivation "ATerm" file format), and only one spelling
+/// is read. It is the one that Nix writes where platform, builder, paths, names and hash fields hold no
+/// quote, backslash, newline, return or tab; elsewhere it is this project's own choice.
 #[tactic(auto, using(crate::specs::DerivationsOnce::derivation_once))]
 pub fn parse(alloc: Global, bytes: &[u8]) -> Result<Derivation, AtermError>
     // What is read has this text.
