@@ -1,2 +1,7 @@
+pub mod Books
+pub mod BooksKept
+pub mod Choices
 pub mod History
+pub mod Kept
+pub mod Premises
 pub mod Standing

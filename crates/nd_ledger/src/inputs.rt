@@ -4,6 +4,7 @@ use nd_bytes::Items;
 use nd_eligible::Local;
 use nd_graph::Graph;
 use nd_machines::Machine;
+use nd_path::{PathSet, StorePath};
 
 /// The inputs of a dispatch. They are fixed from its making on.
 #[derive(Drop, Debug)]
@@ -14,6 +15,8 @@ pub struct Inputs {
     pub machines: Items<Machine>,
     /// The settings of the local machine, which is machine 0.
     pub local: Local,
+    /// The paths that are listed with their references.
+    pub info: Items<(StorePath, PathSet)>,
     /// Whether the rest goes on after a failure.
     pub keep_going: bool,
 }

@@ -4,6 +4,9 @@
 pub mod entry;
 pub mod inputs;
 pub mod refs;
+mod tables;
+mod book;
+mod finding;
 
 pub use entry::{Entry, Ticket, Why};
 pub use inputs::Inputs;
