@@ -10,10 +10,12 @@ use Rattle.nd_path.specs.StorePath.{name_of}
 use Rattle.nd_eligible.specs.declared.need.Need.{Need}
 use Rattle.nd_graph.specs.Attributes.{Asks, Needs, structured}
 use Rattle.nd_graph.specs.Derived.{Derives, IsOwnPath}
+use Rattle.nd_graph.specs.DrvPaths.{is_drv_name, IsDrvPath}
 use Rattle.nd_graph.specs.Found.{HasContents, path_of, IsOwnPathOf, HasAnother, IsAnother}
 use Rattle.nd_graph.specs.Kinds.{is_drv, is_known, references}
 use Rattle.nd_graph.specs.Reads.{front, back, Splits, named, Tells, IsNode, IsLine, IsBad, IsBadText, IsElsewhere, IsFaulty, Reads}
 use Rattle.nd_graph.specs.declared.derived.Contents.{Contents}
+use Rattle.nd_graph.specs.declared.line.NamedInput.{NamedInput}
 use Rattle.nd_graph.specs.declared.line.LineNode.{LineNode}
 use Rattle.nd_graph.specs.declared.refusal.LineFault.{LineFault}
 use Rattle.nd_graph.specs.declared.refusal.LineFault.TheVariants.{BadLine, BadPath, BadDerivation, UnknownOutput, BadAttribute, WrongPath, Memory}
@@ -145,3 +147,13 @@ line_read check line before text path (Ok node) before_is text_is drv path_is is
 line_read check line before text path (Err fault) before_is text_is drv path_is is_node bad = bad_line check line before text fault before_is text_is drv (subst (λ (p : List ℕ). IsBad check p text fault) path_is bad)
 
 pub ruleset lines = (line_read)
+
+-- a path over the contents that were found is one over the parts
+pub drv_path_of : (name text path : List ℕ) (inputs : List NamedInput) (sources : List (List ℕ)) (contents : Contents) → is_drv_name name ≡ true → ((parts : Parts) × Derives text parts × HasContents parts contents) → inputs ≡ contents.inputs → sources ≡ contents.sources
+    → IsOwnPath name text (sources ++ map path_of inputs) path → IsDrvPath name text path
+drv_path_of name text path inputs sources contents named found inputs_are sources_are own =
+    let parts = found.0 in
+    let has : HasContents parts contents = found.2 in
+    let same : sources ++ map path_of inputs ≡ references parts =
+    ap (λ (s : List (List ℕ)). s ++ map path_of inputs) (sources_are ∙ has.sources) ∙ ap (λ (p : List (List ℕ)). parts.input_srcs ++ p) (ap (map path_of) (inputs_are ∙ has.inputs) ∙ same_paths parts.input_drvs) in
+    record { parts = parts; named = named; derives = found.1; own = subst (λ (refs : List (List ℕ)). IsOwnPath name text refs path) same own }

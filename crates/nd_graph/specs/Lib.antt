@@ -1,10 +1,12 @@
 pub mod Attributes
 pub mod Derived
+pub mod DrvPaths
 pub mod Found
 pub mod Graphs
-pub mod Orders
 pub mod Kinds
 pub mod Lines
+pub mod Numbered
+pub mod Orders
 pub mod Reads
 pub mod Refused
 pub mod Stages

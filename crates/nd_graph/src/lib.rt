@@ -5,6 +5,7 @@
 mod attributes;
 mod collect;
 mod derived;
+pub mod drv_paths;
 pub mod fault;
 pub mod graph;
 mod kinds;
@@ -14,6 +15,7 @@ mod reading;
 pub mod refusal;
 mod structured;
 
+pub use drv_paths::drv_path;
 pub use fault::GraphError;
 pub use graph::{Graph, Input};
 pub use line::{LineNode, NamedInput};

@@ -1,5 +1,6 @@
 //! Why a line of a bundle is refused.
 
+use crate::fault::GraphError;
 use std::alloc::{AllocError, AllocFailed};
 use std::error::Error;
 use std::fmt::{self, Display, Formatter, Write};
@@ -22,6 +23,26 @@ pub enum LineFault {
     WrongPath,
     /// No memory was to be had.
     Memory,
+}
+
+impl LineFault {
+    ghost use Rattle.std.specs.Prelude.{◌≡◌};
+    ghost use Rattle.nd_graph.specs.Numbered.{fault_at};
+
+    /// The refusal of a bundle whose line with this number is refused so.
+    pub fn at(self, line: usize) -> GraphError
+        ensures { result ≡ fault_at self line }
+    {
+        match self {
+            LineFault::BadLine => GraphError::BadLine(line),
+            LineFault::BadPath => GraphError::BadPath(line),
+            LineFault::BadDerivation => GraphError::BadDerivation(line),
+            LineFault::UnknownOutput => GraphError::UnknownOutput(line),
+            LineFault::BadAttribute => GraphError::BadAttribute(line),
+            LineFault::WrongPath => GraphError::WrongPath(line),
+            LineFault::Memory => GraphError::Memory,
+        }
+    }
 }
 
 impl From<AllocError> for LineFault {
