@@ -3,7 +3,7 @@
 ghost use Rattle.std.specs.Prelude.{◌≡◌};
 ghost use Rattle.nd_path.specs.declared.path_error.PathError.TheVariants.{Memory};
 
-use std::alloc::AllocError;
+use std::alloc::{AllocError, AllocFailed};
 use std::error::Error;
 use std::fmt;
 
@@ -37,6 +37,14 @@ impl From<AllocError> for PathError {
     ghost from_gives = { λ _ e. e ≡ Memory };
 
     fn from(_error: AllocError) -> PathError {
+        PathError::Memory
+    }
+}
+
+impl<T: Drop> From<AllocFailed<T>> for PathError {
+    ghost from_gives = { λ _ e. e ≡ Memory };
+
+    fn from(_error: AllocFailed<T>) -> PathError {
         PathError::Memory
     }
 }

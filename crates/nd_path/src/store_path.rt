@@ -53,6 +53,7 @@ impl StorePath {
     #[tactic(auto, using(crate::proofs::Spelling::spelled))]
     pub fn parse(alloc: Global, bytes: &[u8]) -> Result<StorePath, PathError>
         ensures found { IfOk result (λ p. p ≡ bytes.now) }
+        ensures path { IfOk result IsPath }
         ensures spelled { IfOk result IsSpelled }
         ensures refused { IfErr result (IsRefused bytes.now) }
         ensures taken { IsSpelled bytes.now → IfErr result (λ e. e ≡ PathError.Memory) }

@@ -1,0 +1,7 @@
+pub mod Members
+pub mod Additions
+pub mod Searches
+pub mod Differences
+pub mod Stocks
+pub mod Words
+pub mod Texts

@@ -1,0 +1,5 @@
+pub mod Tables
+pub mod Closures
+pub mod Sets
+pub mod Info
+pub mod Lines
