@@ -1,8 +1,11 @@
 mod Collecting
 mod Cutting
+pub mod Distinct
+pub mod Linked
 pub mod Numbers
 pub mod Rows
 mod Sayings
 pub mod Searching
 mod Strings
 pub mod Walked
+pub mod Zipped

@@ -8,6 +8,7 @@ use Rattle.nd_graph.specs.Orders.{IsCyclic, input_count, left_of, IsNew, IsOpen,
 use Rattle.nd_graph.specs.Walks.{inputs_of, Walk, IsOrder, IsRising, AreDistinct, AreInRange}
 use Rattle.nd_graph.specs.Graphs.{needed}
 use Rattle.nd_graph.specs.declared.graph.Input.{Input}
+use Rattle.nd_graph.proofs.Distinct.{distinct_push, distinct_front, distinct_last}
 use Rattle.nd_graph.proofs.Rows.{rows_length, row_length}
 use Rattle.nd_graph.proofs.Walked.{walk_on}
 
@@ -28,37 +29,6 @@ set_lower xs i v lt low d =
           omega (arith, at.1)
       | inr other ↦ omega (arith, other.1)
     ]
-
--- one more that isn't there keeps the items distinct
-pub distinct_push : (xs : List ℕ) (x : ℕ) → AreDistinct xs → (Contains xs x → ⊥) → AreDistinct (xs ++ x ∷ [])
-distinct_push xs x distinct fresh = record {
-  apart = λ j k d lt inside same.
-      let long : length (xs ++ x ∷ []) ≡ length xs + 1 = length_push xs x in
-      let low : j < length xs = omega arith in
-      let left : get_or (xs ++ x ∷ []) j d ≡ get_or xs j d = get_or_append_left xs (x ∷ []) d j low in
-      elim (cases_lt k (length xs)) [
-        | inl inner ↦ distinct.apart j k d lt inner (sym left ∙ same ∙ get_or_append_left xs (x ∷ []) d k inner)
-        | inr past ↦
-            let last : length xs ≡ k = omega arith in
-            let at : get_or xs j d ≡ x = sym left ∙ same ∙ get_or_at xs x [] d k last in
-            fresh (subst (λ (y : ℕ). Contains xs y) at (Contains-get_or xs j d low))
-      ];
-}
-
--- the front of distinct items is distinct, and has not the last
-pub distinct_front : (xs : List ℕ) (x : ℕ) → AreDistinct (xs ++ x ∷ []) → AreDistinct xs
-distinct_front xs x distinct = record {
-  apart = λ j k d lt inside same.
-      let long : length (xs ++ x ∷ []) ≡ length xs + 1 = length_push xs x in
-      distinct.apart j k d lt (omega arith)
-      (get_or_append_left xs (x ∷ []) d j (omega arith) ∙ same ∙ sym (get_or_append_left xs (x ∷ []) d k inside));
-}
-
-pub distinct_last : (xs : List ℕ) (x : ℕ) → AreDistinct (xs ++ x ∷ []) → Contains xs x → ⊥
-distinct_last xs x distinct at =
-    let long : length (xs ++ x ∷ []) ≡ length xs + 1 = length_push xs x in
-    distinct.apart at.0 (length xs) x at.1 (omega arith)
-    (get_or_append_left xs (x ∷ []) x at.0 at.1 ∙ at.2 ∙ sym (get_or_at xs x [] x (length xs) refl))
 
 -- one more node, whose inputs all stand in the order, keeps the order rising
 pub rising_push : (rows : List (List ℕ)) (order : List ℕ) (x : ℕ) → IsRising rows order → ((c : ℕ) → Contains (inputs_of rows x) c → Contains order c) → IsRising rows (order ++ x ∷ [])

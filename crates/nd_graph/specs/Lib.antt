@@ -1,4 +1,5 @@
 pub mod Attributes
+pub mod Columned
 pub mod Derived
 pub mod DrvPaths
 pub mod Found
@@ -6,6 +7,7 @@ pub mod Graphs
 pub mod Kinds
 pub mod Lines
 pub mod Numbered
+pub mod Numbering
 pub mod Orders
 pub mod Reads
 pub mod Refused

@@ -44,77 +44,117 @@ pub record LacksInput (paths : List (List ℕ)) (wants : List NamedInput) : Type
   pub missing : Contains paths want.path → ⊥
 
 -- the first line with an input derivation that has no line
-pub record IsMissingInput (links : Links) (line : ℕ) : Type 0 where
+pub record IsMissingInput (paths : List (List ℕ)) (wants : List (List NamedInput)) (line : ℕ) : Type 0 where
   pub place : ℕ
-  pub within : place < length links.wants
-  pub before : (d : ℕ) → d < place → HasInputs links.paths (slice_index_or links.wants d [])
-  pub lacks : LacksInput links.paths (slice_index_or links.wants place [])
+  pub within : place < length wants
+  pub before : (d : ℕ) → d < place → HasInputs paths (slice_index_or wants d [])
+  pub lacks : LacksInput paths (slice_index_or wants place [])
   pub number : line ≡ place + 1
 
-abbrev pub AllInputsThere : Links → Type 0
-AllInputsThere links = (d : ℕ) → HasInputs links.paths (slice_index_or links.wants d [])
+-- each input derivation of each line has a line
+pub record AreInputsThere (paths : List (List ℕ)) (wants : List (List NamedInput)) : Type 0 where
+  pub there : (d : ℕ) → d < length wants → HasInputs paths (slice_index_or wants d [])
+
+-- the derivation with this path has an output of this name
+pub record HasOutput (paths : List (List ℕ)) (names : List (List (List ℕ))) (path name : List ℕ) : Type 0 where
+  pub node : ℕ
+  pub within : node < length paths
+  pub is : slice_index_or paths node [] ≡ path
+  pub has : Contains (slice_index_or names node []) name
 
 -- each output that is named of an input derivation is one of it
-pub record HasOutputs (links : Links) (wants : List NamedInput) : Type 0 where
-  pub there : (w : NamedInput) (name : List ℕ) (i : ℕ) → Contains wants w → Contains w.names name → i < length links.paths → slice_index_or links.paths i [] ≡ w.path → Contains (slice_index_or links.names i []) name
+pub record HasOutputs (paths : List (List ℕ)) (names : List (List (List ℕ))) (wants : List NamedInput) : Type 0 where
+  pub there : (w : NamedInput) (name : List ℕ) → Contains wants w → Contains w.names name → HasOutput paths names w.path name
 
--- some output that is named of an input derivation is none of it
-pub record LacksOutput (links : Links) (wants : List NamedInput) : Type 0 where
-  pub want : NamedInput
+-- some output that is named of this input derivation is none of it
+pub record LacksName (paths : List (List ℕ)) (names : List (List (List ℕ))) (want : NamedInput) : Type 0 where
   pub name : List ℕ
   pub node : ℕ
-  pub asked : Contains wants want
   pub named : Contains want.names name
-  pub within : node < length links.paths
-  pub is : slice_index_or links.paths node [] ≡ want.path
-  pub missing : Contains (slice_index_or links.names node []) name → ⊥
+  pub within : node < length paths
+  pub is : slice_index_or paths node [] ≡ want.path
+  pub missing : Contains (slice_index_or names node []) name → ⊥
+
+-- some output that is named of an input derivation is none of it
+pub record LacksOutput (paths : List (List ℕ)) (names : List (List (List ℕ))) (wants : List NamedInput) : Type 0 where
+  pub want : NamedInput
+  pub asked : Contains wants want
+  pub lacks : LacksName paths names want
 
 -- the first line that names an output that its input derivation doesn't have
-pub record IsMissingOutput (links : Links) (line : ℕ) : Type 0 where
+pub record IsMissingOutput (paths : List (List ℕ)) (names : List (List (List ℕ))) (wants : List (List NamedInput)) (line : ℕ) : Type 0 where
   pub place : ℕ
-  pub within : place < length links.wants
-  pub before : (d : ℕ) → d < place → HasOutputs links (slice_index_or links.wants d [])
-  pub lacks : LacksOutput links (slice_index_or links.wants place [])
+  pub within : place < length wants
+  pub before : (d : ℕ) → d < place → HasOutputs paths names (slice_index_or wants d [])
+  pub lacks : LacksOutput paths names (slice_index_or wants place [])
   pub number : line ≡ place + 1
 
-abbrev pub AllOutputsThere : Links → Type 0
-AllOutputsThere links = (d : ℕ) → HasOutputs links (slice_index_or links.wants d [])
+-- each output that is named on a line is one of the derivation that it is named of
+pub record AreOutputsThere (paths : List (List ℕ)) (names : List (List (List ℕ))) (wants : List (List NamedInput)) : Type 0 where
+  pub there : (d : ℕ) → d < length wants → HasOutputs paths names (slice_index_or wants d [])
 
--- the place is that of the name
-abbrev pub IsAt : List (List ℕ) → List ℕ → ℕ → Type 0
-IsAt names name place = (place < length names) × (slice_index_or names place [] ≡ name)
+-- the place is that of the item
+pub record IsAt (items : List (List ℕ)) (item : List ℕ) (place : ℕ) : Type 0 where
+  pub within : place < length items
+  pub is : slice_index_or items place [] ≡ item
+
+-- the places are those of the wanted items
+pub record ArePlaces (items wanted : List (List ℕ)) (places : List ℕ) : Type 0 where
+  pub each : AllZip (IsAt items) wanted places
 
 -- an input by number: the node is that of the path, the places are those of the names
-pub record IsNumbered (links : Links) (want : NamedInput) (input : Input) : Type 0 where
-  pub node : IsAt links.paths want.path input.node
-  pub outputs : AllZip (IsAt (slice_index_or links.names input.node [])) want.names input.outputs
+pub record IsNumbered (paths : List (List ℕ)) (names : List (List (List ℕ))) (want : NamedInput) (input : Input) : Type 0 where
+  pub node : IsAt paths want.path input.node
+  pub outputs : ArePlaces (slice_index_or names input.node []) want.names input.outputs
 
 -- the inputs of a node by number
-abbrev pub AreNumbered : Links → List NamedInput → List Input → Type 0
-AreNumbered links wants inputs = AllZip (IsNumbered links) wants inputs
+pub record AreNumbered (paths : List (List ℕ)) (names : List (List (List ℕ))) (wants : List NamedInput) (inputs : List Input) : Type 0 where
+  pub each : AllZip (IsNumbered paths names) wants inputs
 
 -- the inputs of all nodes by number
-abbrev pub AllNumbered : Links → List (List Input) → Type 0
-AllNumbered links inputs = AllZip (AreNumbered links) links.wants inputs
+pub record AllNumbered (paths : List (List ℕ)) (names : List (List (List ℕ))) (wants : List (List NamedInput)) (inputs : List (List Input)) : Type 0 where
+  pub each : AllZip (AreNumbered paths names) wants inputs
 
--- no refusal of a lower number stands
-abbrev pub IsLinked : Links → Type 0
-IsLinked links = AreDistinct links.paths × AllInputsThere links × AllOutputsThere links
+-- every path stands once, and every input and output that is named is there
+pub record IsLinked (links : Links) : Type 0 where
+  pub distinct : AreDistinct links.paths
+  pub inputs : AreInputsThere links.paths links.wants
+  pub outputs : AreOutputsThere links.paths links.names links.wants
+
+-- some derivation needs itself
+pub record IsCycle (links : Links) : Type 0 where
+  pub linked : IsLinked links
+  pub inputs : List (List Input)
+  pub numbered : AllNumbered links.paths links.names links.wants inputs
+  pub cyclic : IsCyclic (needed inputs)
+
+-- there are too many derivations, none of which needs itself
+pub record IsTooMany (links : Links) : Type 0 where
+  pub linked : IsLinked links
+  pub inputs : List (List Input)
+  pub numbered : AllNumbered links.paths links.names links.wants inputs
+  pub acyclic : IsAcyclic (needed inputs)
+  pub many : node_limit < length links.paths
 
 -- When the nodes are no graph, with the first cause. Want of memory may come at any point.
 abbrev pub IsWholeFault : Links → GraphError → Type 0
 IsWholeFault links (Duplicate line) = IsRepeat links.paths line
-IsWholeFault links (MissingInput line) = AreDistinct links.paths × IsMissingInput links line
-IsWholeFault links (MissingOutput line) = AreDistinct links.paths × AllInputsThere links × IsMissingOutput links line
-IsWholeFault links Cycle = IsLinked links × ((inputs : List (List Input)) × AllNumbered links inputs × IsCyclic (needed inputs))
-IsWholeFault links TooMany = IsLinked links × ((inputs : List (List Input)) × AllNumbered links inputs × IsAcyclic (needed inputs)) × (node_limit < length links.paths)
+IsWholeFault links (MissingInput line) = AreDistinct links.paths × IsMissingInput links.paths links.wants line
+IsWholeFault links (MissingOutput line) = AreDistinct links.paths × AreInputsThere links.paths links.wants × IsMissingOutput links.paths links.names links.wants line
+IsWholeFault links Cycle = IsCycle links
+IsWholeFault links TooMany = IsTooMany links
 IsWholeFault links Memory = Unit {0}
 IsWholeFault links _ = ⊥
+
+-- each node has as many output names as output paths
+pub record ArePaired (names : List (List (List ℕ))) (outputs : List (List (List ℕ))) : Type 0 where
+  pub sized : length names ≡ length outputs
+  pub paired : (d : ℕ) → length (slice_index_or names d []) ≡ length (slice_index_or outputs d [])
 
 -- the graph has the nodes that the lines say
 pub record IsGraphOf (nodes : List LineNode) (graph : Nodes) : Type 0 where
   pub paths : graph.paths ≡ map (λ n. n.path) nodes
   pub needs : graph.needs ≡ map (λ n. n.need) nodes
-  pub inputs : AllNumbered (links_of nodes) graph.inputs
+  pub inputs : AllNumbered (map (λ n. n.path) nodes) (map (λ n. n.output_names) nodes) (map (λ n. n.inputs) nodes) graph.inputs
   pub sources : graph.sources ≡ map (λ n. n.sources) nodes
   pub outputs : graph.outputs ≡ map (λ n. n.outputs) nodes

@@ -12,6 +12,8 @@ use nd_path::StorePath;
 use std::alloc::{AllocError, Global};
 use std::marker::Model;
 
+use crate::number::find_path;
+
 /// An input of a node: a node that it needs.
 #[derive(Drop, Debug)]
 pub struct Input {
@@ -127,7 +129,7 @@ impl Graph {
     pub fn index_of(&self, path: &StorePath) -> Option<usize>
         ensures { IsNumber self.now.paths path.now result }
     {
-        self.paths.get_index_of(path)
+        find_path(&self.paths, path)
     }
 
     /// The nodes, each once and after its inputs.

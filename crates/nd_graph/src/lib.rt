@@ -4,15 +4,19 @@
 
 mod attributes;
 mod collect;
+mod columns;
 mod derived;
 pub mod drv_paths;
 pub mod fault;
 pub mod graph;
 mod kinds;
 pub mod line;
+mod missing;
+mod number;
 mod order;
 mod reading;
 pub mod refusal;
+mod resolve;
 mod structured;
 
 pub use drv_paths::drv_path;

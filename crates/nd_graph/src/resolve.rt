@@ -1,0 +1,128 @@
+//! The inputs of nodes by number.
+
+ghost use Rattle.std.specs.Prelude.{◌≡◌, ◌<◌, [], length, Contains, IfOk, IfErr, MatchOption};
+ghost use Rattle.std.specs.List.{slice_index_or};
+ghost use Rattle.nd_graph.specs.Graphs.{IsNumber};
+ghost use Rattle.nd_graph.specs.Numbering.{IsOutputFault, LacksItem};
+ghost use Rattle.nd_graph.specs.Whole.{AllNumbered, AreInputsThere, AreNumbered, ArePlaces, HasInputs, IsAt, IsNumbered, LacksName, LacksOutput};
+
+use indexmap::IndexSet;
+use nd_bytes::{ByteString, Items};
+use nd_path::StorePath;
+use std::alloc::{AllocError, Global};
+
+use crate::fault::GraphError;
+use crate::graph::Input;
+use crate::line::NamedInput;
+use crate::number::find_path;
+
+/// The inputs of all nodes by number; `MissingOutput` with the first line that names an output that
+/// its input derivation doesn't have.
+#[tactic(auto, using(crate::proofs::Linked::rows_none, crate::proofs::Linked::rows_more, crate::proofs::Linked::rows_all, crate::proofs::Linked::output_missing))]
+pub(crate) fn number_inputs(
+    alloc: Global,
+    paths: &IndexSet<StorePath>,
+    names: &[Items<ByteString>],
+    wants: &[Items<NamedInput>],
+) -> Result<Vec<Items<Input>>, GraphError>
+    requires there { AreInputsThere paths.now.keys wants.now }
+    requires sized { length names.now ≡ length paths.now.keys }
+    ensures ok { IfOk result (λ rows. AllNumbered paths.now.keys names.now wants.now rows.items) }
+    ensures err { IfErr result (λ fault. IsOutputFault paths.now.keys names.now wants.now fault) }
+{
+    let mut rows = Vec::with_capacity(alloc, wants.len())?;
+    for inputs in wants {
+        match number_row(alloc, paths, names, inputs.as_slice())? {
+            Some(row) => rows.push(row)?,
+            None => return Err(GraphError::MissingOutput(rows.len() + 1)),
+        }
+    }
+    Ok(rows)
+}
+
+/// The inputs of a node by number, or none where an output is missing.
+#[tactic(auto, using(crate::proofs::Linked::row_none, crate::proofs::Linked::row_more, crate::proofs::Linked::row_all, crate::proofs::Linked::row_lacks, crate::proofs::Linked::want_there))]
+fn number_row(
+    alloc: Global,
+    paths: &IndexSet<StorePath>,
+    names: &[Items<ByteString>],
+    wants: &[NamedInput],
+) -> Result<Option<Items<Input>>, AllocError>
+    requires there { HasInputs paths.now.keys wants.now }
+    requires sized { length names.now ≡ length paths.now.keys }
+    ensures { IfOk result (λ row. MatchOption row (LacksOutput paths.now.keys names.now wants.now) (λ inputs. AreNumbered paths.now.keys names.now wants.now inputs)) }
+{
+    let mut row = Vec::with_capacity(alloc, wants.len())?;
+    for want in wants {
+        match number_input(alloc, paths, names, want)? {
+            Some(input) => row.push(input)?,
+            None => return Ok(None),
+        }
+    }
+    Ok(Some(Items::new(row)))
+}
+
+/// An input by number, or none where an output is missing.
+#[tactic(auto, using(crate::proofs::Linked::input_lacks, crate::proofs::Linked::input_numbered))]
+fn number_input(
+    alloc: Global,
+    paths: &IndexSet<StorePath>,
+    names: &[Items<ByteString>],
+    want: &NamedInput,
+) -> Result<Option<Input>, AllocError>
+    requires there { Contains paths.now.keys want.now.path }
+    requires sized { length names.now ≡ length paths.now.keys }
+    ensures { IfOk result (λ r. MatchOption r (LacksName paths.now.keys names.now want.now) (λ input. IsNumbered paths.now.keys names.now want.now input)) }
+{
+    let node = node_of(paths, &want.path);
+    match places_of(alloc, names_of(names, node), want.names.as_slice())? {
+        Some(outputs) => Ok(Some(Input { node, outputs })),
+        None => Ok(None),
+    }
+}
+
+/// The number of a path that is there.
+#[tactic(auto, using(crate::proofs::Linked::at_number))]
+fn node_of(paths: &IndexSet<StorePath>, path: &StorePath) -> usize
+    requires { Contains paths.now.keys path.now }
+    ensures { IsAt paths.now.keys path.now result }
+{
+    match find_path(paths, path) {
+        Some(node) => node,
+        None => unreachable!(),
+    }
+}
+
+/// The names of the outputs of a node.
+fn names_of(names: &[Items<ByteString>], node: usize) -> &[ByteString]
+    requires { node < length names.now }
+    ensures { result.now ≡ slice_index_or names.now node [] }
+{
+    names[node].as_slice()
+}
+
+/// The places of the wanted names, or none where one is missing.
+#[tactic(auto, using(crate::proofs::Linked::places_none, crate::proofs::Linked::places_more, crate::proofs::Linked::places_all, crate::proofs::Linked::item_lacks))]
+fn places_of(
+    alloc: Global,
+    names: &[ByteString],
+    wanted: &[ByteString],
+) -> Result<Option<Items<usize>>, AllocError>
+    ensures { IfOk result (λ r. MatchOption r (LacksItem names.now wanted.now) (λ places. ArePlaces names.now wanted.now places)) }
+{
+    let mut places = Vec::with_capacity(alloc, wanted.len())?;
+    for name in wanted {
+        match place_of(names, name) {
+            Some(place) => places.push(place)?,
+            None => return Ok(None),
+        }
+    }
+    Ok(Some(Items::new(places)))
+}
+
+/// The place of a name.
+fn place_of(names: &[ByteString], name: &ByteString) -> Option<usize>
+    ensures { IsNumber names.now name.now result }
+{
+    names.iter().position(|other| other == name)
+}
