@@ -1,2 +1,3 @@
+pub mod Classed
 pub mod Places
 pub mod Subsets

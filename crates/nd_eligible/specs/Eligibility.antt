@@ -1,6 +1,7 @@
 -- Which machines may build a derivation, after the rules of Nix for remote builds (Nix Reference
 -- Manual, "Remote Builds": systems, supported and mandatory features of a builder).
-use Rattle.std.specs.Prelude.{◌≡◌, ◌⊎◌, ℕ, ◌≤◌, IsTrue, List, ◌++◌, Contains, codes, IsSomeAnd, slice_get}
+use Rattle.std.specs.Prelude.{◌≡◌, ◌⊎◌, ◌↔◌, ℕ, ◌≤◌, IsTrue, List, ◌++◌, Contains, codes, IsSomeAnd, slice_get}
+use Rattle.std.specs.List.Sorted.{IsStrictlyIncreasing}
 use Rattle.nd_machines.specs.Builders.{Builder}
 use Rattle.nd_eligible.specs.declared.need.Need.{Need}
 use Rattle.nd_eligible.specs.Settings.{Settings}
@@ -25,6 +26,11 @@ pub record Eligible (machine : Builder) (need : Need) : Type 0 where
 -- the machine at a place of the list, from 0, may build the derivation
 abbrev pub IsEligibleAt : List Builder → Need → ℕ → Type 0
 IsEligibleAt machines need place = IsSomeAnd (slice_get machines place) (λ machine. Eligible machine need)
+
+-- the places of the machines that may build the derivation, in rising order: these and no others
+pub record AreEligible (machines : List Builder) (need : Need) (places : List ℕ) : Type 0 where
+  pub rising : IsStrictlyIncreasing places
+  pub exact : (place : ℕ) → Contains places place ↔ IsEligibleAt machines need place
 
 -- the local machine builds for its own system and the extra platforms, and runs every builtin
 -- derivation

@@ -1,3 +1,4 @@
 pub mod Attributes
 pub mod Eligibility
 pub mod Settings
+pub mod Classing

@@ -2,11 +2,13 @@
 //! machine, and the test of the one against the other.
 #![tactic(auto)]
 
+pub mod classes;
 pub mod eligibility;
 pub mod feature_words;
 pub mod local;
 pub mod need;
 
+pub use classes::Classes;
 pub use eligibility::{eligible, local_ok};
 pub use feature_words::words;
 pub use local::Local;
