@@ -3,6 +3,7 @@ mod Cutting
 pub mod Distinct
 pub mod Linked
 pub mod Numbers
+pub mod Rising
 pub mod Rows
 mod Sayings
 pub mod Searching

@@ -23,3 +23,6 @@ pub use drv_paths::drv_path;
 pub use fault::GraphError;
 pub use graph::{Graph, Input};
 pub use line::{LineNode, NamedInput};
+
+#[cfg(test)]
+mod line_tests;
