@@ -4,4 +4,5 @@ pub mod Choices
 pub mod History
 pub mod Kept
 pub mod Premises
+pub mod References
 pub mod Standing
