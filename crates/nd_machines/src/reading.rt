@@ -13,6 +13,9 @@ const MOST_JOBS: u32 = 65_535;
 /// The greatest whole part of a speed.
 const MOST_SPEED: u32 = 1_000_000;
 
+/// The greatest number of six digits.
+const MOST_FRACTION: u32 = 999_999;
+
 /// A speed of 1 in millionths.
 const MILLION: u64 = 1_000_000;
 
@@ -104,10 +107,11 @@ pub(crate) fn read_jobs(field: &[u8]) -> Option<u32>
     decimal(field, MOST_JOBS)
 }
 
-/// The millionths that the digits behind a point stand for.
+/// The millionths that one to six digits behind a point stand for.
 fn read_fraction(digits: &[u8]) -> Option<u64>
     ensures { result ≡ fraction_of digits.now }
 {
+    // No digit at all is no number, whatever its scale.
     let scale = match digits.len() {
         0 | 1 => 100_000,
         2 => 10_000,
@@ -117,7 +121,7 @@ fn read_fraction(digits: &[u8]) -> Option<u64>
         6 => 1,
         _ => return None,
     };
-    let value = decimal(digits, 999_999)?;
+    let value = decimal(digits, MOST_FRACTION)?;
     Some(u64::from(value) * scale)
 }
 
