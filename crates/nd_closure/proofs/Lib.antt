@@ -5,3 +5,4 @@ pub mod Differences
 pub mod Stocks
 pub mod Words
 pub mod Texts
+pub mod Once

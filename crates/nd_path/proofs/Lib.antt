@@ -1,3 +1,4 @@
 pub mod Searches
 pub mod Parts
 pub mod Spelling
+pub mod Rising

@@ -15,7 +15,7 @@ use Rattle.nd_path.specs.SamePaths.{paths_same}
 use Rattle.nd_path.specs.PathSets.{IsRising, HasSameMembers}
 
 -- what is less one way round is greater, and so not less, the other way round
-turned : (a b : List ℕ) → path_cmp a b ≡ Less → is_lt (path_cmp b a) ≡ false
+pub turned : (a b : List ℕ) → path_cmp a b ≡ Less → is_lt (path_cmp b a) ≡ false
 turned a b e = ap is_lt (nat_list_cmp_total.antisymm b a ∙ ap ordering_reverse e)
 
 -- no path compares to itself as anything but equal
