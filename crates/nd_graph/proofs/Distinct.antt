@@ -1,5 +1,5 @@
 -- Lists without repeats.
-use Rattle.std.proofs.Common.{◌≡◌, ℕ, ◌+◌, ◌<◌, List, [], ◌∷◌, ◌++◌, length, Contains, get_or, sym, refl, ◌∙◌, subst, inl, inr, arith}
+use Rattle.std.proofs.Common.{◌≡◌, ◌+◌, ◌<◌, List, [], ◌∷◌, ◌++◌, length, Contains, get_or, sym, refl, ◌∙◌, subst, inl, inr, arith}
 use Rattle.std.proofs.lemmas.Bool.{cases_lt}
 use Rattle.std.proofs.lemmas.List.{get_or_append_left, get_or_at, length_push}
 use Rattle.std.proofs.lemmas.List.Elements.{Contains-get_or}
@@ -35,4 +35,3 @@ distinct_last xs x distinct at =
     let long : length (xs ++ x ∷ []) ≡ length xs + 1 = length_push xs x in
     distinct.apart at.0 (length xs) x at.1 (omega arith)
     (get_or_append_left xs (x ∷ []) x at.0 at.1 ∙ at.2 ∙ sym (get_or_at xs x [] x (length xs) refl))
-

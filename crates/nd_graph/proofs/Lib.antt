@@ -1,3 +1,4 @@
+pub mod Assembled
 mod Collecting
 mod Cutting
 pub mod Distinct
@@ -8,5 +9,6 @@ pub mod Rows
 mod Sayings
 pub mod Searching
 mod Strings
+pub mod Told
 pub mod Walked
 pub mod Zipped

@@ -1,12 +1,12 @@
 -- The steps of the loops that resolve the links between the nodes.
-use Rattle.std.proofs.Common.{◌≡◌, ℕ, zero, suc, ◌+◌, ◌<◌, ◌≤◌, List, [], ◌∷◌, ◌++◌, Bool, true, false, length, take, get_or, Contains, Option, None, Some, refl, sym, ap, ◌∙◌, subst, inl, inr, arith}
+use Rattle.std.proofs.Common.{◌≡◌, ℕ, ◌+◌, ◌<◌, ◌≤◌, List, [], ◌∷◌, ◌++◌, true, false, length, take, get_or, Contains, None, Some, refl, sym, ap, ◌∙◌, subst, inl, inr, arith}
 use Rattle.std.specs.List.{AllZip, list_any}
 use Rattle.std.proofs.lemmas.List.{take_more, take_all, get_or_default, get_or-take, length-take-le}
-use Rattle.std.proofs.lemmas.List.Elements.{Contains-get_or, Contains-push_cases}
+use Rattle.std.proofs.lemmas.List.Elements.{Contains-push_cases}
 use Rattle.nd_path.specs.StorePath.{path_eq}
 use Rattle.nd_graph.specs.Graphs.{IsNumber}
 use Rattle.nd_graph.specs.Numbering.{LacksItem}
-use Rattle.nd_graph.specs.Whole.{AllNumbered, AreInputsThere, AreNumbered, AreOutputsThere, ArePlaces, HasInputs, HasOutput, HasOutputs, IsAt, IsMissingInput, IsMissingOutput, IsNumbered, LacksInput, LacksName, LacksOutput}
+use Rattle.nd_graph.specs.Whole.{AllNumbered, AreInputsThere, AreNumbered, AreOutputsThere, ArePlaces, HasInputs, HasOutputs, IsAt, IsMissingInput, IsMissingOutput, IsNumbered, LacksInput, LacksName, LacksOutput}
 use Rattle.nd_graph.specs.declared.graph.Input.{Input}
 use Rattle.nd_graph.specs.declared.line.NamedInput.{NamedInput}
 use Rattle.nd_graph.proofs.Numbers.{is_there, not_there}
@@ -26,10 +26,10 @@ inputs_none paths wants = record { there = λ w on. absurd (omega (arith, on.1))
 pub inputs_more : (paths : List (List ℕ)) (wants : List NamedInput) (i : ℕ) (w : NamedInput) → i < length wants → w ≡ get_or wants i w → HasInputs paths (take i wants) → list_any (path_eq w.path) paths ≡ true → HasInputs paths (take (i + 1) wants)
 inputs_more paths wants i w lt is has found = record {
   there = λ v on.
-    elim (Contains-push_cases (take i wants) w v (subst (λ (xs : List NamedInput). Contains xs v) (taken wants i w lt is) on)) [
-      inl old ↦ has.there v old
-      | inr same ↦ subst (λ (x : NamedInput). Contains paths x.path) same (is_there paths w.path found)
-    ];
+      elim (Contains-push_cases (take i wants) w v (subst (λ (xs : List NamedInput). Contains xs v) (taken wants i w lt is) on)) [
+        | inl old ↦ has.there v old
+        | inr same ↦ subst (λ (x : NamedInput). Contains paths x.path) same (is_there paths w.path found)
+      ];
 }
 
 pub inputs_all : (paths : List (List ℕ)) (wants : List NamedInput) (i : ℕ) → HasInputs paths (take i wants) → length wants ≤ i → HasInputs paths wants
@@ -51,7 +51,7 @@ places_none names wanted = record { each = tt }
 pub places_more : (names wanted : List (List ℕ)) (places : List ℕ) (i : ℕ) (name : List ℕ) (place : ℕ) → i < length wanted → name ≡ get_or wanted i name → ArePlaces names (take i wanted) places → IsNumber names name (Some place) → ArePlaces names (take (i + 1) wanted) (places ++ place ∷ [])
 places_more names wanted places i name place lt is so at = record {
   each = subst (λ (xs : List (List ℕ)). AllZip (IsAt names) xs (places ++ place ∷ [])) (sym (taken wanted i name lt is))
-    (zip_push (IsAt names) (take i wanted) places name place so.each (record { within = at.0; is = at.1 }));
+      (zip_push (IsAt names) (take i wanted) places name place so.each (record { within = at.0; is = at.1 }));
 }
 
 pub places_all : (names wanted : List (List ℕ)) (places : List ℕ) (i : ℕ) → ArePlaces names (take i wanted) places → length wanted ≤ i → ArePlaces names wanted places
@@ -74,7 +74,7 @@ row_none paths names wants = record { each = tt }
 pub row_more : (paths : List (List ℕ)) (names : List (List (List ℕ))) (wants : List NamedInput) (row : List Input) (i : ℕ) (want : NamedInput) (input : Input) → i < length wants → want ≡ get_or wants i want → AreNumbered paths names (take i wants) row → IsNumbered paths names want input → AreNumbered paths names (take (i + 1) wants) (row ++ input ∷ [])
 row_more paths names wants row i want input lt is so at = record {
   each = subst (λ (xs : List NamedInput). AllZip (IsNumbered paths names) xs (row ++ input ∷ [])) (sym (taken wants i want lt is))
-    (zip_push (IsNumbered paths names) (take i wants) row want input so.each at);
+      (zip_push (IsNumbered paths names) (take i wants) row want input so.each at);
 }
 
 pub row_all : (paths : List (List ℕ)) (names : List (List (List ℕ))) (wants : List NamedInput) (row : List Input) (i : ℕ) → AreNumbered paths names (take i wants) row → length wants ≤ i → AreNumbered paths names wants row
@@ -93,7 +93,7 @@ rows_none paths names wants = record { each = tt }
 pub rows_more : (paths : List (List ℕ)) (names : List (List (List ℕ))) (wants : List (List NamedInput)) (rows : List (List Input)) (i : ℕ) (wanted : List NamedInput) (row : List Input) → i < length wants → wanted ≡ get_or wants i wanted → AllNumbered paths names (take i wants) rows → AreNumbered paths names wanted row → AllNumbered paths names (take (i + 1) wants) (rows ++ row ∷ [])
 rows_more paths names wants rows i wanted row lt is so at = record {
   each = subst (λ (xs : List (List NamedInput)). AllZip (AreNumbered paths names) xs (rows ++ row ∷ [])) (sym (taken wants i wanted lt is))
-    (zip_push (AreNumbered paths names) (take i wants) rows wanted row so.each at);
+      (zip_push (AreNumbered paths names) (take i wants) rows wanted row so.each at);
 }
 
 pub rows_all : (paths : List (List ℕ)) (names : List (List (List ℕ))) (wants : List (List NamedInput)) (rows : List (List Input)) (i : ℕ) → AllNumbered paths names (take i wants) rows → length wants ≤ i → AllNumbered paths names wants rows
@@ -103,18 +103,18 @@ rows_all paths names wants rows i so all = subst (λ (xs : List (List NamedInput
 pub numbered_has : (paths : List (List ℕ)) (names : List (List (List ℕ))) (wants : List NamedInput) (inputs : List Input) → AreNumbered paths names wants inputs → HasOutputs paths names wants
 numbered_has paths names wants inputs so = record {
   there = λ w name on named.
-    let none : Input = record { node = 0; outputs = [] } in
-    let here : IsNumbered paths names (get_or wants on.0 w) (get_or inputs on.0 none) = zip_at (IsNumbered paths names) wants inputs on.0 w none so.each on.1 in
-    let mine : IsNumbered paths names w (get_or inputs on.0 none) = subst (λ (v : NamedInput). IsNumbered paths names v (get_or inputs on.0 none)) on.2 here in
-    let input : Input = get_or inputs on.0 none in
-    let of : List (List ℕ) = get_or names input.node [] in
-    let place : IsAt of (get_or w.names named.0 name) (get_or input.outputs named.0 0) = zip_at (IsAt of) w.names input.outputs named.0 name 0 mine.outputs.each named.1 in
-    record {
-      node = input.node;
-      within = mine.node.within;
-      is = mine.node.is;
-      has = (get_or input.outputs named.0 0, place.within, get_or_default of (get_or input.outputs named.0 0) name [] place.within ∙ place.is ∙ named.2);
-    };
+      let none : Input = record { node = 0; outputs = [] } in
+      let here : IsNumbered paths names (get_or wants on.0 w) (get_or inputs on.0 none) = zip_at (IsNumbered paths names) wants inputs on.0 w none so.each on.1 in
+      let mine : IsNumbered paths names w (get_or inputs on.0 none) = subst (λ (v : NamedInput). IsNumbered paths names v (get_or inputs on.0 none)) on.2 here in
+      let input : Input = get_or inputs on.0 none in
+      let of : List (List ℕ) = get_or names input.node [] in
+      let place : IsAt of (get_or w.names named.0 name) (get_or input.outputs named.0 0) = zip_at (IsAt of) w.names input.outputs named.0 name 0 mine.outputs.each named.1 in
+      record {
+        node = input.node;
+        within = mine.node.within;
+        is = mine.node.is;
+        has = (get_or input.outputs named.0 0, place.within, get_or_default of (get_or input.outputs named.0 0) name [] place.within ∙ place.is ∙ named.2);
+      };
 }
 
 pub rows_have : (paths : List (List ℕ)) (names : List (List (List ℕ))) (wants : List (List NamedInput)) (rows : List (List Input)) → AllNumbered paths names wants rows → AreOutputsThere paths names wants
@@ -132,7 +132,7 @@ output_missing paths names wants rows i wanted lt is so lacks =
       place = i;
       within = lt;
       before = λ d low.
-        subst (λ (ws : List NamedInput). HasOutputs paths names ws) (get_or-take i wants d [] low) (first.there d (omega arith));
+          subst (λ (ws : List NamedInput). HasOutputs paths names ws) (get_or-take i wants d [] low) (first.there d (omega arith));
       lacks = subst (λ (ws : List NamedInput). LacksOutput paths names ws) (is ∙ get_or_default wants i wanted [] lt) lacks;
       number = ap (λ (n : ℕ). n + 1) count;
     }

@@ -1,5 +1,5 @@
 -- Lemmas on paths and the numbers of their nodes.
-use Rattle.std.proofs.Common.{◌≡◌, ℕ, ◌<◌, List, [], length, Contains, get_or, position, Option, Some, None, Bool, true, false, is_some, not, refl, sym, ap, ◌∙◌, true≢false}
+use Rattle.std.proofs.Common.{◌≡◌, ℕ, List, [], Contains, get_or, position, Option, Some, None, Bool, true, false, is_some, not, refl, sym, ◌∙◌, true≢false}
 use Rattle.std.specs.Cmp.Lexicographic.{nat_list_eq_equiv}
 use Rattle.std.specs.List.{list_any}
 use Rattle.std.proofs.lemmas.List.Quantifiers.{position-Some}

@@ -1,4 +1,5 @@
 pub mod Attributes
+pub mod Bundles
 pub mod Columned
 pub mod Derived
 pub mod DrvPaths
@@ -11,6 +12,7 @@ pub mod Numbering
 pub mod Orders
 pub mod Reads
 pub mod Refused
+pub mod Settled
 pub mod Stages
 pub mod Structured
 pub mod Walks

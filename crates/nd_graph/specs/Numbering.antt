@@ -2,7 +2,7 @@
 use Rattle.std.specs.Prelude.{ℕ, List, Contains}
 use Rattle.nd_graph.specs.declared.line.NamedInput.{NamedInput}
 use Rattle.nd_graph.specs.declared.fault.GraphError.{GraphError}
-use Rattle.nd_graph.specs.declared.fault.GraphError.TheVariants.{BadLine, BadPath, BadDerivation, UnknownOutput, BadAttribute, WrongPath, Duplicate, MissingInput, MissingOutput, Cycle, TooMany, Memory}
+use Rattle.nd_graph.specs.declared.fault.GraphError.TheVariants.{Duplicate, MissingOutput, Memory}
 use Rattle.nd_graph.specs.Whole.{IsRepeat, IsMissingOutput}
 
 -- a path stands twice, the second time on this line, or want of memory

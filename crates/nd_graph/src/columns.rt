@@ -3,12 +3,11 @@
 ghost use Rattle.std.specs.Prelude.{IfOk};
 ghost use Rattle.nd_graph.specs.Columned.{HasColumns};
 
+use crate::line::{LineNode, NamedInput};
 use nd_bytes::{ByteString, Items};
 use nd_eligible::Need;
 use nd_path::StorePath;
 use std::alloc::{AllocError, Global};
-
-use crate::line::{LineNode, NamedInput};
 
 /// The parts of a bundle's nodes, as lists with one item per node.
 #[derive(Drop)]

@@ -2,17 +2,16 @@
 
 ghost use Rattle.std.specs.Prelude.{◌≡◌, ◌==◌, ◌<◌, length, [], IfOk};
 ghost use Rattle.std.specs.List.{slice_index_or};
-ghost use Rattle.nd_graph.specs.Graphs.{nodes_of, rows_of, IsNumber, IsSound};
+ghost use Rattle.nd_graph.specs.Graphs.{nodes_of, rows_of, IsGraph, IsNumber, IsSound};
 ghost use Rattle.nd_graph.specs.Walks.{inputs_of, IsAcyclic, IsOrder, PlacesFall};
 
+use crate::number::find_path;
 use indexmap::IndexSet;
 use nd_bytes::Items;
 use nd_eligible::Need;
 use nd_path::StorePath;
 use std::alloc::{AllocError, Global};
 use std::marker::Model;
-
-use crate::number::find_path;
 
 /// An input of a node: a node that it needs.
 #[derive(Drop, Debug)]
@@ -59,6 +58,28 @@ impl Model for Graph {
 }
 
 impl Graph {
+    /// The graph of these parts.
+    pub(crate) fn new(
+        paths: IndexSet<StorePath>,
+        needs: Vec<Need>,
+        inputs: Vec<Items<Input>>,
+        sources: Vec<Items<StorePath>>,
+        outputs: Vec<Items<StorePath>>,
+        order: Vec<usize>,
+    ) -> Graph
+        requires { IsGraph (record { paths = paths.keys; needs = needs.items; inputs = inputs.items; sources = sources.items; outputs = outputs.items }) order.items }
+        ensures { result ≡ record { paths = paths.keys; needs = needs.items; inputs = inputs.items; sources = sources.items; outputs = outputs.items } }
+    {
+        Graph {
+            paths,
+            needs,
+            inputs,
+            sources,
+            outputs,
+            order,
+        }
+    }
+
     /// The number of nodes.
     pub fn len(&self) -> usize
         ensures len { result ≡ length self.now.paths }

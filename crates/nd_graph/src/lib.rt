@@ -3,6 +3,7 @@
 #![tactic(auto)]
 
 mod attributes;
+mod bundle;
 mod collect;
 mod columns;
 mod derived;
@@ -14,11 +15,14 @@ pub mod line;
 mod missing;
 mod number;
 mod order;
+pub mod plain;
 mod reading;
 pub mod refusal;
 mod resolve;
 mod structured;
+mod whole;
 
+pub use bundle::read_bundle;
 pub use drv_paths::drv_path;
 pub use fault::GraphError;
 pub use graph::{Graph, Input};

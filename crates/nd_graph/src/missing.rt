@@ -3,15 +3,17 @@
 ghost use Rattle.std.specs.Prelude.{MatchBool, MatchOption};
 ghost use Rattle.nd_graph.specs.Whole.{AreInputsThere, HasInputs, IsMissingInput, LacksInput};
 
+use crate::line::NamedInput;
 use indexmap::IndexSet;
 use nd_bytes::Items;
 use nd_path::StorePath;
 
-use crate::line::NamedInput;
-
 /// The first line, from 1, with an input derivation that is none of `paths`.
 #[tactic(auto, using(crate::proofs::Linked::missing_here, crate::proofs::Linked::inputs_there))]
-pub(crate) fn missing_input(paths: &IndexSet<StorePath>, wants: &[Items<NamedInput>]) -> Option<usize>
+pub(crate) fn missing_input(
+    paths: &IndexSet<StorePath>,
+    wants: &[Items<NamedInput>],
+) -> Option<usize>
     ensures { MatchOption result (AreInputsThere paths.now.keys wants.now) (λ line. IsMissingInput paths.now.keys wants.now line) }
 {
     for (place, inputs) in wants.iter().enumerate() {

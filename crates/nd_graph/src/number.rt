@@ -5,14 +5,16 @@ ghost use Rattle.nd_graph.specs.Graphs.{IsNumber};
 ghost use Rattle.nd_graph.specs.Numbering.{IsNumberFault};
 ghost use Rattle.nd_graph.specs.Walks.{AreDistinct};
 
+use crate::fault::GraphError;
 use indexmap::IndexSet;
 use nd_path::StorePath;
 use std::alloc::Global;
 
-use crate::fault::GraphError;
-
 /// The paths as a set, in their order; `Duplicate` where a path stands twice.
-pub(crate) fn number_all(alloc: Global, paths: Vec<StorePath>) -> Result<IndexSet<StorePath>, GraphError>
+pub(crate) fn number_all(
+    alloc: Global,
+    paths: Vec<StorePath>,
+) -> Result<IndexSet<StorePath>, GraphError>
     ensures ok { IfOk result (λ numbered. numbered.keys ≡ paths.items) }
     ensures distinct { OnOk result (AreDistinct paths.items) }
     ensures err { IfErr result (λ fault. IsNumberFault paths.items fault) }

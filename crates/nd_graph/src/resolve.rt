@@ -6,15 +6,14 @@ ghost use Rattle.nd_graph.specs.Graphs.{IsNumber};
 ghost use Rattle.nd_graph.specs.Numbering.{IsOutputFault, LacksItem};
 ghost use Rattle.nd_graph.specs.Whole.{AllNumbered, AreInputsThere, AreNumbered, ArePlaces, HasInputs, IsAt, IsNumbered, LacksName, LacksOutput};
 
-use indexmap::IndexSet;
-use nd_bytes::{ByteString, Items};
-use nd_path::StorePath;
-use std::alloc::{AllocError, Global};
-
 use crate::fault::GraphError;
 use crate::graph::Input;
 use crate::line::NamedInput;
 use crate::number::find_path;
+use indexmap::IndexSet;
+use nd_bytes::{ByteString, Items};
+use nd_path::StorePath;
+use std::alloc::{AllocError, Global};
 
 /// The inputs of all nodes by number; `MissingOutput` with the first line that names an output that
 /// its input derivation doesn't have.

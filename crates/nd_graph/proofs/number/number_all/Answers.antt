@@ -1,4 +1,4 @@
-use Rattle.std.proofs.Common.{◌≡◌, ℕ, ◌+◌, Bool, true, false, List, [], ◌∷◌, ◌++◌, length, Contains, if◌then◌else◌, sym, ap, ◌∙◌, subst, arith}
+use Rattle.std.proofs.Common.{◌≡◌, ℕ, ◌+◌, Bool, true, false, List, [], ◌∷◌, ◌++◌, length, Contains, if◌then◌else◌, sym, ap, ◌∙◌, subst}
 use Rattle.std.specs.List.{list_any}
 use Rattle.std.proofs.lemmas.List.{append_assoc}
 use Rattle.std.specs.Vec.Iter.{into_iter_items}
@@ -19,8 +19,8 @@ loop-path-preserved c =
       keys = grown ∙ ap (λ (ks : List (List ℕ)). ks ++ path ∷ []) same;
       distinct = distinct_push seen path c.loop-path.invariant.distinct (λ there. not_there old path fresh (subst (λ (ks : List (List ℕ)). Contains ks path) (sym same) there));
       whole =
-        c.loop-path.invariant.whole ∙ ap (λ (rest : List (List ℕ)). seen ++ rest) c.in-Some.ensures.steps.0
-        ∙ sym (append_assoc seen (path ∷ []) (into_iter_items c.next.new.self));
+          c.loop-path.invariant.whole ∙ ap (λ (rest : List (List ℕ)). seen ++ rest) c.in-Some.ensures.steps.0
+          ∙ sym (append_assoc seen (path ∷ []) (into_iter_items c.next.new.self));
     }
 
 pub returns-then-not-branch-clause-err : goal.returns-then-not-branch-clause-err

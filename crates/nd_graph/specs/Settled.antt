@@ -1,0 +1,80 @@
+-- What was read of the lines, put together.
+use Rattle.std.specs.Prelude.{◌≡◌, ℕ, ◌+◌, List, ◌∷◌, ◌++◌, length, map, Contains, Result, Ok, Err}
+use Rattle.nd_graph.specs.declared.line.LineNode.{LineNode}
+use Rattle.nd_graph.specs.declared.line.NamedInput.{NamedInput}
+use Rattle.nd_graph.specs.declared.refusal.LineFault.{LineFault}
+use Rattle.nd_graph.specs.declared.fault.GraphError.{GraphError}
+use Rattle.nd_graph.specs.declared.fault.GraphError.TheVariants.{MissingInput, MissingOutput, Memory}
+use Rattle.nd_graph.specs.declared.columns.Columns.{Columns}
+use Rattle.nd_graph.specs.declared.graph.Input.{Input}
+use Rattle.nd_graph.specs.Graphs.{Nodes}
+use Rattle.nd_graph.specs.Numbered.{fault_at}
+use Rattle.nd_graph.specs.Whole.{links_of, AllNumbered, AreInputsThere, IsGraphOf, IsMissingInput, IsMissingOutput, IsWholeFault}
+
+-- the node has as many output names as output paths
+abbrev pub IsPaired : LineNode → Type 0
+IsPaired node = length node.output_names ≡ length node.outputs
+
+-- each of the nodes has
+pub record ArePairedNodes (nodes : List LineNode) : Type 0 where
+  pub paired : (node : LineNode) → Contains nodes node → IsPaired node
+
+-- each node that was read has
+pub record ReadsPaired (read : List (Result LineNode LineFault)) : Type 0 where
+  pub paired : (node : LineNode) → Contains read (Ok node) → IsPaired node
+
+-- a line was read
+abbrev pub said : LineNode → Result LineNode LineFault
+said node = Ok node
+
+-- all lines were read
+pub record IsRead (read : List (Result LineNode LineFault)) (nodes : List LineNode) : Type 0 where
+  pub all : read ≡ map said nodes
+
+-- a line was refused, after lines that were read, or memory was wanting
+pub record IsFirstErr (read : List (Result LineNode LineFault)) (error : GraphError) : Type 0 where
+  pub before : List LineNode
+  pub fault : LineFault
+  pub behind : List (Result LineNode LineFault)
+  pub parts : read ≡ map said before ++ Err fault ∷ behind
+  pub error_is : error ≡ fault_at fault (length before + 1)
+
+-- a line was refused, or the nodes are no graph together
+pub data IsReadFault (read : List (Result LineNode LineFault)) (error : GraphError) : Type 0 where
+  of_line : IsFirstErr read error → IsReadFault read error
+  of_whole : (nodes : List LineNode) → IsRead read nodes → IsWholeFault (links_of nodes) error → IsReadFault read error
+  of_memory : error ≡ Memory → IsReadFault read error
+
+-- the graph of what was read
+pub record IsGraphRead (read : List (Result LineNode LineFault)) (graph : Nodes) : Type 0 where
+  pub nodes : List LineNode
+  pub read_is : IsRead read nodes
+  pub of : IsGraphOf nodes graph
+
+-- the lists have one item per node
+pub record AreSized (columns : Columns) : Type 0 where
+  pub needs : length columns.needs.items ≡ length columns.paths.items
+  pub wants : length columns.wants.items ≡ length columns.paths.items
+  pub sources : length columns.sources.items ≡ length columns.paths.items
+  pub names : length columns.names.items ≡ length columns.paths.items
+  pub outputs : length columns.outputs.items ≡ length columns.paths.items
+
+-- the graph of the columns
+pub record IsGraphOfColumns (columns : Columns) (graph : Nodes) : Type 0 where
+  pub paths : graph.paths ≡ columns.paths.items
+  pub needs : graph.needs ≡ columns.needs.items
+  pub inputs : AllNumbered columns.paths.items columns.names.items columns.wants.items graph.inputs
+  pub sources : graph.sources ≡ columns.sources.items
+  pub outputs : graph.outputs ≡ columns.outputs.items
+
+-- all inputs and named outputs are there, by number
+pub record IsResolved (paths : List (List ℕ)) (names : List (List (List ℕ))) (wants : List (List NamedInput)) (rows : List (List Input)) : Type 0 where
+  pub there : AreInputsThere paths wants
+  pub numbered : AllNumbered paths names wants rows
+
+-- an input or an output is missing, first on this line, or memory is wanting
+abbrev pub IsLinkFault : List (List ℕ) → List (List (List ℕ)) → List (List NamedInput) → GraphError → Type 0
+IsLinkFault paths names wants (MissingInput line) = IsMissingInput paths wants line
+IsLinkFault paths names wants (MissingOutput line) = AreInputsThere paths wants × IsMissingOutput paths names wants line
+IsLinkFault paths names wants Memory = Unit {0}
+IsLinkFault paths names wants _ = ⊥

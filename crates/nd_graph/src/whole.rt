@@ -1,0 +1,108 @@
+//! The graph of a bundle's nodes.
+
+ghost use Rattle.std.specs.Prelude.{◌≡◌, length, map, Ok, IfOk, IfErr};
+ghost use Rattle.nd_graph.specs.Settled.{ArePairedNodes, AreSized, IsFirstErr, IsGraphOfColumns, IsGraphRead, IsLinkFault, IsRead, IsReadFault, IsResolved, ReadsPaired};
+ghost use Rattle.nd_graph.specs.Whole.{links_of, ArePaired, IsGraphOf, IsWholeFault};
+
+use crate::columns::{Columns, split_nodes};
+use crate::fault::GraphError;
+use crate::graph::{Graph, Input};
+use crate::line::{LineNode, NamedInput};
+use crate::missing::missing_input;
+use crate::number::number_all;
+use crate::order::find_order;
+use crate::refusal::LineFault;
+use crate::resolve::number_inputs;
+use indexmap::IndexSet;
+use nd_bytes::{ByteString, Items};
+use nd_path::StorePath;
+use std::alloc::Global;
+
+/// The greatest number of nodes.
+const NODE_LIMIT: usize = 65_536;
+
+/// The graph of what was read of the lines, or the first line's refusal, or else the first one over
+/// the whole.
+#[tactic(auto, using(crate::proofs::Assembled::read_paired, crate::proofs::Assembled::graph_read, crate::proofs::Assembled::fault_read))]
+pub(crate) fn graph_of(
+    alloc: Global,
+    read: Vec<Result<LineNode, LineFault>>,
+) -> Result<Graph, GraphError>
+    requires { ReadsPaired read.items }
+    ensures ok { IfOk result (λ graph. IsGraphRead read.items graph) }
+    ensures err { IfErr result (λ error. IsReadFault read.items error) }
+{
+    let nodes = settle(alloc, read)?;
+    assemble(alloc, nodes)
+}
+
+/// The nodes that the lines say, or the refusal of the first line that has one.
+#[tactic(auto, using(crate::proofs::Assembled::line_refused))]
+fn settle(
+    alloc: Global,
+    read: Vec<Result<LineNode, LineFault>>,
+) -> Result<Vec<LineNode>, GraphError>
+    ensures ok { IfOk result (λ nodes. IsRead read.items nodes.items) }
+    ensures err { IfErr result (λ error. IsReadFault read.items error) }
+{
+    let mut nodes = Vec::with_capacity(alloc, read.len())?;
+    for line in read {
+        match line {
+            Ok(node) => nodes.push(node)?,
+            Err(fault) => return Err(fault.at(nodes.len() + 1)),
+        }
+    }
+    Ok(nodes)
+}
+
+/// The graph of the nodes, or the first refusal over the whole.
+#[tactic(auto, using(crate::proofs::Assembled::columns_sized, crate::proofs::Assembled::columns_paired))]
+fn assemble(alloc: Global, nodes: Vec<LineNode>) -> Result<Graph, GraphError>
+    requires { ArePairedNodes nodes.items }
+    ensures ok { IfOk result (λ graph. IsGraphOf nodes.items graph) }
+    ensures err { IfErr result (λ fault. IsWholeFault (links_of nodes.items) fault) }
+{
+    let columns = split_nodes(alloc, nodes)?;
+    link(alloc, columns)
+}
+
+/// The graph of the nodes' parts, or the first refusal over the whole.
+fn link(alloc: Global, columns: Columns) -> Result<Graph, GraphError>
+    requires sized { AreSized columns }
+    requires paired { ArePaired columns.names.items columns.outputs.items }
+    ensures ok { IfOk result (λ graph. IsGraphOfColumns columns graph) }
+    ensures err { IfErr result (λ fault. IsWholeFault (record { paths = columns.paths.items; wants = columns.wants.items; names = columns.names.items }) fault) }
+{
+    let Columns {
+        paths,
+        needs,
+        wants,
+        sources,
+        names,
+        outputs,
+    } = columns;
+    let paths = number_all(alloc, paths)?;
+    let inputs = resolve(alloc, &paths, names.as_slice(), wants.as_slice())?;
+    let order = find_order(alloc, inputs.as_slice())?;
+    if paths.len() > NODE_LIMIT {
+        return Err(GraphError::TooMany);
+    }
+    Ok(Graph::new(paths, needs, inputs, sources, outputs, order))
+}
+
+/// The inputs of all nodes by number; `MissingInput` or `MissingOutput` with the first such line.
+fn resolve(
+    alloc: Global,
+    paths: &IndexSet<StorePath>,
+    names: &[Items<ByteString>],
+    wants: &[Items<NamedInput>],
+) -> Result<Vec<Items<Input>>, GraphError>
+    requires { length names.now ≡ length paths.now.keys }
+    ensures ok { IfOk result (λ rows. IsResolved paths.now.keys names.now wants.now rows.items) }
+    ensures err { IfErr result (λ fault. IsLinkFault paths.now.keys names.now wants.now fault) }
+{
+    if let Some(line) = missing_input(paths, wants) {
+        return Err(GraphError::MissingInput(line));
+    }
+    number_inputs(alloc, paths, names, wants)
+}
