@@ -1,6 +1,6 @@
 //! A reader or writer that remembers whether it has refused a call.
 
-ghost use Rattle.std.specs.Prelude.{◌≡◌, ℕ, ◌+◌, ◌≤◌, ◌||◌, false, length, is_err, take, vec_len, List, IfOk, OnOk, OnErr};
+ghost use Rattle.std.specs.Prelude.{◌≡◌, ℕ, ◌+◌, ◌≤◌, ◌||◌, false, length, is_err, take, vec_len, List, IfOk, OnOk, OnErr, true};
 ghost use Rattle.std.specs.Io.KnownBytes.{Appends, Consumes, IsAtEnd, Keeps, WriteAppends, ReadConsumes};
 ghost use Rattle.nd_hook.specs.Device.{is_fault_of};
 ghost use Rattle.nd_hook.specs.Written.{WritesPart};
@@ -63,8 +63,8 @@ impl From<AllocError> for TakeError {
     }
 }
 
-/// A reader or writer with a mark, which is set exactly by a [`put`](Told::put) or a
-/// [`take`](Told::take) that the device refused.
+/// A reader or writer with a mark, which is set exactly by a [`put`](Told::put), a
+/// [`take`](Told::take) or a [`flush`](Told::flush) that the device refused.
 #[derive(Drop)]
 pub struct Told<T> {
     device: T,
@@ -105,6 +105,15 @@ impl<T> Told<T> {
         let Told { device, mark: _ } = self;
         device
     }
+
+    /// Sets the mark.
+    fn refused(&mut self) -> Fault
+        ensures device { self.new.device ≡ self.old.device }
+        ensures mark { self.new.is_marked ≡ true }
+    {
+        self.mark = true;
+        Fault
+    }
 }
 
 impl<W: Write> Told<W> {
@@ -119,15 +128,9 @@ impl<W: Write> Told<W> {
         ensures mark { self.new.is_marked ≡ (self.old.is_marked || is_err result) }
     {
         match self.device.write(text) {
-            Ok(0) if !text.is_empty() => {
-                self.mark = true;
-                Err(Fault)
-            }
+            Ok(0) if !text.is_empty() => Err(self.refused()),
             Ok(taken) => Ok(taken),
-            Err(_) => {
-                self.mark = true;
-                Err(Fault)
-            }
+            Err(_) => Err(self.refused()),
         }
     }
 
@@ -158,10 +161,7 @@ impl<W: Write> Told<W> {
     {
         match self.device.flush() {
             Ok(()) => Ok(()),
-            Err(_) => {
-                self.mark = true;
-                Err(Fault)
-            }
+            Err(_) => Err(self.refused()),
         }
     }
 }
@@ -178,10 +178,7 @@ impl<R: Read> Told<R> {
     {
         match self.device.read(room) {
             Ok(taken) => Ok(taken),
-            Err(_) => {
-                self.mark = true;
-                Err(Fault)
-            }
+            Err(_) => Err(self.refused()),
         }
     }
 
