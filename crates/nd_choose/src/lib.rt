@@ -7,3 +7,6 @@ mod order;
 
 pub use choice::{choose, choose_in};
 pub use order::beats;
+
+#[cfg(test)]
+mod tests;

@@ -80,10 +80,17 @@ fn local_platforms(rt: HostRuntime) -> Result<(), Fail> {
         (b"x86_64-linux".as_slice(), b"kvm".as_slice(), true),
         (b"i686-linux".as_slice(), b"".as_slice(), true),
         (b"aarch64-linux".as_slice(), b"".as_slice(), false),
-        (b"x86_64-linux".as_slice(), b"big-parallel".as_slice(), false),
+        (
+            b"x86_64-linux".as_slice(),
+            b"big-parallel".as_slice(),
+            false,
+        ),
         (b"builtin".as_slice(), b"".as_slice(), false),
     ] {
-        assert_eq!(rt; local_ok(&local, &need_of(rt.alloc(), system, features)?), holds);
+        assert_eq!(rt;
+            local_ok(&local, &need_of(rt.alloc(), system, features)?),
+            holds
+        );
     }
     let mut need = need_of(rt.alloc(), b"builtin", b"")?.try_clone(rt.alloc())?;
     need.builtin = true;

@@ -1,6 +1,9 @@
 //! The worked examples of replies, and devices that refuse.
 
-use crate::{Decision, Fault, Reply, TakeError, Told, WriteError, decide, decide_in, reply, reply_in, write_reply};
+use crate::{
+    Decision, Fault, Reply, TakeError, Told, WriteError, decide, decide_in, reply, reply_in,
+    write_reply,
+};
 use nd_bytes::ByteString;
 use nd_eligible::{Need, words};
 use nd_machines::{Machine, MachineError, parse_builders};
@@ -71,10 +74,26 @@ impl io::Read for Dripping {
 fn idle_replies(rt: HostRuntime) -> Result<(), Fail> {
     let need = plain_need(rt.alloc())?;
     for (list, told, text) in [
-        (b"".as_slice(), Reply::DeclinePermanently, b"# decline-permanently\n".as_slice()),
-        (b"m aarch64-linux".as_slice(), Reply::Decline, b"# decline\n".as_slice()),
-        (b"m - - 0".as_slice(), Reply::Decline, b"# decline\n".as_slice()),
-        (b"m".as_slice(), Reply::Accept(0), b"# accept\nssh://m\n".as_slice()),
+        (
+            b"".as_slice(),
+            Reply::DeclinePermanently,
+            b"# decline-permanently\n".as_slice(),
+        ),
+        (
+            b"m aarch64-linux".as_slice(),
+            Reply::Decline,
+            b"# decline\n".as_slice(),
+        ),
+        (
+            b"m - - 0".as_slice(),
+            Reply::Decline,
+            b"# decline\n".as_slice(),
+        ),
+        (
+            b"m".as_slice(),
+            Reply::Accept(0),
+            b"# accept\nssh://m\n".as_slice(),
+        ),
     ] {
         let machines = machines_of(rt.alloc(), list)?;
         let loads = [0];
@@ -99,21 +118,63 @@ fn full_machines(rt: HostRuntime) -> Result<(), Fail> {
     let mut need = plain_need(rt.alloc())?;
     let machines = machines_of(rt.alloc(), b"m")?;
     assert_eq!(rt; machines.len(), 1);
-    assert_eq!(rt; reply(&machines, &[1], &[true], &need, false), Reply::Postpone);
-    assert_eq!(rt; reply(&machines, &[1], &[true], &need, true), Reply::Decline);
-    assert_eq!(rt; reply(&machines, &[0], &[false], &need, false), Reply::Decline);
-    assert_eq!(rt; reply_in(&machines, &[0], &[1], &[true], false), Reply::Postpone);
-    assert_eq!(rt; reply_in(&machines, &[], &[1], &[true], false), Reply::Decline);
-    assert_eq!(rt; decide(&machines, &[0], &[true], &need, true, true), Decision::Remote(0));
-    assert_eq!(rt; decide(&machines, &[1], &[true], &need, true, true), Decision::Local);
-    assert_eq!(rt; decide(&machines, &[1], &[true], &need, true, false), Decision::Wait);
-    assert_eq!(rt; decide(&machines, &[0], &[false], &need, false, false), Decision::NoBuilder);
-    assert_eq!(rt; decide(&machines, &[0], &[false], &need, true, false), Decision::Wait);
+    assert_eq!(rt;
+        reply(&machines, &[1], &[true], &need, false),
+        Reply::Postpone
+    );
+    assert_eq!(rt;
+        reply(&machines, &[1], &[true], &need, true),
+        Reply::Decline
+    );
+    assert_eq!(rt;
+        reply(&machines, &[0], &[false], &need, false),
+        Reply::Decline
+    );
+    assert_eq!(rt;
+        reply_in(&machines, &[0], &[1], &[true], false),
+        Reply::Postpone
+    );
+    assert_eq!(rt;
+        reply_in(&machines, &[], &[1], &[true], false),
+        Reply::Decline
+    );
+    assert_eq!(rt;
+        decide(&machines, &[0], &[true], &need, true, true),
+        Decision::Remote(0)
+    );
+    assert_eq!(rt;
+        decide(&machines, &[1], &[true], &need, true, true),
+        Decision::Local
+    );
+    assert_eq!(rt;
+        decide(&machines, &[1], &[true], &need, true, false),
+        Decision::Wait
+    );
+    assert_eq!(rt;
+        decide(&machines, &[0], &[false], &need, false, false),
+        Decision::NoBuilder
+    );
+    assert_eq!(rt;
+        decide(&machines, &[0], &[false], &need, true, false),
+        Decision::Wait
+    );
     need.prefer_local = true;
-    assert_eq!(rt; decide(&machines, &[0], &[true], &need, true, true), Decision::Local);
-    assert_eq!(rt; decide(&machines, &[0], &[true], &need, true, false), Decision::Wait);
-    assert_eq!(rt; decide(&machines, &[0], &[true], &need, false, false), Decision::Remote(0));
-    assert_eq!(rt; decide_in(&machines, &[], &[0], &[true], false, false, false), Decision::NoBuilder);
+    assert_eq!(rt;
+        decide(&machines, &[0], &[true], &need, true, true),
+        Decision::Local
+    );
+    assert_eq!(rt;
+        decide(&machines, &[0], &[true], &need, true, false),
+        Decision::Wait
+    );
+    assert_eq!(rt;
+        decide(&machines, &[0], &[true], &need, false, false),
+        Decision::Remote(0)
+    );
+    assert_eq!(rt;
+        decide_in(&machines, &[], &[0], &[true], false, false, false),
+        Decision::NoBuilder
+    );
     Ok(())
 }
 
@@ -121,17 +182,25 @@ fn full_machines(rt: HostRuntime) -> Result<(), Fail> {
 fn refusing_devices(rt: HostRuntime) -> Result<(), Fail> {
     let machines = machines_of(rt.alloc(), b"m")?;
     assert_eq!(rt; machines.len(), 1);
-    let text = b"# accept\nssh://m\n";
-    for (most, left, written) in [(3, 9, 17), (3, 4, 11), (100, 1, 9), (100, 0, 0), (0, 9, 0)] {
+    let text = b"# accept\nssh://m\n".as_slice();
+    for (most, left, whole) in [
+        (3, 9, true),
+        (3, 4, false),
+        (100, 1, false),
+        (100, 0, false),
+        (0, 9, false),
+    ] {
         let mut out = Told::new(Short {
             bytes: Vec::new(rt.alloc()),
             most,
             left,
         });
         let answer = write_reply(&Reply::Accept(0), &machines, &mut out);
-        assert_eq!(rt; answer.is_ok(), written == text.len());
+        assert_eq!(rt; answer.is_ok(), whole);
         assert_eq!(rt; out.marked(), answer == Err(WriteError::Write));
-        assert_eq!(rt; out.into_inner().bytes.as_slice(), &text[..written]);
+        let written = out.into_inner().bytes;
+        assert!(rt; text.starts_with(&written));
+        assert_eq!(rt; written.len() == text.len(), whole);
     }
     let mut out = Told::new(Short {
         bytes: Vec::new(rt.alloc()),
@@ -151,7 +220,10 @@ fn refusing_devices(rt: HostRuntime) -> Result<(), Fail> {
         assert_eq!(rt; input.marked(), bytes.is_none());
     }
     let mut input = Told::new(b"abc".as_slice());
-    assert_eq!(rt; input.take_all(rt.alloc(), 3)?.as_slice(), b"abc".as_slice());
+    assert_eq!(rt;
+        input.take_all(rt.alloc(), 3)?.as_slice(),
+        b"abc".as_slice()
+    );
     Ok(())
 }
 
