@@ -7,9 +7,9 @@ use Rattle.nd_graph.specs.Columned.{HasColumns}
 use Rattle.nd_graph.specs.Graphs.{nodes_of, needed, node_limit, Nodes, IsGraph, NamesOutputs}
 use Rattle.nd_graph.specs.Numbered.{fault_at}
 use Rattle.nd_graph.specs.Orders.{IsOrderFault}
-use Rattle.nd_graph.specs.Settled.{ArePairedNodes, AreSized, IsGraphRead, IsPaired, IsRead, IsReadFault, IsResolved, ReadsPaired, said, of_line, of_whole}
+use Rattle.nd_graph.specs.Settled.{AreFit, AreSized, IsGraphRead, IsFit, IsRead, IsReadFault, IsResolved, ReadsFit, said, of_line, of_whole}
 use Rattle.nd_graph.specs.Walks.{AreDistinct, AreInRange, IsOrder}
-use Rattle.nd_graph.specs.Whole.{links_of, AllNumbered, AreNumbered, ArePaired, IsAt, IsGraphOf, IsNumbered, IsTooMany, IsWholeFault}
+use Rattle.nd_graph.specs.Whole.{links_of, AllNumbered, AreNumbered, ArePaired, IsAt, IsGraphOf, IsNumbered, IsTooMany, IsWholeFault, AllNamesRise, NamesRise}
 use Rattle.nd_graph.specs.declared.columns.Columns.{Columns}
 use Rattle.nd_graph.specs.declared.fault.GraphError.{GraphError}
 use Rattle.nd_graph.specs.declared.fault.GraphError.TheVariants.{BadLine, BadPath, BadDerivation, UnknownOutput, BadAttribute, WrongPath, Duplicate, MissingInput, MissingOutput, Cycle, TooMany, Memory}
@@ -98,16 +98,29 @@ columns_sized nodes columns has =
     }
 
 -- and as many names as paths of outputs
-paired_at : (nodes : List LineNode) (d : ℕ) → ((node : LineNode) → Contains nodes node → IsPaired node) → length (get_or (map (λ (n : LineNode). n.output_names) nodes) d []) ≡ length (get_or (map (λ (n : LineNode). n.outputs) nodes) d [])
+paired_at : (nodes : List LineNode) (d : ℕ) → ((node : LineNode) → Contains nodes node → IsFit node) → length (get_or (map (λ (n : LineNode). n.output_names) nodes) d []) ≡ length (get_or (map (λ (n : LineNode). n.outputs) nodes) d [])
 paired_at [] d pairs = refl
-paired_at (n ∷ nodes) zero pairs = pairs n (0, omega arith, refl)
+paired_at (n ∷ nodes) zero pairs = (pairs n (0, omega arith, refl)).paired
 paired_at (n ∷ nodes) (suc d) pairs = paired_at nodes d (λ node on. pairs node (suc on.0, omega (arith, on.1), on.2))
 
-pub columns_paired : (nodes : List LineNode) (columns : Columns) → HasColumns nodes columns → ArePairedNodes nodes → ArePaired columns.names.items columns.outputs.items
+pub columns_paired : (nodes : List LineNode) (columns : Columns) → HasColumns nodes columns → AreFit nodes → ArePaired columns.names.items columns.outputs.items
 columns_paired nodes columns has pairs = record {
   sized = (columns_sized nodes columns has).names ∙ sym (columns_sized nodes columns has).outputs;
   paired = λ d.
-      ap (λ (xs : List (List (List ℕ))). length (get_or xs d [])) has.names ∙ paired_at nodes d pairs.paired ∙ sym (ap (λ (xs : List (List (List ℕ))). length (get_or xs d [])) has.outputs);
+      ap (λ (xs : List (List (List ℕ))). length (get_or xs d [])) has.names ∙ paired_at nodes d pairs.fit ∙ sym (ap (λ (xs : List (List (List ℕ))). length (get_or xs d [])) has.outputs);
+}
+
+-- and the names of each rise
+rising_at : (nodes : List LineNode) (d : ℕ) → ((node : LineNode) → Contains nodes node → IsFit node) → d < length nodes → NamesRise (get_or (map (λ (n : LineNode). n.output_names) nodes) d [])
+rising_at [] d fit lt = absurd (omega (arith, lt))
+rising_at (n ∷ nodes) zero fit lt = (fit n (0, omega arith, refl)).rising
+rising_at (n ∷ nodes) (suc d) fit lt = rising_at nodes d (λ node on. fit node (suc on.0, omega (arith, on.1), on.2)) (omega (arith, lt))
+
+pub columns_rising : (nodes : List LineNode) (columns : Columns) → HasColumns nodes columns → AreFit nodes → AllNamesRise columns.names.items
+columns_rising nodes columns has fit = record {
+  rise = λ d lt.
+      let long : length columns.names.items ≡ length nodes = ap (λ (xs : List (List (List ℕ))). length xs) has.names ∙ length-map nodes (λ (n : LineNode). n.output_names) in
+      subst (λ (xs : List (List (List ℕ))). NamesRise (get_or xs d [])) (sym has.names) (rising_at nodes d fit.fit (omega arith));
 }
 
 -- why there is no order is a refusal over the whole
@@ -141,15 +154,15 @@ too_many paths names wants rows order distinct resolved ordered many = record {
 }
 
 -- the nodes that were read
-pub read_paired : (read : List (Result LineNode LineFault)) (nodes : List LineNode) → ReadsPaired read → IsRead read nodes → ArePairedNodes nodes
+pub read_paired : (read : List (Result LineNode LineFault)) (nodes : List LineNode) → ReadsFit read → IsRead read nodes → AreFit nodes
 read_paired read nodes pairs is = record {
-  paired = λ node on.
+  fit = λ node on.
       let there : Contains (map said nodes) (Ok node) = (
         on.0,
         rw (length-map nodes said) on.1,
         get_or-map said nodes on.0 node (Ok node) on.1 ∙ ap said on.2,
       ) in
-      pairs.paired node (subst (λ (xs : List (Result LineNode LineFault)). Contains xs (Ok node)) (sym is.all) there);
+      pairs.fit node (subst (λ (xs : List (Result LineNode LineFault)). Contains xs (Ok node)) (sym is.all) there);
 }
 
 pub graph_read : (read : List (Result LineNode LineFault)) (nodes : List LineNode) (graph : Nodes) → IsRead read nodes → IsGraphOf nodes graph → IsGraphRead read graph

@@ -6,7 +6,7 @@ use Rattle.std.proofs.lemmas.List.Elements.{Contains-push_cases}
 use Rattle.nd_path.specs.StorePath.{path_eq}
 use Rattle.nd_graph.specs.Graphs.{IsNumber}
 use Rattle.nd_graph.specs.Numbering.{LacksItem}
-use Rattle.nd_graph.specs.Whole.{AllNumbered, AreInputsThere, AreNumbered, AreOutputsThere, ArePlaces, HasInputs, HasOutputs, IsAt, IsMissingInput, IsMissingOutput, IsNumbered, LacksInput, LacksName, LacksOutput}
+use Rattle.nd_graph.specs.Whole.{AllNumbered, AreInputsThere, AreNumbered, AreOutputsThere, ArePlaces, HasInputs, HasOutputs, IsAt, IsMissingInput, IsMissingOutput, IsNumbered, LacksInput, LacksName, LacksOutput, AllNamesRise, NamesRise}
 use Rattle.nd_graph.specs.declared.graph.Input.{Input}
 use Rattle.nd_graph.specs.declared.line.NamedInput.{NamedInput}
 use Rattle.nd_graph.proofs.Numbers.{is_there, not_there}
@@ -140,3 +140,7 @@ output_missing paths names wants rows i wanted lt is so lacks =
 -- a number is a place
 pub at_number : (paths : List (List ℕ)) (path : List ℕ) (i : ℕ) → IsNumber paths path (Some i) → IsAt paths path i
 at_number paths path i is = record { within = is.0; is = is.1 }
+
+-- the names that were read rise
+pub names_rise_at : (names : List (List (List ℕ))) (node : ℕ) (row : List (List ℕ)) → node < length names → row ≡ get_or names node row → AllNamesRise names → NamesRise row
+names_rise_at names node row lt is all = subst (λ (xs : List (List ℕ)). NamesRise xs) (get_or_default names node [] row lt ∙ sym is) (all.rise node lt)

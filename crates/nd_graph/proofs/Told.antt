@@ -8,30 +8,34 @@ use Rattle.nd_graph.specs.Graphs.{Nodes}
 use Rattle.nd_graph.specs.Lines.{lines}
 use Rattle.nd_graph.specs.Numbered.{fault_at}
 use Rattle.nd_graph.specs.Reads.{IsFaulty, IsLine, Reads}
-use Rattle.nd_graph.specs.Settled.{IsGraphRead, IsPaired, IsRead, IsReadFault, ReadsPaired, said, of_line, of_whole, of_memory}
+use Rattle.nd_graph.specs.Settled.{IsGraphRead, IsFit, IsRead, IsReadFault, ReadsFit, said, of_line, of_whole, of_memory}
 use Rattle.nd_graph.specs.Whole.{links_of, IsWholeFault}
 use Rattle.nd_graph.specs.declared.fault.GraphError.{GraphError}
 use Rattle.nd_graph.specs.declared.fault.GraphError.TheVariants as bundle
 use Rattle.nd_graph.specs.declared.line.LineNode.{LineNode}
 use Rattle.nd_graph.specs.declared.refusal.LineFault.{LineFault}
 use Rattle.nd_graph.specs.declared.refusal.LineFault.TheVariants.{BadLine, BadPath, BadDerivation, UnknownOutput, BadAttribute, WrongPath, Memory}
+use Rattle.nd_graph.proofs.Rising.{names_rise}
 use Rattle.nd_graph.proofs.Zipped.{zip_at, zip_length}
 
--- a line's node has as many output names as output paths
-parts_paired : (check : Bool) (line : List ℕ) (node : LineNode) → IsLine check line node → IsPaired node
-parts_paired check line node is =
+-- a line's node has as many output names as output paths, and its output names rise
+node_fit : (check : Bool) (line : List ℕ) (node : LineNode) → IsLine check line node → IsFit node
+node_fit check line node is =
     let has = is.is_node.tells.has in
     let outputs : List Output = is.is_node.parts.outputs in
-    ap (λ (xs : List (List ℕ)). length xs) has.output_names ∙ length-map outputs (λ (o : Output). o.name)
-    ∙ sym (ap (λ (xs : List (List ℕ)). length xs) has.outputs ∙ length-map outputs (λ (o : Output). o.path))
+    record {
+      paired = ap (λ (xs : List (List ℕ)). length xs) has.output_names ∙ length-map outputs (λ (o : Output). o.name)
+          ∙ sym (ap (λ (xs : List (List ℕ)). length xs) has.outputs ∙ length-map outputs (λ (o : Output). o.path));
+      rising = record { rises = names_rise check line node is };
+    }
 
-pub reads_paired : (check : Bool) (text : List ℕ) (read : List (Result LineNode LineFault)) → AllZip (Reads check) (lines text) read → ReadsPaired read
-reads_paired check text read zip = record {
-  paired = λ node on.
+pub reads_fit : (check : Bool) (text : List ℕ) (read : List (Result LineNode LineFault)) → AllZip (Reads check) (lines text) read → ReadsFit read
+reads_fit check text read zip = record {
+  fit = λ node on.
       let long : length (lines text) ≡ length read = zip_length (Reads check) (lines text) read zip in
       let at : Reads check (get_or (lines text) on.0 []) (get_or read on.0 (Ok node)) = zip_at (Reads check) (lines text) read on.0 [] (Ok node) zip (omega (arith, on.1)) in
       let is : IsLine check (get_or (lines text) on.0 []) node = subst (λ (r : Result LineNode LineFault). Reads check (get_or (lines text) on.0 []) r) on.2 at in
-      parts_paired check (get_or (lines text) on.0 []) node is;
+      node_fit check (get_or (lines text) on.0 []) node is;
 }
 
 -- the nodes of lines that were all read

@@ -9,19 +9,20 @@ use Rattle.nd_graph.specs.declared.columns.Columns.{Columns}
 use Rattle.nd_graph.specs.declared.graph.Input.{Input}
 use Rattle.nd_graph.specs.Graphs.{Nodes}
 use Rattle.nd_graph.specs.Numbered.{fault_at}
-use Rattle.nd_graph.specs.Whole.{links_of, AllNumbered, AreInputsThere, IsGraphOf, IsMissingInput, IsMissingOutput, IsWholeFault}
+use Rattle.nd_graph.specs.Whole.{links_of, AllNumbered, AreInputsThere, IsGraphOf, IsMissingInput, IsMissingOutput, IsWholeFault, NamesRise}
 
--- the node has as many output names as output paths
-abbrev pub IsPaired : LineNode → Type 0
-IsPaired node = length node.output_names ≡ length node.outputs
+-- the node has as many output names as output paths, and its output names rise
+pub record IsFit (node : LineNode) : Type 0 where
+  pub paired : length node.output_names ≡ length node.outputs
+  pub rising : NamesRise node.output_names
 
--- each of the nodes has
-pub record ArePairedNodes (nodes : List LineNode) : Type 0 where
-  pub paired : (node : LineNode) → Contains nodes node → IsPaired node
+-- each of the nodes is so
+pub record AreFit (nodes : List LineNode) : Type 0 where
+  pub fit : (node : LineNode) → Contains nodes node → IsFit node
 
--- each node that was read has
-pub record ReadsPaired (read : List (Result LineNode LineFault)) : Type 0 where
-  pub paired : (node : LineNode) → Contains read (Ok node) → IsPaired node
+-- each node that was read is so
+pub record ReadsFit (read : List (Result LineNode LineFault)) : Type 0 where
+  pub fit : (node : LineNode) → Contains read (Ok node) → IsFit node
 
 -- a line was read
 abbrev pub said : LineNode → Result LineNode LineFault

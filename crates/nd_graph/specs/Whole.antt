@@ -2,6 +2,8 @@
 -- (this project's own choice). Nodes are numbered in the order of the lines.
 use Rattle.std.specs.Prelude.{◌≡◌, ℕ, ◌+◌, ◌<◌, List, [], ◌∷◌, ◌++◌, length, map, Contains}
 use Rattle.std.specs.List.{slice_index_or, AllZip}
+use Rattle.std.specs.List.Sorted.{IsStrictlySortedBy}
+use Rattle.nd_bytes.specs.Compared.{bytes_cmp}
 use Rattle.nd_graph.specs.declared.line.NamedInput.{NamedInput}
 use Rattle.nd_graph.specs.declared.line.LineNode.{LineNode}
 use Rattle.nd_graph.specs.declared.graph.Input.{Input}
@@ -145,6 +147,14 @@ IsWholeFault links Cycle = IsCycle links
 IsWholeFault links TooMany = IsTooMany links
 IsWholeFault links Memory = Unit {0}
 IsWholeFault links _ = ⊥
+
+-- a list of names that rises
+pub record NamesRise (names : List (List ℕ)) : Type 0 where
+  pub rises : IsStrictlySortedBy bytes_cmp names
+
+-- the names of each node rise
+pub record AllNamesRise (names : List (List (List ℕ))) : Type 0 where
+  pub rise : (d : ℕ) → d < length names → NamesRise (slice_index_or names d [])
 
 -- each node has as many output names as output paths
 pub record ArePaired (names : List (List (List ℕ))) (outputs : List (List (List ℕ))) : Type 0 where

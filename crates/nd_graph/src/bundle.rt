@@ -16,7 +16,7 @@ use std::thread::Threads;
 /// Refuses with the first of the refusals 1 to 6 of `GraphError` on the first line that has one,
 /// else with the first of 7 to 11 over the whole, and with `Memory` (12) where an allocation is
 /// refused.
-#[tactic(auto, using(crate::proofs::Told::reads_paired, crate::proofs::Told::is_bundle, crate::proofs::Told::first_fault))]
+#[tactic(auto, using(crate::proofs::Told::reads_fit, crate::proofs::Told::is_bundle, crate::proofs::Told::first_fault))]
 pub fn read_bundle(
     rt: &(impl Threads + Sync),
     alloc: Global,

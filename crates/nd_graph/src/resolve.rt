@@ -4,7 +4,7 @@ ghost use Rattle.std.specs.Prelude.{◌≡◌, ◌<◌, [], length, Contains, If
 ghost use Rattle.std.specs.List.{slice_index_or};
 ghost use Rattle.nd_graph.specs.Graphs.{IsNumber};
 ghost use Rattle.nd_graph.specs.Numbering.{IsOutputFault, LacksItem};
-ghost use Rattle.nd_graph.specs.Whole.{AllNumbered, AreInputsThere, AreNumbered, ArePlaces, HasInputs, IsAt, IsNumbered, LacksName, LacksOutput};
+ghost use Rattle.nd_graph.specs.Whole.{AllNumbered, AreInputsThere, AreNumbered, ArePlaces, HasInputs, IsAt, IsNumbered, LacksName, LacksOutput, AllNamesRise, NamesRise};
 
 use crate::fault::GraphError;
 use crate::graph::Input;
@@ -26,6 +26,7 @@ pub(crate) fn number_inputs(
 ) -> Result<Vec<Items<Input>>, GraphError>
     requires there { AreInputsThere paths.now.keys wants.now }
     requires sized { length names.now ≡ length paths.now.keys }
+    requires rising { AllNamesRise names.now }
     ensures ok { IfOk result (λ rows. AllNumbered paths.now.keys names.now wants.now rows.items) }
     ensures err { IfErr result (λ fault. IsOutputFault paths.now.keys names.now wants.now fault) }
 {
@@ -49,6 +50,7 @@ fn number_row(
 ) -> Result<Option<Items<Input>>, AllocError>
     requires there { HasInputs paths.now.keys wants.now }
     requires sized { length names.now ≡ length paths.now.keys }
+    requires rising { AllNamesRise names.now }
     ensures { IfOk result (λ row. MatchOption row (LacksOutput paths.now.keys names.now wants.now) (λ inputs. AreNumbered paths.now.keys names.now wants.now inputs)) }
 {
     let mut row = Vec::with_capacity(alloc, wants.len())?;
@@ -71,6 +73,7 @@ fn number_input(
 ) -> Result<Option<Input>, AllocError>
     requires there { Contains paths.now.keys want.now.path }
     requires sized { length names.now ≡ length paths.now.keys }
+    requires rising { AllNamesRise names.now }
     ensures { IfOk result (λ r. MatchOption r (LacksName paths.now.keys names.now want.now) (λ input. IsNumbered paths.now.keys names.now want.now input)) }
 {
     let node = node_of(paths, &want.path);
@@ -92,21 +95,25 @@ fn node_of(paths: &IndexSet<StorePath>, path: &StorePath) -> usize
     }
 }
 
-/// The names of the outputs of a node.
+/// The names of the outputs of a node, which rise.
+#[tactic(auto, using(crate::proofs::Linked::names_rise_at))]
 fn names_of(names: &[Items<ByteString>], node: usize) -> &[ByteString]
-    requires { node < length names.now }
-    ensures { result.now ≡ slice_index_or names.now node [] }
+    requires within { node < length names.now }
+    requires rising { AllNamesRise names.now }
+    ensures names { result.now ≡ slice_index_or names.now node [] }
+    ensures rising { NamesRise result.now }
 {
     names[node].as_slice()
 }
 
-/// The places of the wanted names, or none where one is missing.
+/// The places of the wanted names in a rising list, or none where one is missing.
 #[tactic(auto, using(crate::proofs::Linked::places_none, crate::proofs::Linked::places_more, crate::proofs::Linked::places_all, crate::proofs::Linked::item_lacks))]
 fn places_of(
     alloc: Global,
     names: &[ByteString],
     wanted: &[ByteString],
 ) -> Result<Option<Items<usize>>, AllocError>
+    requires { NamesRise names.now }
     ensures { IfOk result (λ r. MatchOption r (LacksItem names.now wanted.now) (λ places. ArePlaces names.now wanted.now places)) }
 {
     let mut places = Vec::with_capacity(alloc, wanted.len())?;
@@ -119,9 +126,13 @@ fn places_of(
     Ok(Some(Items::new(places)))
 }
 
-/// The place of a name.
+/// The place of a name in a rising list, found by a binary search.
 fn place_of(names: &[ByteString], name: &ByteString) -> Option<usize>
+    requires { NamesRise names.now }
     ensures { IsNumber names.now name.now result }
 {
-    names.iter().position(|other| other == name)
+    match names.binary_search(name) {
+        Ok(place) => Some(place),
+        Err(_) => None,
+    }
 }

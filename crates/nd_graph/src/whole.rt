@@ -1,8 +1,8 @@
 //! The graph of a bundle's nodes.
 
 ghost use Rattle.std.specs.Prelude.{◌≡◌, length, map, Ok, IfOk, IfErr};
-ghost use Rattle.nd_graph.specs.Settled.{ArePairedNodes, AreSized, IsFirstErr, IsGraphOfColumns, IsGraphRead, IsLinkFault, IsRead, IsReadFault, IsResolved, ReadsPaired};
-ghost use Rattle.nd_graph.specs.Whole.{links_of, ArePaired, IsGraphOf, IsWholeFault};
+ghost use Rattle.nd_graph.specs.Settled.{AreFit, AreSized, IsFirstErr, IsGraphOfColumns, IsGraphRead, IsLinkFault, IsRead, IsReadFault, IsResolved, ReadsFit};
+ghost use Rattle.nd_graph.specs.Whole.{links_of, AllNamesRise, ArePaired, IsGraphOf, IsWholeFault};
 
 use crate::columns::{Columns, split_nodes};
 use crate::fault::GraphError;
@@ -28,7 +28,7 @@ pub(crate) fn graph_of(
     alloc: Global,
     read: Vec<Result<LineNode, LineFault>>,
 ) -> Result<Graph, GraphError>
-    requires { ReadsPaired read.items }
+    requires { ReadsFit read.items }
     ensures ok { IfOk result (λ graph. IsGraphRead read.items graph) }
     ensures err { IfErr result (λ error. IsReadFault read.items error) }
 {
@@ -56,9 +56,9 @@ fn settle(
 }
 
 /// The graph of the nodes, or the first refusal over the whole.
-#[tactic(auto, using(crate::proofs::Assembled::columns_sized, crate::proofs::Assembled::columns_paired))]
+#[tactic(auto, using(crate::proofs::Assembled::columns_sized, crate::proofs::Assembled::columns_paired, crate::proofs::Assembled::columns_rising))]
 fn assemble(alloc: Global, nodes: Vec<LineNode>) -> Result<Graph, GraphError>
-    requires { ArePairedNodes nodes.items }
+    requires { AreFit nodes.items }
     ensures ok { IfOk result (λ graph. IsGraphOf nodes.items graph) }
     ensures err { IfErr result (λ fault. IsWholeFault (links_of nodes.items) fault) }
 {
@@ -70,6 +70,7 @@ fn assemble(alloc: Global, nodes: Vec<LineNode>) -> Result<Graph, GraphError>
 fn link(alloc: Global, columns: Columns) -> Result<Graph, GraphError>
     requires sized { AreSized columns }
     requires paired { ArePaired columns.names.items columns.outputs.items }
+    requires rising { AllNamesRise columns.names.items }
     ensures ok { IfOk result (λ graph. IsGraphOfColumns columns graph) }
     ensures err { IfErr result (λ fault. IsWholeFault (record { paths = columns.paths.items; wants = columns.wants.items; names = columns.names.items }) fault) }
 {
@@ -97,7 +98,8 @@ fn resolve(
     names: &[Items<ByteString>],
     wants: &[Items<NamedInput>],
 ) -> Result<Vec<Items<Input>>, GraphError>
-    requires { length names.now ≡ length paths.now.keys }
+    requires sized { length names.now ≡ length paths.now.keys }
+    requires rising { AllNamesRise names.now }
     ensures ok { IfOk result (λ rows. IsResolved paths.now.keys names.now wants.now rows.items) }
     ensures err { IfErr result (λ fault. IsLinkFault paths.now.keys names.now wants.now fault) }
 {
