@@ -2,7 +2,7 @@
 use Rattle.std.specs.Prelude.{◌≡◌, ℕ, ◌-◌, List, length, reverse, min, vec_len, vec_capacity}
 use Rattle.nd_ledger.specs.declared.book.Book.TheInside.{Inside}
 use Rattle.nd_ledger.specs.Books.{Recorded}
-use Rattle.nd_ledger.specs.History.{live}
+use Rattle.nd_ledger.specs.History.{live, has_stop}
 use Rattle.nd_ledger.specs.Kept.{AreStarted, AreUp}
 
 abbrev pub recorded : Inside → Recorded
@@ -18,3 +18,4 @@ pub record AreFollowed (b : Inside) : Type 0 where
   pub leases : b.leases.items ≡ reverse (live (reverse b.entries.items))
   pub started : AreStarted (reverse b.entries.items) b.started.items
   pub ups : AreUp (reverse b.entries.items) b.ups.items
+  pub stop : b.stop ≡ has_stop (reverse b.entries.items)

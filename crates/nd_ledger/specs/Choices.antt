@@ -24,6 +24,10 @@ abbrev pub jobs_of : Premises → ℕ → ℕ
 jobs_of i zero = i.local.jobs
 jobs_of i (suc p) = jobs_at i.machines p
 
+-- no machine builds more than 65,535 at once (this project's own choice)
+pub record AreSmall (i : Premises) : Type 0 where
+  pub jobs : (m : ℕ) → jobs_of i m ≤ 65535
+
 -- the loads of the builders, in the order of their list
 abbrev pub loads_of : Premises → List Entry → List ℕ
 loads_of i past = map (λ p. load (p + 1) past) (range_with_len 0 (length i.machines))

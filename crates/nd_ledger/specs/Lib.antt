@@ -1,8 +1,14 @@
 pub mod Books
 pub mod BooksKept
 pub mod Choices
+pub mod Headline
 pub mod History
+pub mod Inner
 pub mod Kept
+pub mod Legal
 pub mod Premises
+pub mod Pumping
 pub mod References
+pub mod Refusals
 pub mod Standing
+pub mod Worlds

@@ -22,6 +22,6 @@ premises_of i = record {
   graph = i.graph;
   machines = i.machines;
   local = i.local;
-  info = i.info;
+  info = i.info.entries;
   keep_going = i.keep_going;
 }

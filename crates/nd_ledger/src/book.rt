@@ -1,14 +1,14 @@
 //! The entries so far, and what follows from them for leases and machines.
 
-ghost use Rattle.std.specs.Prelude.{◌≡◌, ◌+◌, ◌<◌, ◌≤◌, ◌++◌, [], ◌∷◌, length, reverse, IfOk, OnOk};
-ghost use Rattle.nd_ledger.specs.History.{live, lease_of, current_of, load, is_taken, is_started, is_up};
+ghost use Rattle.std.specs.Prelude.{◌≡◌, ◌+◌, ◌<◌, ◌≤◌, ◌^◌, ◌++◌, [], ◌∷◌, length, reverse, IfOk, OnOk};
+ghost use Rattle.nd_ledger.specs.History.{live, lease_of, current_of, load, is_taken, is_started, is_up, has_stop};
 
 use std::alloc::{AllocError, Global};
 use std::marker::Model;
 
 use crate::entry::{Entry, Ticket};
 use crate::finding::{count_on, is_any_on, newest_of, newest_on};
-use crate::tables::{follow_leases, follow_started, follow_ups};
+use crate::tables::{follow_leases, follow_started, follow_stop, follow_ups};
 
 /// A history with the tables that follow it: the live leases, which derivations were started since
 /// their newest choice, and which machines are up. No question is answered by a search of the
@@ -20,6 +20,7 @@ pub struct Book {
     leases: Vec<Ticket>,
     started: Vec<bool>,
     ups: Vec<bool>,
+    stop: bool,
 }
 
 impl Model for Book {
@@ -46,6 +47,7 @@ impl Book {
         follow_ups(&mut self.ups, self.leases.as_slice(), &entry);
         follow_started(&mut self.started, &entry);
         follow_leases(&mut self.leases, self.entries.len(), &entry);
+        self.stop = follow_stop(self.stop, &entry);
         self.entries.push_reserved(entry);
     }
 
@@ -62,6 +64,7 @@ impl Book {
             leases: Vec::with_capacity(alloc, 1)?,
             started: vec![in alloc; false; drvs]?,
             ups: vec![in alloc; true; machines]?,
+            stop: false,
         })
     }
 
@@ -86,7 +89,8 @@ impl Book {
 
     /// The number of live leases.
     pub fn live_len(&self) -> usize
-        ensures { result ≡ length (live (reverse self.now.entries)) }
+        ensures live { result ≡ length (live (reverse self.now.entries)) }
+        ensures small { result < 2 ^ 63 }
     {
         self.leases.len()
     }
@@ -119,6 +123,13 @@ impl Book {
         ensures { result ≡ is_taken machine slot (reverse self.now.entries) }
     {
         is_any_on(self.leases.as_slice(), machine, slot)
+    }
+
+    /// Whether a stop was asked for.
+    pub fn has_stop(&self) -> bool
+        ensures { result ≡ has_stop (reverse self.now.entries) }
+    {
+        self.stop
     }
 
     /// Whether derivation `drv` was started since its newest choice.

@@ -2,11 +2,10 @@
 
 ghost use Rattle.std.specs.Prelude.{◌≡◌, IfOk};
 
-use std::alloc::{AllocError, Global};
+use std::alloc::AllocError;
 
+use nd_closure::Refs;
 use nd_path::PathSet;
-
-use crate::refs::Refs;
 
 /// Why a lease ended without its outputs.
 #[derive(Clone, Copy, Debug, PartialEq, Eq)]
@@ -50,7 +49,7 @@ pub enum Entry {
 
 impl Entry {
     /// A copy that is equal to the original.
-    pub fn try_clone(&self, alloc: Global) -> Result<Entry, AllocError>
+    pub fn try_clone(&self) -> Result<Entry, AllocError>
         ensures { IfOk result (λ e. e ≡ self.now) }
     {
         Ok(match self {
@@ -71,7 +70,7 @@ impl Entry {
             Entry::Down { drv } => Entry::Down { drv: *drv },
             Entry::Built { drv, refs } => Entry::Built {
                 drv: *drv,
-                refs: refs.try_clone(alloc)?,
+                refs: refs.try_clone()?,
             },
             Entry::Failed { drv, why } => Entry::Failed {
                 drv: *drv,

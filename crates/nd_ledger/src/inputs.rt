@@ -1,10 +1,25 @@
 //! What a dispatch is made of: the five inputs, which never change.
 
 use nd_bytes::Items;
+use nd_closure::RefTable;
 use nd_eligible::Local;
 use nd_graph::Graph;
 use nd_machines::Machine;
-use nd_path::{PathSet, StorePath};
+
+/// The five inputs as [`crate::Dispatch::new`] hands them back where memory was refused.
+#[derive(Drop, Debug)]
+pub struct Parts {
+    /// The derivations and what each needs.
+    pub graph: Graph,
+    /// The builders.
+    pub machines: Vec<Machine>,
+    /// The settings of the local machine.
+    pub local: Local,
+    /// The paths that are listed with their references.
+    pub info: RefTable,
+    /// Whether the rest goes on after a failure.
+    pub keep_going: bool,
+}
 
 /// The inputs of a dispatch. They are fixed from its making on.
 #[derive(Drop, Debug)]
@@ -16,7 +31,7 @@ pub struct Inputs {
     /// The settings of the local machine, which is machine 0.
     pub local: Local,
     /// The paths that are listed with their references.
-    pub info: Items<(StorePath, PathSet)>,
+    pub info: RefTable,
     /// Whether the rest goes on after a failure.
     pub keep_going: bool,
 }

@@ -1,13 +1,17 @@
 //! Leases and the history of a run of builds.
 #![tactic(auto)]
 
-pub mod entry;
-pub mod inputs;
-pub mod refs;
-mod tables;
 mod book;
+mod deciding;
+mod dispatch;
+pub mod entry;
 mod finding;
+pub mod inputs;
+pub mod refusal;
+mod tables;
 
+pub use dispatch::Dispatch;
 pub use entry::{Entry, Ticket, Why};
-pub use inputs::Inputs;
-pub use refs::Refs;
+pub use inputs::{Inputs, Parts};
+pub use nd_closure::Refs;
+pub use refusal::{Refusal, Refused};

@@ -1,8 +1,8 @@
 //! Tables of leases and flags that follow a history entry by entry.
 
-ghost use Rattle.std.specs.Prelude.{◌≡◌, ◌+◌, ◌<◌, ◌≤◌, length, vec_len, vec_capacity, slice_set};
+ghost use Rattle.std.specs.Prelude.{◌≡◌, ◌||◌, ◌+◌, ◌<◌, ◌≤◌, length, vec_len, vec_capacity, slice_set};
 ghost use Rattle.nd_ledger.specs.Kept.{leases_after, started_after, AreUpsAfter, AreLowered};
-ghost use Rattle.nd_ledger.specs.History.{without};
+ghost use Rattle.nd_ledger.specs.History.{without, is_stop};
 
 use crate::entry::{Entry, Ticket};
 
@@ -80,5 +80,15 @@ fn put(flags: &mut Vec<bool>, place: usize, flag: bool)
 {
     if place < flags.len() {
         flags[place] = flag;
+    }
+}
+
+/// Follows whether a stop was asked for over one more entry.
+pub(crate) fn follow_stop(stop: bool, entry: &Entry) -> bool
+    ensures { result ≡ (is_stop entry.now || stop) }
+{
+    match entry {
+        Entry::Stop => true,
+        _ => stop,
     }
 }

@@ -1,0 +1,147 @@
+-- What a dispatch holds stays so when an allowed entry is recorded.
+use Rattle.std.proofs.Common.{◌≡◌, ℕ, zero, suc, ◌+◌, ◌<◌, ◌≤◌, Bool, true, false, not, ◌==◌, ◌&&◌, ◌||◌, cond, if◌then◌else◌, List, [], ◌∷◌, ◌++◌, length, reverse, refl, sym, ap, ◌∙◌, subst, arith, inl, inr, Option, Some, None}
+use Rattle.std.proofs.lemmas.Grind.{common_steps}
+use Rattle.std.proofs.lemmas.Bool.{cases_Bool}
+use Rattle.std.specs.List.{list_any, filter, find}
+use Rattle.nd_ledger.specs.declared.dispatch.Dispatch.TheInside.{Inside}
+use Rattle.nd_ledger.specs.declared.entry.Entry.{Entry}
+use Rattle.nd_ledger.specs.declared.entry.Entry.TheVariants.{Chosen, NoBuilder, Started, Down, Built, Failed, Stop, Drain, Enable}
+use Rattle.nd_ledger.specs.declared.entry.Ticket.{Ticket}
+use Rattle.nd_ledger.specs.declared.entry.Why.{Why}
+use Rattle.nd_ledger.specs.Books.{Recorded}
+use Rattle.nd_ledger.specs.Premises.{Premises, premises_of}
+use Rattle.nd_ledger.specs.History.{live, without, load, is_leased, lease_of, is_started, has_stop}
+use Rattle.nd_ledger.specs.Legal.{IsLegal, IsAllowed}
+use Rattle.nd_ledger.specs.Inner.{IsKept, room_for}
+use Rattle.nd_ledger.proofs.Following.{newest_first}
+use Rattle.nd_ledger.proofs.Legality.{leased_ranged}
+use Rattle.nd_ledger.proofs.Slots.{load_within}
+
+-- one more entry in the book
+pub record IsRecorded (old new : Recorded) (e : Entry) : Type 0 where
+  pub entries : new.entries ≡ old.entries ++ e ∷ []
+  pub room : old.room ≤ new.room + 1
+  pub drvs : new.drvs ≡ old.drvs
+  pub machines : new.machines ≡ old.machines
+
+pub kept : (d : Inside) (book : Recorded) (e : Entry) → IsRecorded d.book book e → IsKept d → IsAllowed (premises_of d.inputs) e (reverse d.book.entries) → room_for (e ∷ reverse d.book.entries) + 1 ≤ d.book.room → IsKept (record d { book = book })
+kept d book e rec was allowed room =
+    let turned : reverse book.entries ≡ e ∷ reverse d.book.entries = newest_first d.book.entries book.entries e rec.entries in
+    let P : List Entry → Type 0 = λ past. IsLegal (premises_of d.inputs) past in
+    let Q : List Entry → Type 0 = λ past. room_for past ≤ book.room in
+    record {
+      legal = subst P (sym turned) (allowed, was.legal);
+      room = subst Q (sym turned) (let more = rec.room in omega arith);
+      sound = was.sound;
+      drvs = rec.drvs ∙ was.drvs;
+      park = rec.machines ∙ was.park;
+      few = was.few;
+      small = was.small;
+    }
+
+-- ---- leases that are found
+
+found_step : (d : ℕ) (x : Ticket) (leases : List Ticket) (t : Ticket) (b : Bool) → cond b (Some x) (find (λ t. d == t.drv) leases) ≡ Some t → (find (λ t. d == t.drv) leases ≡ Some t → list_any (λ t. d == t.drv) leases ≡ true) → (b || list_any (λ t. d == t.drv) leases) ≡ true
+found_step d x leases t true h rest = refl
+found_step d x leases t false h rest = rest h
+
+-- a lease that is found is there
+pub found_any : (d : ℕ) (leases : List Ticket) (t : Ticket) → find (λ t. d == t.drv) leases ≡ Some t → list_any (λ t. d == t.drv) leases ≡ true
+found_any d [] t h = cc
+found_any d (x ∷ leases) t h = found_step d x leases t (d == x.drv) h (found_any d leases t)
+
+-- a derivation's lease that is found makes it leased
+pub found_leased : (d : ℕ) (past : List Entry) (t : Ticket) → lease_of d past ≡ Some t → is_leased d past ≡ true
+found_leased d past t h = found_any d (live past) t h
+
+filter_le : {X : Type 0} → (p : X → Bool) (xs : List X) → length (filter p xs) ≤ length xs
+filter_le p [] = grind (arith, common_steps)
+filter_le p (x ∷ xs) = grind (arith, common_steps, filter_le p xs)
+
+fewer_step : (d : ℕ) (t : Ticket) (leases : List Ticket) (b : Bool) → (b || list_any (λ t. d == t.drv) leases) ≡ true → (list_any (λ t. d == t.drv) leases ≡ true → length (without d leases) + 1 ≤ length leases) → length (cond (not b) (t ∷ without d leases) (without d leases)) + 1 ≤ length (t ∷ leases)
+fewer_step d t leases true h rest = let le = filter_le (λ (t : Ticket). not (d == t.drv)) leases in omega arith
+fewer_step d t leases false h rest = let le = rest h in omega arith
+
+-- taking a lease out leaves fewer
+pub fewer : (d : ℕ) (leases : List Ticket) → list_any (λ t. d == t.drv) leases ≡ true → length (without d leases) + 1 ≤ length leases
+fewer d [] h = cc
+fewer d (t ∷ leases) h = fewer_step d t leases (d == t.drv) h (fewer d leases)
+
+-- ---- the entries that end leases, and a stop
+
+pub kept_failed : (d : Inside) (book : Recorded) (t : Ticket) (e : Entry) (why : Why) → e ≡ Failed t.drv why → IsRecorded d.book book e → IsKept d → lease_of t.drv (reverse d.book.entries) ≡ Some t → IsKept (record d { book = book })
+kept_failed d book t e why is rec was found =
+    let past = reverse d.book.entries in
+    let leased = found_leased t.drv past t found in
+    let P : Entry → Type 0 = λ e. IsRecorded d.book book e in
+    kept d book (Failed t.drv why) (subst P is rec) was
+    (record { ranged = leased_ranged (premises_of d.inputs) past was.legal t.drv leased; may = leased })
+    (let less = fewer t.drv (live past) leased in let room = was.room in omega arith)
+
+pub kept_down : (d : Inside) (book : Recorded) (t : Ticket) (e : Entry) → e ≡ Down t.drv → IsRecorded d.book book e → IsKept d → lease_of t.drv (reverse d.book.entries) ≡ Some t → is_started t.drv (reverse d.book.entries) ≡ false → IsKept (record d { book = book })
+kept_down d book t e is rec was found fresh =
+    let past = reverse d.book.entries in
+    let leased = found_leased t.drv past t found in
+    let P : Entry → Type 0 = λ e. IsRecorded d.book book e in
+    kept d book (Down t.drv) (subst P is rec) was
+    (record { ranged = leased_ranged (premises_of d.inputs) past was.legal t.drv leased; may = record { live = leased; fresh = fresh } })
+    (let less = fewer t.drv (live past) leased in let room = was.room in omega arith)
+
+stop_room : (past : List Entry) (n : ℕ) → has_stop past ≡ false → room_for past ≤ n → room_for (Stop ∷ past) + 1 ≤ n
+stop_room past n none room = let at = rw none at room in omega arith
+
+pub kept_stop : (d : Inside) (book : Recorded) → IsRecorded d.book book Stop → IsKept d → has_stop (reverse d.book.entries) ≡ false → IsKept (record d { book = book })
+kept_stop d book rec was none =
+    kept d book Stop rec was (record { ranged = tt; may = none }) (stop_room (reverse d.book.entries) d.book.room none was.room)
+
+-- ---- entries that end no lease, for which room was made
+
+-- the book has room for more, and is as it was
+pub record HasRoom (old new : Recorded) (n : ℕ) : Type 0 where
+  pub entries : new.entries ≡ old.entries
+  pub drvs : new.drvs ≡ old.drvs
+  pub machines : new.machines ≡ old.machines
+  pub room : old.room ≤ new.room
+  pub more : n ≤ new.room
+
+stop_bit : (b : Bool) → (if b then 0 else 1) ≤ 1
+stop_bit true = omega arith
+stop_bit false = omega arith
+
+-- what was held is held with more room
+pub kept_room : (d : Inside) (book : Recorded) (n : ℕ) → HasRoom d.book book n → IsKept d → IsKept (record d { book = book })
+kept_room d book n more was =
+    let P : List Entry → Type 0 = λ es. IsLegal (premises_of d.inputs) (reverse es) in
+    let Q : List Entry → Type 0 = λ es. room_for (reverse es) ≤ book.room in
+    record {
+      legal = subst P (sym more.entries) was.legal;
+      room = subst Q (sym more.entries) (let was_room = was.room in let now = more.room in omega arith);
+      sound = was.sound;
+      drvs = more.drvs ∙ was.drvs;
+      park = more.machines ∙ was.park;
+      few = was.few;
+      small = was.small;
+    }
+
+-- an entry that makes no more than one lease is recorded where room was made for it, a stop and all leases
+pub kept_more : (d : Inside) (roomy book : Recorded) (e : Entry) (n : ℕ) → HasRoom d.book roomy (length (live (reverse d.book.entries)) + n + 2) → IsRecorded roomy book e → IsKept d → IsAllowed (premises_of d.inputs) e (reverse d.book.entries) → length (live (e ∷ reverse d.book.entries)) ≤ length (live (reverse d.book.entries)) + n → IsKept (record d { book = book })
+kept_more d roomy book e n more rec was allowed few =
+    let P : List Entry → Type 0 = λ es. IsAllowed (premises_of d.inputs) e (reverse es) in
+    let Q : List Entry → Type 0 = λ es. room_for (e ∷ reverse es) + 1 ≤ roomy.room in
+    let bit = stop_bit (has_stop (e ∷ reverse d.book.entries)) in
+    let had = more.more in
+    kept (record d { book = roomy }) book e rec (kept_room d roomy (length (live (reverse d.book.entries)) + n + 2) more was)
+    (subst P (sym more.entries) allowed)
+    (subst Q (sym more.entries) (omega arith))
+
+-- the load of a machine is a small number
+pub small_load : (d : Inside) → IsKept d → (m : ℕ) → load m (reverse d.book.entries) ≤ 65535
+small_load d was m =
+    let within = load_within (premises_of d.inputs) (reverse d.book.entries) was.legal m in
+    let few = was.small.jobs m in
+    omega arith
+
+-- the derivation of a live lease is in the book's range
+pub in_book : (d : Inside) → IsKept d → (t : Ticket) → lease_of t.drv (reverse d.book.entries) ≡ Some t → t.drv < d.book.drvs
+in_book d was t found =
+    rw was.drvs (leased_ranged (premises_of d.inputs) (reverse d.book.entries) was.legal t.drv (found_leased t.drv (reverse d.book.entries) t found))

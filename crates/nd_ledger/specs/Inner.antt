@@ -1,0 +1,30 @@
+-- What a dispatch holds.
+use Rattle.std.specs.Prelude.{◌≡◌, ℕ, ◌+◌, ◌≤◌, List, length, reverse, if◌then◌else◌}
+use Rattle.nd_graph.specs.Graphs.{IsSound}
+use Rattle.nd_ledger.specs.declared.dispatch.Dispatch.TheInside.{Inside}
+use Rattle.nd_ledger.specs.declared.entry.Entry.{Entry}
+use Rattle.nd_ledger.specs.Premises.{premises_of}
+use Rattle.nd_ledger.specs.Worlds.{World}
+use Rattle.nd_ledger.specs.History.{live, has_stop}
+use Rattle.nd_ledger.specs.Standing.{drvs_in}
+use Rattle.nd_ledger.specs.Choices.{AreSmall}
+use Rattle.nd_ledger.specs.Legal.{IsLegal}
+
+abbrev pub seen : Inside → World
+seen d = record { inputs = premises_of d.inputs; history = d.book.entries }
+
+-- the room that is kept: an entry for the end of each live lease, and one for a stop
+abbrev pub room_for : List Entry → ℕ
+room_for past = length (live past) + (if has_stop past then 0 else 1)
+
+pub record IsKept (d : Inside) : Type 0 where
+  -- the history is legal
+  pub legal : IsLegal (premises_of d.inputs) (reverse d.book.entries)
+  pub room : room_for (reverse d.book.entries) ≤ d.book.room
+  -- the sizes fit
+  pub sound : IsSound d.inputs.graph
+  pub drvs : d.book.drvs ≡ drvs_in (premises_of d.inputs)
+  pub park : d.book.machines ≡ length d.inputs.machines + 1
+  pub few : length d.inputs.machines ≤ 1024
+  -- no machine builds more at once than may be asked for
+  pub small : AreSmall (premises_of d.inputs)

@@ -1,0 +1,44 @@
+-- When calls are refused. The histories of these definitions stand newest first.
+use Rattle.std.specs.Prelude.{◌≡◌, ℕ, true, false, List, Some}
+use Rattle.nd_ledger.specs.declared.refusal.Refusal.{Refusal}
+use Rattle.nd_ledger.specs.declared.refusal.Refusal.TheVariants.{NotLive, AlreadyStarted, NotStarted, Uncovered, Extra, BadReferences, AlreadyStopped, Memory}
+use Rattle.nd_ledger.specs.declared.entry.Entry.{Entry}
+use Rattle.nd_ledger.specs.declared.entry.Ticket.{Ticket}
+use Rattle.nd_ledger.specs.History.{lease_of, is_started, has_stop}
+
+-- the ticket is a live lease's
+abbrev pub IsLive : List Entry → Ticket → Type 0
+IsLive past t = lease_of t.drv past ≡ Some t
+
+-- `failed` is refused where the ticket isn't a live lease's, and nowhere else
+abbrev pub IsFailRefused : List Entry → Ticket → Refusal → Type 0
+IsFailRefused past t NotLive = IsLive past t → ⊥
+IsFailRefused past t AlreadyStarted = ⊥
+IsFailRefused past t NotStarted = ⊥
+IsFailRefused past t Uncovered = ⊥
+IsFailRefused past t Extra = ⊥
+IsFailRefused past t BadReferences = ⊥
+IsFailRefused past t AlreadyStopped = ⊥
+IsFailRefused past t Memory = ⊥
+
+-- `down` is refused where the ticket isn't a live lease's, and then where the lease was started
+abbrev pub IsDownRefused : List Entry → Ticket → Refusal → Type 0
+IsDownRefused past t NotLive = IsLive past t → ⊥
+IsDownRefused past t AlreadyStarted = IsLive past t × (is_started t.drv past ≡ true)
+IsDownRefused past t NotStarted = ⊥
+IsDownRefused past t Uncovered = ⊥
+IsDownRefused past t Extra = ⊥
+IsDownRefused past t BadReferences = ⊥
+IsDownRefused past t AlreadyStopped = ⊥
+IsDownRefused past t Memory = ⊥
+
+-- `stop` is refused where a stop was asked for before
+abbrev pub IsStopRefused : List Entry → Refusal → Type 0
+IsStopRefused past NotLive = ⊥
+IsStopRefused past AlreadyStarted = ⊥
+IsStopRefused past NotStarted = ⊥
+IsStopRefused past Uncovered = ⊥
+IsStopRefused past Extra = ⊥
+IsStopRefused past BadReferences = ⊥
+IsStopRefused past AlreadyStopped = has_stop past ≡ true
+IsStopRefused past Memory = ⊥

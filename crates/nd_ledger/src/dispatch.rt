@@ -1,0 +1,258 @@
+//! The dispatch: leases and their history.
+
+ghost use Rattle.std.specs.Prelude.{◌≡◌, ℕ, ◌+◌, ◌<◌, ◌≤◌, ◌++◌, [], ◌∷◌, List, false, length, reverse, IfOk, OnOk, IfErr, OnErr, IsOk, IsTrue, ◌↔◌};
+ghost use Rattle.nd_ledger.specs.History.{live, lease_of, current_of, load, is_started, is_up, has_stop};
+ghost use Rattle.nd_ledger.specs.Choices.{machines_in};
+ghost use Rattle.nd_ledger.specs.Legal.{IsLegal};
+ghost use Rattle.nd_ledger.specs.Headline.{SlotsAreLeases, LeasesAreInOrder, StartsAreEligible, ChoicesAreBest};
+ghost use Rattle.nd_choose.specs.Best.{jobs_at};
+ghost use Rattle.nd_ledger.specs.Refusals.{IsLive, IsFailRefused, IsDownRefused, IsStopRefused};
+
+use std::alloc::{AllocError, Global};
+use std::marker::Model;
+
+use nd_bytes::Items;
+use nd_closure::RefTable;
+use nd_eligible::Local;
+use nd_graph::Graph;
+use nd_machines::Machine;
+
+use crate::book::Book;
+use crate::entry::{Entry, Ticket, Why};
+use crate::inputs::{Inputs, Parts};
+use crate::refusal::Refusal;
+
+/// Leases and their history: it only ever holds a legal one. Contracts see the five inputs, which
+/// never change, and the entries, oldest first.
+#[derive(Drop, Debug)]
+pub struct Dispatch {
+    inputs: Inputs,
+    book: Book,
+}
+
+impl Model for Dispatch {
+    ghost use Rattle.nd_ledger.specs.Worlds.{World};
+
+    ghost Value = { World };
+
+    ghost use Rattle.nd_ledger.specs.Inner.{seen, IsKept};
+
+    ghost view = { seen };
+
+    ghost invariant = { IsKept };
+}
+
+impl Dispatch {
+    ghost use Rattle.nd_ledger.specs.Inner.{room_for};
+
+    /// The end of a lease without its outputs. It takes no memory.
+    ///
+    /// Refuses with `NotLive` (1) where the ticket is not a live lease's, and else succeeds.
+    pub fn failed(&mut self, ticket: Ticket, why: Why) -> Result<(), Refusal>
+        ensures ok { OnOk result (self.new ≡ record self.old { history = self.old.history ++ Entry.Failed ticket.drv why ∷ [] }) }
+        ensures refused { IfErr result (λ e. IsFailRefused (reverse self.old.history) ticket e) }
+        ensures err { OnErr result (self.new ≡ self.old) }
+        ensures live { IsLive (reverse self.old.history) ticket → IsOk result }
+    {
+        if !is_live(&self.book, ticket) {
+            return Err(Refusal::NotLive);
+        }
+        self.book.record(Entry::Failed {
+            drv: ticket.drv,
+            why,
+        });
+        Ok(())
+    }
+
+    /// A lease is given back before its start: its machine couldn't be reached, or the copy failed.
+    /// The machine is down from then on, and the derivation waits again. It takes no memory.
+    ///
+    /// Refuses with `NotLive` (1) where the ticket is not a live lease's, then with `AlreadyStarted`
+    /// (2) where the lease was started, and else succeeds.
+    pub fn down(&mut self, ticket: Ticket) -> Result<(), Refusal>
+        ensures ok { OnOk result (self.new ≡ record self.old { history = self.old.history ++ Entry.Down ticket.drv ∷ [] }) }
+        ensures refused { IfErr result (λ e. IsDownRefused (reverse self.old.history) ticket e) }
+        ensures err { OnErr result (self.new ≡ self.old) }
+        ensures live { IsLive (reverse self.old.history) ticket → is_started ticket.drv (reverse self.old.history) ≡ false → IsOk result }
+    {
+        if !is_live(&self.book, ticket) {
+            return Err(Refusal::NotLive);
+        }
+        if self.book.is_started(ticket.drv as usize) {
+            return Err(Refusal::AlreadyStarted);
+        }
+        self.book.record(Entry::Down { drv: ticket.drv });
+        Ok(())
+    }
+
+    /// Nothing more is begun: what waits is cancelled, and what is leased goes on. It takes no memory.
+    ///
+    /// Refuses with `AlreadyStopped` (7) where a stop was asked for before, and else succeeds.
+    pub fn stop(&mut self) -> Result<(), Refusal>
+        ensures ok { OnOk result (self.new ≡ record self.old { history = self.old.history ++ Entry.Stop ∷ [] }) }
+        ensures refused { IfErr result (λ e. IsStopRefused (reverse self.old.history) e) }
+        ensures err { OnErr result (self.new ≡ self.old) }
+        ensures first { has_stop (reverse self.old.history) ≡ false → IsOk result }
+    {
+        if self.book.has_stop() {
+            return Err(Refusal::AlreadyStopped);
+        }
+        self.book.record(Entry::Stop);
+        Ok(())
+    }
+
+    /// Machine `machine` gets no more leases until it is enabled. Its live leases go on.
+    pub fn drain(&mut self, machine: u32) -> Result<(), AllocError>
+        requires { machine < machines_in self.old.inputs }
+        ensures ok { OnOk result (self.new ≡ record self.old { history = self.old.history ++ Entry.Drain machine ∷ [] }) }
+        ensures err { OnErr result (self.new ≡ self.old) }
+    {
+        let room = self.book.live_len() + 2;
+        self.book.make_room(room)?;
+        self.book.record(Entry::Drain { machine });
+        Ok(())
+    }
+
+    /// Machine `machine` gets leases again: this undoes a `drain` and a `down` alike.
+    pub fn enable(&mut self, machine: u32) -> Result<(), AllocError>
+        requires { machine < machines_in self.old.inputs }
+        ensures ok { OnOk result (self.new ≡ record self.old { history = self.old.history ++ Entry.Enable machine ∷ [] }) }
+        ensures err { OnErr result (self.new ≡ self.old) }
+    {
+        let room = self.book.live_len() + 2;
+        self.book.make_room(room)?;
+        self.book.record(Entry::Enable { machine });
+        Ok(())
+    }
+
+    /// A dispatch over these inputs, with the empty history. There are at most 1,024 builders.
+    ///
+    /// Where memory is refused the five inputs come back.
+    pub fn new(
+        alloc: Global,
+        graph: Graph,
+        machines: Vec<Machine>,
+        local: Local,
+        info: RefTable,
+        keep_going: bool,
+    ) -> Result<Dispatch, Parts>
+        requires { length machines.items ≤ 1024 }
+        ensures inputs { IfOk result (λ d. d.inputs ≡ record { graph = graph; machines = machines.items; local = local; info = info.entries; keep_going = keep_going }) }
+        ensures empty { IfOk result (λ d. d.history ≡ []) }
+        ensures back { IfErr result (λ p. p ≡ record { graph = graph; machines = machines; local = local; info = info; keep_going = keep_going }) }
+    {
+        let Ok(book) = Book::new(alloc, graph.len(), machines.len() + 1) else {
+            return Err(Parts {
+                graph,
+                machines,
+                local,
+                info,
+                keep_going,
+            });
+        };
+        learn_jobs(machines.as_slice(), &local);
+        Ok(Dispatch {
+            inputs: Inputs {
+                graph,
+                machines: Items::new(machines),
+                local,
+                info,
+                keep_going,
+            },
+            book,
+        })
+    }
+
+    /// The live lease on this slot of this machine.
+    pub fn current(&self, machine: u32, slot: u32) -> Option<Ticket>
+        ensures { result ≡ current_of machine slot (reverse self.now.history) }
+    {
+        self.book.current(machine, slot)
+    }
+
+    /// The live lease of derivation `i`.
+    pub fn lease(&self, i: u32) -> Option<Ticket>
+        ensures { result ≡ lease_of i (reverse self.now.history) }
+    {
+        self.book.lease(i)
+    }
+
+    /// The number of taken slots of this machine.
+    pub fn taken(&self, machine: u32) -> u32
+        requires { machine < machines_in self.now.inputs }
+        ensures { result ≡ load machine (reverse self.now.history) }
+    {
+        self.book.load(machine) as u32
+    }
+
+    /// Whether this machine is up.
+    pub fn up(&self, machine: u32) -> bool
+        requires { machine < machines_in self.now.inputs }
+        ensures { result ≡ is_up machine (reverse self.now.history) }
+    {
+        self.book.is_up(machine as usize)
+    }
+
+    /// The entries so far, oldest first. They are a legal history of the five inputs, and so:
+    ///
+    /// - slots are leases: each slot of a machine is taken by at most one live lease, and no machine
+    ///   has more of them than it may build at once;
+    /// - one lease, inputs first: no derivation has two live leases, and none was leased before its
+    ///   inputs were built;
+    /// - eligible: each start was that of a lease on a machine that was eligible;
+    /// - least-loaded choice: each choice of a builder was the least loaded of the eligible machines
+    ///   that were up and free at its place in the history.
+    #[tactic(auto, using(crate::proofs::Headline::slots_are_leases, crate::proofs::Headline::leases_are_in_order, crate::proofs::Headline::starts_are_eligible, crate::proofs::Headline::choices_are_best))]
+    pub fn history(&self) -> &[Entry]
+        ensures value { result.now ≡ self.now.history }
+        ensures legal { IsLegal self.now.inputs (reverse self.now.history) }
+        ensures slots { SlotsAreLeases self.now.inputs (reverse self.now.history) }
+        ensures leases { LeasesAreInOrder self.now.inputs (reverse self.now.history) }
+        ensures starts { StartsAreEligible self.now.inputs (reverse self.now.history) }
+        ensures choices { ChoicesAreBest self.now.inputs (reverse self.now.history) }
+    {
+        self.book.entries()
+    }
+
+    /// The derivations and what each needs.
+    pub fn graph(&self) -> &Graph
+        ensures { result.now ≡ self.now.inputs.graph }
+    {
+        &self.inputs.graph
+    }
+
+    /// The builders: the one at place p is machine p + 1.
+    pub fn machines(&self) -> &[Machine]
+        ensures { result.now ≡ self.now.inputs.machines }
+    {
+        self.inputs.machines.as_slice()
+    }
+
+    /// The settings of the local machine.
+    pub fn local(&self) -> &Local
+        ensures { result.now ≡ self.now.inputs.local }
+    {
+        &self.inputs.local
+    }
+}
+
+/// Whether the ticket is a live lease's.
+fn is_live(book: &Book, ticket: Ticket) -> bool
+    ensures { IsTrue result ↔ IsLive (reverse book.now.entries) ticket }
+{
+    match book.lease(ticket.drv) {
+        Some(found) => found == ticket,
+        None => false,
+    }
+}
+
+/// No machine builds more than 65,535 at once.
+fn learn_jobs(machines: &[Machine], local: &Local)
+    ensures builders { (p : ℕ) → jobs_at machines.now p ≤ 65535 }
+    ensures local { local.now.jobs ≤ 65535 }
+{
+    let _jobs = local.jobs();
+    for machine in machines {
+        let _jobs = machine.jobs();
+    }
+}
