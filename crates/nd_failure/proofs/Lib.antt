@@ -1,0 +1,10 @@
+pub mod RowFacts
+pub mod BelowFacts
+pub mod CountFacts
+pub mod MarkFacts
+pub mod TallyFacts
+pub mod SpreadFacts
+pub mod VisitFacts
+pub mod EdgeFacts
+pub mod BoardFacts
+pub mod PlainFacts

@@ -1,0 +1,11 @@
+pub mod Members
+pub mod Layers
+pub mod Progress
+pub mod Statuses
+pub mod Kept
+pub mod Reversed
+pub mod Tallied
+pub mod Spread
+pub mod BoardParts
+pub mod Plain
+pub mod PlainParts

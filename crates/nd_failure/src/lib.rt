@@ -1,0 +1,16 @@
+//! The statuses of a graph's nodes, and how a failure spreads over those that depend on it.
+#![tactic(auto)]
+
+mod board;
+mod edges;
+mod layers;
+mod node_set;
+pub mod plain;
+mod spread;
+mod status;
+mod unbuilt;
+
+pub use board::Board;
+pub use edges::Edges;
+pub use node_set::NodeSet;
+pub use status::{Counts, Mark, Status};
