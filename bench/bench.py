@@ -1,0 +1,177 @@
+#!/usr/bin/env python3
+"""Makes bundles of growing size, runs the built program on them, and prints a table.
+
+    python3 bench/bench.py [PROGRAM]
+
+The bundles come from a generator with a fixed seed, so each run measures the same inputs. A line of
+the table has the seconds and the peak memory of one run, how both compare to the next smaller size
+(per doubling), and the memory as a multiple of the input's bytes. A growth of 2.0 per doubling is
+linear.
+"""
+
+import base64
+import hashlib
+import math
+import os
+import random
+import subprocess
+import sys
+import tempfile
+import time
+
+LETTERS = "0123456789abcdfghijklmnpqrsvwxyz"
+SIZES = (1_024, 8_192, 65_536)
+COMMANDS = (("ask",), ("ask", "--check-paths"))
+
+
+def base32(digest):
+    number = int.from_bytes(digest, "little")
+    return "".join(LETTERS[number >> 5 * k & 31] for k in range(31, -1, -1))
+
+
+def store_path(text, name):
+    folded = bytearray(20)
+    for place, byte in enumerate(hashlib.sha256(text.encode()).digest()):
+        folded[place % 20] ^= byte
+    return f"/nix/store/{base32(folded)}-{name}"
+
+
+def derivation_path(name, references, contents):
+    """The path that a derivation with this text has."""
+    digest = hashlib.sha256(contents.encode()).hexdigest()
+    refs = "".join(":" + path for path in sorted(references))
+    return store_path(f"text{refs}:sha256:{digest}:/nix/store:{name}", name)
+
+
+def quoted(text):
+    return '"' + text.replace("\\", "\\\\").replace('"', '\\"') + '"'
+
+
+def line(k, inputs, system="x86_64-linux", features="", padding=0):
+    """A derivation with one output, as a line of a bundle, and its path."""
+    output = store_path(f"output {k}", f"n{k}")
+    env = [("name", f"n{k}"), ("out", output)]
+    if features:
+        env.append(("requiredSystemFeatures", features))
+    if padding:
+        filler = base64.b64encode(hashlib.sha512(str(k).encode()).digest() * 16).decode()
+        env.append(("text", filler[:padding]))
+    drvs = ",".join(f'({quoted(path)},["out"])' for path in sorted(inputs))
+    pairs = ",".join(f"({quoted(key)},{quoted(value)})" for key, value in sorted(env))
+    text = (
+        f'Derive([("out",{quoted(output)},"","")],[{drvs}],[],'
+        f'{quoted(system)},"/bin/sh",["-c","build"],[{pairs}])'
+    )
+    path = derivation_path(f"n{k}.drv", inputs, text)
+    return path, f"{path} {text}\n"
+
+
+def plain(n):
+    return "".join(line(k, [])[1] for k in range(n))
+
+
+def chain(n):
+    before, lines = [], []
+    for k in range(n):
+        path, text = line(k, before)
+        before = [path]
+        lines.append(text)
+    return "".join(lines)
+
+
+CLASSES = (
+    ("x86_64-linux", ""),
+    ("x86_64-linux", "big-parallel"),
+    ("x86_64-linux", "kvm nixos-test"),
+    ("aarch64-linux", ""),
+    ("aarch64-linux", "big-parallel"),
+)
+
+
+def layered(n):
+    """Layers of 64 derivations; each needs 2 to 8 of the layer before."""
+    rng = random.Random(20_061)
+    lines, layer, before = [], [], []
+    for k in range(n):
+        inputs = rng.sample(before, rng.randint(2, 8)) if before else []
+        system, features = rng.choice(CLASSES)
+        path, text = line(k, inputs, system, features, padding=560)
+        layer.append(path)
+        lines.append(text)
+        if len(layer) == 64:
+            before, layer = layer, []
+    return "".join(lines)
+
+
+def eight_builders():
+    return ";".join(["m - - 8"] * 8)
+
+
+def class_builders():
+    rows = []
+    for k in range(64):
+        system, features = CLASSES[k % len(CLASSES)]
+        rows.append(f"m{k} {system} - 4 1 {features.replace(' ', ',') or '-'}")
+    return ";".join(rows)
+
+
+def many_builders():
+    return ";".join(f"m{k} - - 1" for k in range(1_024))
+
+
+CASES = (
+    ("plain lines", plain, eight_builders, SIZES),
+    ("a chain", chain, eight_builders, SIZES),
+    ("layers, 1 KB texts", layered, class_builders, SIZES),
+    ("plain lines, 1,024 builders", plain, many_builders, SIZES[-1:]),
+)
+
+
+def measured(program, words, bundle):
+    """The wall time in seconds and the peak memory in bytes of one run."""
+    with open(bundle, "rb") as stdin:
+        began = time.monotonic()
+        child = subprocess.Popen([program, *words], stdin=stdin, stdout=subprocess.DEVNULL)
+        _, status, usage = os.wait4(child.pid, 0)
+        took = time.monotonic() - began
+    if status:
+        sys.exit(f"{' '.join(words)}: status {os.waitstatus_to_exitcode(status)}")
+    return took, usage.ru_maxrss * 1024
+
+
+def growth(new, old, doublings):
+    return f"{(new / old) ** (1 / doublings):.2f}"
+
+
+def main():
+    here = os.path.dirname(os.path.abspath(__file__))
+    default = os.path.join(here, "..", "crates", "nix_dispatch", "out", "nix_dispatch")
+    program = os.path.abspath(sys.argv[1] if len(sys.argv) > 1 else default)
+    print(f"{'input':28} {'command':18} {'lines':>7} {'MB':>6} {'s':>8} {'x':>5} {'peak MB':>8} {'x':>5} {'of input':>8}")
+    with tempfile.TemporaryDirectory() as folder:
+        for name, make, builders, sizes in CASES:
+            last = {}
+            for size in sizes:
+                bundle = os.path.join(folder, "bundle")
+                text = make(size)
+                with open(bundle, "w", encoding="ascii") as file:
+                    file.write(text)
+                for command in COMMANDS:
+                    words = [*command, "--builders", builders()]
+                    took, peak = min(measured(program, words, bundle) for _ in range(3))
+                    times = memory = ""
+                    if command in last:
+                        before, took_before, peak_before = last[command]
+                        doublings = math.log2(size / before)
+                        times = growth(took, took_before, doublings)
+                        memory = growth(peak, peak_before, doublings)
+                    last[command] = (size, took, peak)
+                    print(
+                        f"{name:28} {' '.join(command):18} {size:7} {len(text) / 1e6:6.1f} {took:8.3f} {times:>5} "
+                        f"{peak / 1e6:8.1f} {memory:>5} {peak / len(text):8.2f}"
+                    )
+                    sys.stdout.flush()
+
+
+if __name__ == "__main__":
+    main()

@@ -1,0 +1,62 @@
+-- What `ask` writes: for each derivation in order the hook's reply on an idle park.
+use Rattle.std.specs.Prelude.{◌≡◌, ℕ, ◌≤◌, Bool, true, Option, List, length, flat_map, take, replicate, IsTrue, ◌↔◌}
+use Rattle.std.specs.List.{AllZip}
+use Rattle.std.specs.Io.KnownBytes.{Appends}
+use Rattle.nd_machines.specs.Builders.{Builder}
+use Rattle.nd_eligible.specs.Settings.{Settings}
+use Rattle.nd_eligible.specs.Eligibility.{IsEligibleAt, LocalOk}
+use Rattle.nd_eligible.specs.declared.need.Need.{Need}
+use Rattle.nd_hook.specs.declared.kinds.Reply.{Reply}
+use Rattle.nd_hook.specs.Replies.{IsReply}
+use Rattle.nd_hook.specs.ReplyText.{reply_text}
+use Rattle.nd_hook.specs.Written.{WritesPart}
+
+-- no slot is taken
+abbrev pub idle : List Builder → List ℕ
+idle machines = replicate (length machines) 0
+
+-- every machine is up
+abbrev pub all_up : List Builder → List Bool
+all_up machines = replicate (length machines) true
+
+-- the local machine may build the derivation, and on an idle park one of its slots is free
+pub record IsFreeHere (local : Settings) (need : Need) : Type 0 where
+  pub may : LocalOk local need
+  pub slot : 1 ≤ local.jobs
+
+-- the reply about a derivation with this need
+pub record IsIdleReply (machines : List Builder) (local : Settings) (need : Need) (reply : Reply) : Type 0 where
+  pub free_here : Bool
+  pub is_free : IsTrue free_here ↔ IsFreeHere local need
+  pub is : IsReply machines (idle machines) (all_up machines) (IsEligibleAt machines need) free_here reply
+
+-- the replies about derivations with these needs, in order
+pub record AreReplies (machines : List Builder) (local : Settings) (needs : List Need) (text : List ℕ) : Type 0 where
+  pub replies : List Reply
+  pub each : AllZip (IsIdleReply machines local) needs replies
+  pub is : text ≡ flat_map (reply_text machines) replies
+
+-- a writer took the reply about a derivation with this need
+pub record WritesReply (machines : List Builder) (local : Settings) (need : Need) (old new : Option (List ℕ)) : Type 0 where
+  pub reply : Reply
+  pub is : IsIdleReply machines local need reply
+  pub written : Appends old new (reply_text machines reply)
+
+-- a writer that refused took a part of it, from its beginning
+pub record WritesReplyPart (machines : List Builder) (local : Settings) (need : Need) (old new : Option (List ℕ)) : Type 0 where
+  pub reply : Reply
+  pub is : IsIdleReply machines local need reply
+  pub part : WritesPart old new (reply_text machines reply)
+
+-- a writer took the replies about derivations with these needs
+pub record WritesReplies (machines : List Builder) (local : Settings) (needs : List Need) (old new : Option (List ℕ)) : Type 0 where
+  pub text : List ℕ
+  pub are : AreReplies machines local needs text
+  pub written : Appends old new text
+
+-- a writer that refused took a part of the replies about the derivations with the first of these needs, from its beginning
+pub record WritesSomeReplies (machines : List Builder) (local : Settings) (needs : List Need) (old new : Option (List ℕ)) : Type 0 where
+  pub count : ℕ
+  pub text : List ℕ
+  pub are : AreReplies machines local (take count needs) text
+  pub part : WritesPart old new text

@@ -1,0 +1,5 @@
+pub mod Inputs
+pub mod Parks
+pub mod Asks
+pub mod Paths
+pub mod Asked

@@ -1,0 +1,51 @@
+-- What `path` answers: the path of the derivation text that was read, under the name that was given.
+use Rattle.std.specs.Prelude.{◌≡◌, ℕ, ◌<◌, ◌≤◌, Bool, true, List, [], ◌∷◌, ◌++◌, length, Option}
+use Rattle.std.specs.Io.KnownBytes.{Appends}
+use Rattle.nd_graph.specs.declared.fault.GraphError.{GraphError}
+use Rattle.nd_graph.specs.DrvPaths.{IsDrvPath, HasNoDrvPath}
+use Rattle.nd_cli.specs.Inputs.{limit, ReadsWhole}
+use Rattle.nd_cli.specs.declared.fault.Place.{Place}
+use Rattle.nd_cli.specs.declared.fault.DerivationRefusal.{DerivationRefusal}
+use Rattle.nd_cli.specs.declared.fault.DerivationRefusal.TheVariants.{BadPath, BadDerivation}
+use Rattle.nd_cli.specs.declared.fault.CliFault.{CliFault}
+use Rattle.nd_cli.specs.declared.fault.CliFault.TheVariants.{Derivation, Drvs, Builders, TooLarge, Read, Write, Memory}
+
+-- the path and a newline were written, of a whole input within the limit
+pub record AnswersPath (name : List ℕ) (unread left written_before written : Option (List ℕ)) : Type 0 where
+  pub text : List ℕ
+  pub path : List ℕ
+  pub read : ReadsWhole unread left text
+  pub within : length text ≤ limit
+  pub is : IsDrvPath name text path
+  pub written_is : Appends written_before written (path ++ 10 ∷ [])
+
+-- why a text within the limit has no path under this name
+abbrev pub as_graph_error : DerivationRefusal → GraphError
+as_graph_error BadPath = GraphError.BadPath 0
+as_graph_error BadDerivation = GraphError.BadDerivation 0
+
+-- why the text is refused: it is too large; or its name, and then the text itself
+abbrev pub IsTextFault : List ℕ → List ℕ → CliFault → Type 0
+IsTextFault name text (Derivation refusal) = (length text ≤ limit) × HasNoDrvPath name text (as_graph_error refusal)
+IsTextFault name text (Drvs e) = ⊥
+IsTextFault name text (Builders e) = ⊥
+IsTextFault name text (TooLarge place) = (place ≡ Place.Derivation) × (limit < length text)
+IsTextFault name text Read = ⊥
+IsTextFault name text Write = ⊥
+IsTextFault name text Memory = Unit {0}
+
+-- the text that was read is refused for this reason
+pub record RefusesText (name : List ℕ) (unread left : Option (List ℕ)) (fault : CliFault) : Type 0 where
+  pub text : List ℕ
+  pub read : ReadsWhole unread left text
+  pub refused : IsTextFault name text fault
+
+-- Why there is no answer: the text is refused, a device failed and is marked, or memory ran out.
+abbrev pub IsPathFault : List ℕ → Option (List ℕ) → Option (List ℕ) → Bool → Bool → CliFault → Type 0
+IsPathFault name unread left reader_marked writer_marked (Derivation refusal) = RefusesText name unread left (Derivation refusal)
+IsPathFault name unread left reader_marked writer_marked (Drvs e) = ⊥
+IsPathFault name unread left reader_marked writer_marked (Builders e) = ⊥
+IsPathFault name unread left reader_marked writer_marked (TooLarge place) = RefusesText name unread left (TooLarge place)
+IsPathFault name unread left reader_marked writer_marked Read = reader_marked ≡ true
+IsPathFault name unread left reader_marked writer_marked Write = writer_marked ≡ true
+IsPathFault name unread left reader_marked writer_marked Memory = Unit {0}

@@ -1,0 +1,79 @@
+//! The command `ask`.
+
+ghost use Rattle.std.specs.Prelude.{◌≡◌, true, false, IfOk, IfErr, OnOk};
+ghost use Rattle.nd_cli.specs.Asked.{AnswersAsk, AnswersAskInPart, HasGraph, IsAskFault, IsBundleFault};
+ghost use Rattle.nd_cli.specs.Inputs.{is_write_fault};
+
+use crate::asks::write_replies;
+use crate::fault::{CliFault, Place};
+use crate::input::{LIMIT, read_input};
+use crate::options::ParkOptions;
+use crate::park::{read_builders, read_local};
+use nd_graph::{Graph, GraphError, read_bundle};
+use nd_hook::Told;
+use std::alloc::{AllocError, Global};
+use std::io::{Read, Write};
+use std::thread::Threads;
+
+/// Writes for each derivation of the bundle on the input, in order, the hook's reply on an idle park:
+/// no slot is taken and every machine is up. The status is 0.
+///
+/// The first refusal in this order is answered, and nothing is written then: `Read`; `TooLarge` or
+/// `Drvs` for the bundle; `TooLarge` or `Builders` for the builders list. `Write` leaves a part of the
+/// replies, from their beginning. `Memory` may come at any point before the replies are written.
+pub fn ask_engine<R: Read, W: Write>(
+    rt: &(impl Threads + Sync),
+    alloc: Global,
+    options: &ParkOptions,
+    input: &mut Told<R>,
+    output: &mut Told<W>,
+) -> Result<u8, CliFault>
+    requires reader { input.old.is_marked ≡ false }
+    requires writer { output.old.is_marked ≡ false }
+    ensures status { IfOk result (λ status. status ≡ 0) }
+    ensures answer { OnOk result (AnswersAsk options.now (R.remaining input.old.device) (R.remaining input.new.device) (W.contents output.old.device) (W.contents output.new.device)) }
+    ensures fault { IfErr result (IsAskFault options.now (R.remaining input.old.device) (R.remaining input.new.device) input.new.is_marked output.new.is_marked) }
+    ensures untouched { IfErr result (λ e. is_write_fault e ≡ false → output.new ≡ output.old) }
+    ensures partly { IfErr result (λ e. is_write_fault e ≡ true → AnswersAskInPart options.now (R.remaining input.old.device) (R.remaining input.new.device) (W.contents output.old.device) (W.contents output.new.device)) }
+{
+    let text = match read_input(alloc, input) {
+        Ok(text) => text,
+        Err(fault) => return Err(fault),
+    };
+    let graph = match read_graph(rt, alloc, options, text.as_slice()) {
+        Ok(graph) => graph,
+        Err(fault) => return Err(fault),
+    };
+    let machines = match read_builders(alloc, options) {
+        Ok(machines) => machines,
+        Err(fault) => return Err(fault),
+    };
+    let local = match read_local(alloc, options) {
+        Ok(local) => local,
+        Err(AllocError) => return Err(CliFault::Memory),
+    };
+    match write_replies(alloc, &machines, &local, graph.needs(), output) {
+        Ok(()) => Ok(0),
+        Err(fault) => Err(fault),
+    }
+}
+
+/// The graph of the bundle with this text.
+fn read_graph(
+    rt: &(impl Threads + Sync),
+    alloc: Global,
+    options: &ParkOptions,
+    text: &[u8],
+) -> Result<Graph, CliFault>
+    ensures read { IfOk result (HasGraph options.now text.now) }
+    ensures refused { IfErr result (IsBundleFault options.now text.now) }
+{
+    if text.len() > LIMIT {
+        return Err(CliFault::TooLarge(Place::Drvs));
+    }
+    match read_bundle(rt, alloc, text, options.check_paths) {
+        Ok(graph) => Ok(graph),
+        Err(GraphError::Memory) => Err(CliFault::Memory),
+        Err(refusal) => Err(CliFault::Drvs(refusal)),
+    }
+}

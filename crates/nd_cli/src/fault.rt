@@ -1,0 +1,96 @@
+//! Why the program ends without its answer, and the line that it then writes on standard error.
+
+use nd_graph::GraphError;
+use nd_machines::MachineError;
+use std::alloc::AllocError;
+use std::fmt;
+use thiserror::Error;
+
+/// An input of the program, by the word that a fault's line has for it.
+#[derive(Clone, Copy, Debug, PartialEq, Eq)]
+pub enum Place {
+    /// The derivation text that `path` reads.
+    Derivation,
+    /// The bundle.
+    Drvs,
+    /// The builders list.
+    Builders,
+}
+
+impl fmt::Display for Place {
+    fn fmt<W: fmt::Write>(&self, f: &mut fmt::Formatter<W>) -> fmt::Result {
+        match self {
+            Place::Derivation => write!(f, "derivation"),
+            Place::Drvs => write!(f, "drvs"),
+            Place::Builders => write!(f, "builders"),
+        }
+    }
+}
+
+/// Why a derivation text has no path.
+#[derive(Clone, Copy, Debug, PartialEq, Eq)]
+pub enum DerivationRefusal {
+    /// The name is no store path's, or doesn't end in `.drv`.
+    BadPath,
+    /// The text is no derivation text, or a path in it is none of its kind.
+    BadDerivation,
+}
+
+impl fmt::Display for DerivationRefusal {
+    fn fmt<W: fmt::Write>(&self, f: &mut fmt::Formatter<W>) -> fmt::Result {
+        match self {
+            DerivationRefusal::BadPath => write!(f, "BadPath"),
+            DerivationRefusal::BadDerivation => write!(f, "BadDerivation"),
+        }
+    }
+}
+
+/// Why a command gave no answer. `Display` writes the fault's line, without its newline.
+#[derive(Debug, Drop, Error)]
+pub enum CliFault {
+    /// The derivation text, or the name that it is to have, is refused. Status 3.
+    #[error("nix-dispatch: derivation: {0}")]
+    Derivation(DerivationRefusal),
+    /// The bundle is refused. Status 3.
+    #[error("nix-dispatch: drvs: {0}")]
+    Drvs(GraphError),
+    /// The builders list is refused. Status 3.
+    #[error("nix-dispatch: builders: {0}")]
+    Builders(MachineError),
+    /// An input has more than 67,108,864 bytes. Status 3.
+    #[error("nix-dispatch: {0}: TooLarge")]
+    TooLarge(Place),
+    /// A reader refused a read, or a file can't be opened. Status 5.
+    #[error("nix-dispatch: read failed")]
+    Read,
+    /// A writer refused a write. Status 5.
+    #[error("nix-dispatch: write failed")]
+    Write,
+    /// There was no memory. Status 5.
+    #[error("nix-dispatch: out of memory")]
+    Memory,
+}
+
+impl CliFault {
+    /// The exit status: 3 where an input is refused, 5 where a device or the memory failed.
+    pub fn status(&self) -> u8 {
+        match self {
+            CliFault::Derivation(_)
+            | CliFault::Drvs(_)
+            | CliFault::Builders(_)
+            | CliFault::TooLarge(_) => 3,
+            CliFault::Read | CliFault::Write | CliFault::Memory => 5,
+        }
+    }
+}
+
+impl From<AllocError> for CliFault {
+    ghost use Rattle.std.specs.Prelude.{◌≡◌};
+    ghost use Rattle.nd_cli.specs.declared.fault.CliFault.{CliFault};
+
+    ghost from_gives = { λ _ e. e ≡ CliFault.Memory };
+
+    fn from(_refused: AllocError) -> Self {
+        CliFault::Memory
+    }
+}

@@ -1,0 +1,16 @@
+//! The engines of the program `nix-dispatch`: each command as a function over a reader and a writer.
+#![tactic(auto)]
+
+pub mod ask;
+mod asks;
+pub mod fault;
+pub mod input;
+pub mod options;
+pub mod park;
+pub mod path;
+
+pub use ask::ask_engine;
+pub use fault::{CliFault, DerivationRefusal, Place};
+pub use input::{LIMIT, read_input};
+pub use options::ParkOptions;
+pub use path::path_engine;

@@ -1,0 +1,79 @@
+//! The command `path`.
+
+ghost use Rattle.std.specs.Prelude.{◌≡◌, ◌≤◌, ◌++◌, ◌∷◌, [], true, false, length, IfOk, IfErr, OnOk, OnErr};
+ghost use Rattle.std.specs.Io.KnownBytes.{Appends};
+ghost use Rattle.nd_graph.specs.DrvPaths.{IsDrvPath};
+ghost use Rattle.nd_hook.specs.Written.{WritesPart};
+ghost use Rattle.nd_cli.specs.Inputs.{limit, is_write_fault};
+ghost use Rattle.nd_cli.specs.Paths.{AnswersPath, IsPathFault, IsTextFault};
+
+use crate::fault::{CliFault, DerivationRefusal, Place};
+use crate::input::{LIMIT, read_input};
+use nd_graph::{GraphError, drv_path};
+use nd_hook::{Fault, Told};
+use nd_path::StorePath;
+use std::alloc::Global;
+use std::io::{Read, Write};
+
+/// Writes the store path that the derivation text on the input has under this name, and a newline.
+/// The status is 0.
+///
+/// A refusal comes in this order, and nothing is written then: `Read`, `TooLarge`, `Derivation`. `Write`
+/// leaves a part of the line. `Memory` may come at any point before the line is written.
+pub fn path_engine<R: Read, W: Write>(
+    alloc: Global,
+    name: &[u8],
+    input: &mut Told<R>,
+    output: &mut Told<W>,
+) -> Result<u8, CliFault>
+    requires reader { input.old.is_marked ≡ false }
+    requires writer { output.old.is_marked ≡ false }
+    ensures status { IfOk result (λ status. status ≡ 0) }
+    ensures answer { OnOk result (AnswersPath name.now (R.remaining input.old.device) (R.remaining input.new.device) (W.contents output.old.device) (W.contents output.new.device)) }
+    ensures fault { IfErr result (IsPathFault name.now (R.remaining input.old.device) (R.remaining input.new.device) input.new.is_marked output.new.is_marked) }
+    ensures untouched { IfErr result (λ e. is_write_fault e ≡ false → output.new ≡ output.old) }
+{
+    let text = match read_input(alloc, input) {
+        Ok(text) => text,
+        Err(fault) => return Err(fault),
+    };
+    let path = match derivation_path(alloc, name, text.as_slice()) {
+        Ok(path) => path,
+        Err(fault) => return Err(fault),
+    };
+    match write_line(path.bytes(), output) {
+        Ok(()) => Ok(0),
+        Err(Fault) => Err(CliFault::Write),
+    }
+}
+
+/// The path of the derivation with this name and text.
+fn derivation_path(alloc: Global, name: &[u8], text: &[u8]) -> Result<StorePath, CliFault>
+    ensures found { IfOk result (IsDrvPath name.now text.now) }
+    ensures within { OnOk result (length text.now ≤ limit) }
+    ensures refused { IfErr result (IsTextFault name.now text.now) }
+{
+    if text.len() > LIMIT {
+        return Err(CliFault::TooLarge(Place::Derivation));
+    }
+    match drv_path(alloc, name, text) {
+        Ok(path) => Ok(path),
+        Err(GraphError::Memory) => Err(CliFault::Memory),
+        Err(GraphError::BadPath(_)) => Err(CliFault::Derivation(DerivationRefusal::BadPath)),
+        Err(GraphError::BadDerivation(_)) => {
+            Err(CliFault::Derivation(DerivationRefusal::BadDerivation))
+        }
+        Err(_) => unreachable!(),
+    }
+}
+
+/// Writes a line with its newline, and has the writer pass on what it holds back.
+fn write_line<W: Write>(line: &[u8], output: &mut Told<W>) -> Result<(), Fault>
+    requires { output.old.is_marked ≡ false }
+    ensures written { OnOk result (Appends (W.contents output.old.device) (W.contents output.new.device) (line.now ++ 10 ∷ [])) }
+    ensures mark { OnErr result (output.new.is_marked ≡ true) }
+{
+    output.put_all(line)?;
+    output.put_all(b"\n")?;
+    output.flush()
+}

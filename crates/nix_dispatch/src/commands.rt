@@ -1,0 +1,100 @@
+//! What each command does with its words.
+
+use crate::files::text_or_file;
+use crate::words;
+use clap::ArgMatches;
+use nd_bytes::ByteString;
+use nd_cli::{CliFault, ParkOptions, ask_engine, path_engine};
+use nd_hook::Told;
+use std::alloc::Global;
+use std::io::{self, BufWriter};
+use std::rt::Files;
+use std::thread::Threads;
+
+/// Runs the command that the words name, and answers the exit status. Help that is asked for goes
+/// to standard output with status 0, a word that isn't understood to standard error with status 2.
+pub fn run<'a, R: Files + Input + Print + Eprint + AllocGlobal + Threads + Sync>(
+    rt: &R,
+    alloc: Global,
+    given: &'a [String],
+) -> u8 {
+    let Ok(command) = words::command_line(alloc) else {
+        return told(rt, &CliFault::Memory);
+    };
+    let matches = match command.try_get_matches_from(given) {
+        Ok(matches) => matches,
+        Err(error) => {
+            let _ = error.print(rt);
+            return error.exit_code() as u8;
+        }
+    };
+    let answer = match matches.subcommand() {
+        Some(("path", options)) => path(rt, alloc, options),
+        Some((_, options)) => ask(rt, alloc, options),
+        None => Ok(0),
+    };
+    match answer {
+        Ok(status) => status,
+        Err(fault) => told(rt, &fault),
+    }
+}
+
+/// Says a fault in one line on standard error, and answers its exit status.
+pub fn told<R: Eprint>(rt: &R, fault: &CliFault) -> u8 {
+    let _ = eprintln!(rt; "{fault}");
+    fault.status()
+}
+
+fn path<R: Input + Print + AllocGlobal>(
+    rt: &R,
+    alloc: Global,
+    options: &ArgMatches,
+) -> Result<u8, CliFault> {
+    let name = options.get_str("name").unwrap_or("");
+    let mut output = Told::new(io::writer(rt));
+    path_engine(
+        alloc,
+        name.as_bytes(),
+        &mut Told::new(rt.reader()),
+        &mut output,
+    )
+}
+
+fn ask<R: Files + Input + Print + AllocGlobal + Threads + Sync>(
+    rt: &R,
+    alloc: Global,
+    options: &ArgMatches,
+) -> Result<u8, CliFault> {
+    let options = park_options(rt, alloc, options)?;
+    let Ok(buffered) = BufWriter::new(alloc, io::writer(rt)) else {
+        return Err(CliFault::Memory);
+    };
+    let mut output = Told::new(buffered);
+    ask_engine(
+        rt,
+        alloc,
+        &options,
+        &mut Told::new(rt.reader()),
+        &mut output,
+    )
+}
+
+/// The options of a command over a bundle. The files that they name are read here.
+fn park_options<R: Files>(
+    rt: &R,
+    alloc: Global,
+    options: &ArgMatches,
+) -> Result<ParkOptions, CliFault> {
+    Ok(ParkOptions {
+        builders: text_or_file(rt, alloc, options.get_str("builders").unwrap_or(""))?,
+        system: text_of(alloc, options, "system")?,
+        extra: text_of(alloc, options, "extra")?,
+        features: text_of(alloc, options, "features")?,
+        jobs: options.get_one::<u16>("jobs").unwrap_or(1),
+        check_paths: options.get_flag("check-paths"),
+    })
+}
+
+fn text_of(alloc: Global, options: &ArgMatches, name: &str) -> Result<ByteString, CliFault> {
+    Ok(ByteString::from_slice(alloc, options.get_str(name).unwrap_or("").as_bytes())?)
+}

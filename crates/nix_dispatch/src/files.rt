@@ -1,0 +1,27 @@
+//! The files that the command line names.
+
+use nd_bytes::ByteString;
+use nd_cli::{CliFault, read_input};
+use nd_hook::Told;
+use std::alloc::Global;
+use std::fs;
+use std::rt::Files;
+
+/// What the value of an option stands for: the bytes of the file that it names behind `@`, and else
+/// its own bytes.
+pub fn text_or_file<R: Files>(rt: &R, alloc: Global, value: &str) -> Result<ByteString, CliFault> {
+    match value.strip_prefix('@') {
+        Some(name) => read_file(rt, alloc, name),
+        None => Ok(ByteString::from_slice(alloc, value.as_bytes())?),
+    }
+}
+
+/// The bytes of a file, to its end or to one byte past the limit of an input.
+///
+/// `Read`: it can't be opened, or a read was refused. `Memory`.
+pub fn read_file<R: Files>(rt: &R, alloc: Global, name: &str) -> Result<ByteString, CliFault> {
+    let Ok(file) = fs::open(rt, name) else {
+        return Err(CliFault::Read);
+    };
+    read_input(alloc, &mut Told::new(file))
+}

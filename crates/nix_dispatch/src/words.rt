@@ -1,0 +1,74 @@
+//! The command line: the commands, their options, and their help.
+
+use clap::{Arg, ArgAction, Command, value_parser};
+use std::alloc::{AllocError, Global};
+
+/// The whole command line.
+pub fn command_line<'a>(alloc: Global) -> Result<Command<'a>, AllocError> {
+    Command::new(alloc, "nix-dispatch")
+        .version("0.1.0")
+        .bin_name("nix-dispatch")?
+        .about("Hands the derivations of a graph to local slots and remote builders")
+        .subcommand_required(true)
+        .subcommand(path_command(alloc)?)?
+        .subcommand(ask_command(alloc)?)
+}
+
+fn path_command<'a>(alloc: Global) -> Result<Command<'a>, AllocError> {
+    let name = Arg::new(alloc, "name")
+        .value_name("NAME")
+        .help("The name that the derivation is to have, as hello.drv")
+        .required(true)
+        .allow_hyphen_values(true)
+        .action(ArgAction::Set);
+    Command::new(alloc, "path")
+        .about("Prints the store path of the derivation text on standard input")
+        .arg(name)
+}
+
+fn ask_command<'a>(alloc: Global) -> Result<Command<'a>, AllocError> {
+    let command = Command::new(alloc, "ask").about(
+        "Writes, per derivation of the bundle on standard input, the hook's reply on an idle park",
+    );
+    with_park_options(alloc, command)
+}
+
+/// The options of the commands over a bundle.
+fn with_park_options<'a>(alloc: Global, command: Command<'a>) -> Result<Command<'a>, AllocError> {
+    let builders = text_option(alloc, "builders", "TEXT")
+        .default_value("")
+        .help("The builders list, or @FILE to read it from a file");
+    let system = text_option(alloc, "system", "S")
+        .default_value("x86_64-linux")
+        .help("The local system");
+    let extra = text_option(alloc, "extra", "LIST")
+        .default_value("")
+        .help("Further local systems, between commas");
+    let features = text_option(alloc, "features", "LIST")
+        .default_value("")
+        .help("The local features, between commas");
+    let jobs = text_option(alloc, "jobs", "N")
+        .default_value("1")
+        .value_parser(value_parser!(u16))
+        .help("The local jobs, 0 to 65535");
+    let check_paths = Arg::new(alloc, "check-paths")
+        .long("check-paths")
+        .action(ArgAction::SetTrue)
+        .help("Refuses a derivation whose path isn't that of its text");
+    command
+        .arg(builders)?
+        .arg(system)?
+        .arg(extra)?
+        .arg(features)?
+        .arg(jobs)?
+        .arg(check_paths)
+}
+
+/// An option with a value, which may be any word.
+fn text_option<'a>(alloc: Global, name: &'a str, value: &'a str) -> Arg<'a> {
+    Arg::new(alloc, name)
+        .long(name)
+        .value_name(value)
+        .allow_hyphen_values(true)
+        .action(ArgAction::Set)
+}
