@@ -1,7 +1,10 @@
+pub mod Closing
 pub mod Following
 pub mod Headline
 pub mod Keeping
 pub mod Legality
 pub mod OneChoice
+pub mod Provisions
+pub mod Reported
 pub mod Slots
 pub mod Turned

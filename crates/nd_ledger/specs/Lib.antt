@@ -1,6 +1,7 @@
 pub mod Books
 pub mod BooksKept
 pub mod Choices
+pub mod Closing
 pub mod Headline
 pub mod History
 pub mod Inner

@@ -7,6 +7,7 @@ mod dispatch;
 pub mod entry;
 mod finding;
 pub mod inputs;
+pub mod laws;
 pub mod refusal;
 mod tables;
 
