@@ -4,6 +4,7 @@ mod Cutting
 pub mod Distinct
 pub mod Linked
 pub mod Numbers
+mod Once
 pub mod Rising
 pub mod Rows
 mod Sayings

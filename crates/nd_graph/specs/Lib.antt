@@ -9,6 +9,7 @@ pub mod Kinds
 pub mod Lines
 pub mod Numbered
 pub mod Numbering
+pub mod OneReading
 pub mod Orders
 pub mod Reads
 pub mod Refused

@@ -11,6 +11,7 @@ pub mod drv_paths;
 pub mod fault;
 pub mod graph;
 mod kinds;
+pub mod laws;
 pub mod line;
 mod missing;
 mod number;
