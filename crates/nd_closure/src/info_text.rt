@@ -32,7 +32,8 @@ pub fn parse_info(alloc: Global, text: &[u8]) -> Result<RefTable, InfoError>
             Ok(entry) => entry,
             Err(fault) => return Err(refusal(fault, number)),
         };
-        if !table.add(path, refs)? {
+        let added = table.add(path, refs)?;
+        if !added {
             return Err(InfoError::BadLine(number));
         }
         left = rest.unwrap_or(&[]);

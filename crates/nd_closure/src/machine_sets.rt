@@ -48,7 +48,7 @@ impl Held {
     pub fn is_empty(&self) -> bool
         ensures { result ≡ (length self.now.paths == 0) }
     {
-        self.paths.len() == 0
+        self.len() == 0
     }
 
     /// The path that came as number `i`, counted from 0.
