@@ -47,15 +47,20 @@ def quoted(text):
     return '"' + text.replace("\\", "\\\\").replace('"', '\\"') + '"'
 
 
-def line(k, inputs, system="x86_64-linux", features="", padding=0):
-    """A derivation with one output, as a line of a bundle, and its path."""
+def line(k, inputs, system="x86_64-linux", features="", length=0):
+    """A derivation with one output, as a line of a bundle of at least this length, and its path."""
+    path, text = shorter_line(k, inputs, system, features, "")
+    if len(text) < length:
+        filler = base64.b64encode(hashlib.sha512(str(k).encode()).digest() * 16).decode()
+        path, text = shorter_line(k, inputs, system, features, filler[: length - len(text)])
+    return path, text
+
+
+def shorter_line(k, inputs, system, features, padding):
     output = store_path(f"output {k}", f"n{k}")
-    env = [("name", f"n{k}"), ("out", output)]
+    env = [("name", f"n{k}"), ("out", output), ("text", padding)]
     if features:
         env.append(("requiredSystemFeatures", features))
-    if padding:
-        filler = base64.b64encode(hashlib.sha512(str(k).encode()).digest() * 16).decode()
-        env.append(("text", filler[:padding]))
     drvs = ",".join(f'({quoted(path)},["out"])' for path in sorted(inputs))
     pairs = ",".join(f"({quoted(key)},{quoted(value)})" for key, value in sorted(env))
     text = (
@@ -95,7 +100,7 @@ def layered(n):
     for k in range(n):
         inputs = rng.sample(before, rng.randint(2, 8)) if before else []
         system, features = rng.choice(CLASSES)
-        path, text = line(k, inputs, system, features, padding=560)
+        path, text = line(k, inputs, system, features, length=1_000)
         layer.append(path)
         lines.append(text)
         if len(layer) == 64:
@@ -135,8 +140,14 @@ def measured(program, words, bundle):
         _, status, usage = os.wait4(child.pid, 0)
         took = time.monotonic() - began
     if status:
-        sys.exit(f"{' '.join(words)}: status {os.waitstatus_to_exitcode(status)}")
+        sys.exit(f"{words[0]}: status {os.waitstatus_to_exitcode(status)}")
     return took, usage.ru_maxrss * 1024
+
+
+def make_bundle(name, size, file):
+    """Writes a bundle from a process of its own, so that this one stays small: a child's peak memory
+    counts that of the process that starts it."""
+    subprocess.run([sys.executable, __file__, "--make", name, str(size), file], check=True)
 
 
 def growth(new, old, doublings):
@@ -144,18 +155,23 @@ def growth(new, old, doublings):
 
 
 def main():
+    if sys.argv[1:2] == ["--make"]:
+        name, size, file = sys.argv[2:]
+        make = next(make for known, make, _, _ in CASES if known == name)
+        with open(file, "w", encoding="ascii") as out:
+            out.write(make(int(size)))
+        return
     here = os.path.dirname(os.path.abspath(__file__))
     default = os.path.join(here, "..", "crates", "nix_dispatch", "out", "nix_dispatch")
     program = os.path.abspath(sys.argv[1] if len(sys.argv) > 1 else default)
     print(f"{'input':28} {'command':18} {'lines':>7} {'MB':>6} {'s':>8} {'x':>5} {'peak MB':>8} {'x':>5} {'of input':>8}")
     with tempfile.TemporaryDirectory() as folder:
-        for name, make, builders, sizes in CASES:
+        for name, _, builders, sizes in CASES:
             last = {}
             for size in sizes:
                 bundle = os.path.join(folder, "bundle")
-                text = make(size)
-                with open(bundle, "w", encoding="ascii") as file:
-                    file.write(text)
+                make_bundle(name, size, bundle)
+                bytes_in = os.path.getsize(bundle)
                 for command in COMMANDS:
                     words = [*command, "--builders", builders()]
                     took, peak = min(measured(program, words, bundle) for _ in range(3))
@@ -167,8 +183,8 @@ def main():
                         memory = growth(peak, peak_before, doublings)
                     last[command] = (size, took, peak)
                     print(
-                        f"{name:28} {' '.join(command):18} {size:7} {len(text) / 1e6:6.1f} {took:8.3f} {times:>5} "
-                        f"{peak / 1e6:8.1f} {memory:>5} {peak / len(text):8.2f}"
+                        f"{name:28} {' '.join(command):18} {size:7} {bytes_in / 1e6:6.1f} {took:8.3f} {times:>5} "
+                        f"{peak / 1e6:8.1f} {memory:>5} {peak / bytes_in:8.2f}"
                     )
                     sys.stdout.flush()
 

@@ -3,6 +3,7 @@
 use crate::files::text_or_file;
 use crate::words;
 use clap::ArgMatches;
+use clap::error::ErrorKind;
 use nd_bytes::ByteString;
 use nd_cli::{CliFault, ParkOptions, ask_engine, path_engine};
 use nd_hook::Told;
@@ -23,6 +24,9 @@ pub fn run<'a, R: Files + Input + Print + Eprint + AllocGlobal + Threads + Sync>
     };
     let matches = match command.try_get_matches_from(given) {
         Ok(matches) => matches,
+        Err(error) if error.kind() == ErrorKind::OutOfMemory => {
+            return told(rt, &CliFault::Memory);
+        }
         Err(error) => {
             let _ = error.print(rt);
             return error.exit_code() as u8;
