@@ -55,85 +55,83 @@ fn is_refused<R: Threads + Sync + AllocGlobal>(
 #[test]
 fn bundle_faults(rt: HostRuntime) -> Result<(), Fail> {
     let alloc = rt.alloc();
-    let first = plain(alloc, 0)?;
-    let second = plain(alloc, 1)?;
-    let path = node_path(0);
     assert!(rt; asked(&rt, alloc, &options(alloc, "m", 1)?, b"")?.is("0", ""));
-    let on_second = line(
-        alloc,
-        0,
-        "(\"/nix/store/11111111111111111111111111111111-n1.drv\",[\"out\"])",
-        "",
-        "",
-    )?;
-    let on_first = line(
-        alloc,
-        1,
-        "(\"/nix/store/00000000000000000000000000000000-n0.drv\",[\"out\"])",
-        "",
-        "",
-    )?;
-    assert!(rt;
-        is_refused(
-            &rt,
-            format!(in alloc; "{on_second}{on_first}")?.as_str(),
-            "Cycle"
-        )?
-    );
-    assert!(rt; is_refused(&rt, path, "BadLine 1")?);
-    assert!(rt;
-        is_refused(
-            &rt,
-            format!(in alloc; "{first}{first}")?.as_str(),
-            "Duplicate 2"
-        )?
-    );
-    let no_drv = text(alloc, 0, "", "", "")?;
-    assert!(rt;
-        is_refused(
-            &rt,
-            format!(in alloc; "/nix/store/00000000000000000000000000000000-n0 {no_drv}")?.as_str(),
-            "BadPath 1"
-        )?
-    );
-    assert!(rt;
-        is_refused(
-            &rt,
-            format!(in alloc; "{path}  {no_drv}")?.as_str(),
-            "BadDerivation 1"
-        )?
-    );
-    assert!(rt;
-        is_refused(
-            &rt,
-            line(alloc, 0, "", "\"x\"", "")?.as_str(),
-            "BadDerivation 1"
-        )?
-    );
+    assert!(rt; are_line_faults(&rt)?);
+    assert!(rt; are_text_faults(&rt)?);
+    assert!(rt; are_whole_faults(&rt)?);
+    assert!(rt; are_input_faults(&rt)?);
+    Ok(())
+}
+
+/// Lines that are cut wrongly, and paths that are none of a derivation.
+fn are_line_faults<R: Threads + Sync + AllocGlobal>(rt: &R) -> Result<bool, AllocError> {
+    let alloc = rt.alloc();
+    let whole = text(alloc, 0, "", "", "")?;
+    let second = plain(alloc, 1)?;
+    let not_drv = format!(in alloc; "/nix/store/00000000000000000000000000000000-n0 {whole}")?;
+    Ok(
+        is_refused(rt, node_path(0), "BadLine 1")?
+            && is_refused(
+                rt,
+                format!(in alloc; "{second}{second}\n")?.as_str(),
+                "BadLine 3",
+            )?
+            && is_refused(rt, not_drv.as_str(), "BadPath 1")?,
+    )
+}
+
+/// Texts that are no derivation's, or have an output that isn't known.
+fn are_text_faults<R: Threads + Sync + AllocGlobal>(rt: &R) -> Result<bool, AllocError> {
+    let alloc = rt.alloc();
+    let path = node_path(0);
+    let whole = text(alloc, 0, "", "", "")?;
+    let source = line(alloc, 0, "", "\"x\"", "")?;
     let unknown = "Derive([(\"out\",\"\",\"\",\"\")],[],[],\"x86_64-linux\",\"/bin/sh\",[],[])";
-    assert!(rt;
+    Ok(
         is_refused(
-            &rt,
-            format!(in alloc; "{path} {unknown}")?.as_str(),
-            "UnknownOutput 1"
-        )?
-    );
-    assert!(rt; is_refused(&rt, on_second.as_str(), "MissingInput 1")?);
-    let no_dev = line(
+            rt,
+            format!(in alloc; "{path}  {whole}")?.as_str(),
+            "BadDerivation 1",
+        )? && is_refused(rt, source.as_str(), "BadDerivation 1")?
+            && is_refused(
+                rt,
+                format!(in alloc; "{path} {unknown}")?.as_str(),
+                "UnknownOutput 1",
+            )?,
+    )
+}
+
+/// Lines that are no graph together.
+fn are_whole_faults<R: Threads + Sync + AllocGlobal>(rt: &R) -> Result<bool, AllocError> {
+    let alloc = rt.alloc();
+    let first = plain(alloc, 0)?;
+    let on_second = line(alloc, 0, ON_SECOND, "", "")?;
+    let on_first = line(alloc, 1, ON_FIRST, "", "")?;
+    Ok(
+        is_refused(
+            rt,
+            format!(in alloc; "{on_second}{on_first}")?.as_str(),
+            "Cycle",
+        )? && is_refused(
+            rt,
+            format!(in alloc; "{first}{first}")?.as_str(),
+            "Duplicate 2",
+        )? && is_refused(rt, on_second.as_str(), "MissingInput 1")?,
+    )
+}
+
+/// Outputs that are named of an input.
+fn are_input_faults<R: Threads + Sync + AllocGlobal>(rt: &R) -> Result<bool, AllocError> {
+    let alloc = rt.alloc();
+    let first = plain(alloc, 0)?;
+    let dev = line(
         alloc,
         1,
         "(\"/nix/store/00000000000000000000000000000000-n0.drv\",[\"dev\"])",
         "",
         "",
     )?;
-    assert!(rt;
-        is_refused(
-            &rt,
-            format!(in alloc; "{first}{no_dev}")?.as_str(),
-            "MissingOutput 2"
-        )?
-    );
-    let unnamed = line(
+    let none = line(
         alloc,
         1,
         "(\"/nix/store/00000000000000000000000000000000-n0.drv\",[])",
@@ -141,21 +139,24 @@ fn bundle_faults(rt: HostRuntime) -> Result<(), Fail> {
         "",
     )?;
     let taken = asked(
-        &rt,
+        rt,
         alloc,
         &options(alloc, "m", 1)?,
-        format!(in alloc; "{first}{unnamed}")?.as_bytes(),
+        format!(in alloc; "{first}{none}")?.as_bytes(),
     )?;
-    assert!(rt; taken.is("0", "# accept\nssh://m\n# accept\nssh://m\n"));
-    assert!(rt;
+    Ok(
         is_refused(
-            &rt,
-            format!(in alloc; "{second}{second}\n")?.as_str(),
-            "BadLine 3"
-        )?
-    );
-    Ok(())
+            rt,
+            format!(in alloc; "{first}{dev}")?.as_str(),
+            "MissingOutput 2",
+        )? && taken.is("0", "# accept\nssh://m\n# accept\nssh://m\n"),
+    )
 }
+
+/// The input derivations of a node that needs the first node, or the second.
+const ON_FIRST: &str = "(\"/nix/store/00000000000000000000000000000000-n0.drv\",[\"out\"])";
+
+const ON_SECOND: &str = "(\"/nix/store/11111111111111111111111111111111-n1.drv\",[\"out\"])";
 
 #[test]
 fn checked_paths(rt: HostRuntime) -> Result<(), Fail> {
