@@ -12,6 +12,7 @@ use Rattle.nd_ledger.specs.Books.{Recorded}
 use Rattle.nd_ledger.specs.Premises.{Premises, premises_of}
 use Rattle.nd_ledger.specs.History.{live, without, load, is_leased, lease_of, is_started, has_stop}
 use Rattle.nd_ledger.specs.Legal.{IsLegal, IsAllowed}
+use Rattle.nd_ledger.specs.Fitting.{FitTogether}
 use Rattle.nd_ledger.specs.Inner.{IsKept, room_for}
 use Rattle.nd_ledger.proofs.Following.{newest_first}
 use Rattle.nd_ledger.proofs.Legality.{leased_ranged}
@@ -145,3 +146,19 @@ small_load d was m =
 pub in_book : (d : Inside) → IsKept d → (t : Ticket) → lease_of t.drv (reverse d.book.entries) ≡ Some t → t.drv < d.book.drvs
 in_book d was t found =
     rw was.drvs (leased_ranged (premises_of d.inputs) (reverse d.book.entries) was.legal t.drv (found_leased t.drv (reverse d.book.entries) t found))
+
+-- the inputs and the book fit together
+pub fit_kept : (d : Inside) → IsKept d → FitTogether (premises_of d.inputs) d.book
+fit_kept d was = record { legal = was.legal; sound = was.sound; drvs = was.drvs; park = was.park; few = was.few; small = was.small }
+
+-- an entry makes at most one lease
+pub live_grows : (past : List Entry) (e : Entry) → length (live (e ∷ past)) ≤ length (live past) + 1
+live_grows past (Chosen d m s) = grind (arith, common_steps)
+live_grows past (Down d) = let le = filter_le (λ (t : Ticket). not (d == t.drv)) (live past) in omega arith
+live_grows past (Built d refs) = let le = filter_le (λ (t : Ticket). not (d == t.drv)) (live past) in omega arith
+live_grows past (Failed d why) = let le = filter_le (λ (t : Ticket). not (d == t.drv)) (live past) in omega arith
+live_grows past (NoBuilder d) = omega arith
+live_grows past (Started d paths) = omega arith
+live_grows past Stop = omega arith
+live_grows past (Drain m) = omega arith
+live_grows past (Enable m) = omega arith

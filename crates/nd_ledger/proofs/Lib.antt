@@ -5,6 +5,8 @@ pub mod Keeping
 pub mod Legality
 pub mod OneChoice
 pub mod Provisions
+pub mod Readiness
 pub mod Reported
 pub mod Slots
+pub mod Steps
 pub mod Turned

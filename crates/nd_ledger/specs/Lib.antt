@@ -2,6 +2,7 @@ pub mod Books
 pub mod BooksKept
 pub mod Choices
 pub mod Closing
+pub mod Fitting
 pub mod Headline
 pub mod History
 pub mod Inner

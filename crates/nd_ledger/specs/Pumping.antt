@@ -1,9 +1,10 @@
 -- The steps of a pump: choices, and derivations that nothing can build. The histories of these definitions stand newest
 -- first, but for those of `ArePumpSteps`.
-use Rattle.std.specs.Prelude.{◌≡◌, ℕ, ◌<◌, List, [], ◌∷◌, ◌++◌, reverse, Option, Some, None}
+use Rattle.std.specs.Prelude.{◌≡◌, ℕ, ◌<◌, Bool, not, ◌||◌, length, List, [], ◌∷◌, ◌++◌, reverse, Option, Some, None}
 use Rattle.nd_ledger.specs.declared.entry.Entry.{Entry}
 use Rattle.nd_ledger.specs.declared.entry.Entry.TheVariants.{Chosen, NoBuilder, Started, Down, Built, Failed, Stop, Drain, Enable}
 use Rattle.nd_ledger.specs.Premises.{Premises}
+use Rattle.nd_ledger.specs.History.{is_built, is_failed, is_leased}
 use Rattle.nd_ledger.specs.Legal.{IsAllowed}
 
 -- the derivation that a step is about; other entries are no steps
@@ -41,3 +42,18 @@ pub record IsPumpStep (i : Premises) (past : List Entry) (e : Entry) : Type 0 wh
 abbrev pub ArePumpSteps : Premises → List Entry → List Entry → Type 0
 ArePumpSteps i history [] = Unit {0}
 ArePumpSteps i history (e ∷ steps) = IsPumpStep i (reverse history) e × ArePumpSteps i (history ++ e ∷ []) steps
+
+-- the history grew by pump steps alone; both stand oldest first
+pub record HasPumped (i : Premises) (old new : List Entry) : Type 0 where
+  pub steps : List Entry
+  pub grown : new ≡ old ++ steps
+  pub each : ArePumpSteps i old steps
+
+-- .. by n of them
+pub record HasPumpedBy (i : Premises) (old new : List Entry) (n : ℕ) : Type 0 where
+  pub pumped : HasPumped i old new
+  pub count : length pumped.steps ≡ n
+
+-- nothing has been said of derivation d
+abbrev pub is_open : List Entry → ℕ → Bool
+is_open past d = not (is_built d past || (is_failed d past || is_leased d past))

@@ -1,14 +1,17 @@
 //! The entries so far, and what follows from them for leases and machines.
 
 ghost use Rattle.std.specs.Prelude.{◌≡◌, ◌+◌, ◌<◌, ◌≤◌, ◌^◌, ◌++◌, [], ◌∷◌, length, reverse, IfOk, OnOk};
-ghost use Rattle.nd_ledger.specs.History.{live, lease_of, current_of, load, is_taken, is_started, is_up, has_stop};
+ghost use Rattle.nd_ledger.specs.History.{live, lease_of, current_of, load, is_taken, is_started, is_up, has_stop, is_leased, is_built, is_failed, is_failure};
+ghost use Rattle.std.specs.List.{list_any};
 
 use std::alloc::{AllocError, Global};
 use std::marker::Model;
 
 use crate::entry::{Entry, Ticket};
-use crate::finding::{count_on, is_any_on, newest_of, newest_on};
-use crate::tables::{follow_leases, follow_started, follow_stop, follow_ups};
+use crate::finding::{count_on, is_any_of, is_any_on, newest_of, newest_on};
+use crate::tables::{
+    follow_built, follow_failed, follow_failure, follow_leases, follow_started, follow_stop, follow_ups,
+};
 
 /// A history with the tables that follow it: the live leases, which derivations were started since
 /// their newest choice, and which machines are up. No question is answered by a search of the
@@ -20,6 +23,9 @@ pub struct Book {
     leases: Vec<Ticket>,
     started: Vec<bool>,
     ups: Vec<bool>,
+    built: Vec<bool>,
+    failed: Vec<bool>,
+    failure: bool,
     stop: bool,
 }
 
@@ -47,6 +53,9 @@ impl Book {
         follow_ups(&mut self.ups, self.leases.as_slice(), &entry);
         follow_started(&mut self.started, &entry);
         follow_leases(&mut self.leases, self.entries.len(), &entry);
+        follow_built(&mut self.built, &entry);
+        follow_failed(&mut self.failed, &entry);
+        self.failure = follow_failure(self.failure, &entry);
         self.stop = follow_stop(self.stop, &entry);
         self.entries.push_reserved(entry);
     }
@@ -64,6 +73,9 @@ impl Book {
             leases: Vec::with_capacity(alloc, 1)?,
             started: vec![in alloc; false; drvs]?,
             ups: vec![in alloc; true; machines]?,
+            built: vec![in alloc; false; drvs]?,
+            failed: vec![in alloc; false; drvs]?,
+            failure: false,
             stop: false,
         })
     }
@@ -123,6 +135,37 @@ impl Book {
         ensures { result ≡ is_taken machine slot (reverse self.now.entries) }
     {
         is_any_on(self.leases.as_slice(), machine, slot)
+    }
+
+    /// Whether derivation `drv` has a live lease.
+    #[tactic(auto, using(crate::proofs::Following::any_reverse))]
+    pub fn is_leased(&self, drv: u32) -> bool
+        ensures { result ≡ is_leased drv (reverse self.now.entries) }
+    {
+        is_any_of(self.leases.as_slice(), drv)
+    }
+
+    /// Whether derivation `drv` is built.
+    pub fn is_built(&self, drv: usize) -> bool
+        requires { drv < self.now.drvs }
+        ensures { result ≡ is_built drv (reverse self.now.entries) }
+    {
+        self.built[drv]
+    }
+
+    /// Whether derivation `drv` failed.
+    pub fn is_failed(&self, drv: usize) -> bool
+        requires { drv < self.now.drvs }
+        ensures { result ≡ is_failed drv (reverse self.now.entries) }
+    {
+        self.failed[drv]
+    }
+
+    /// Whether any derivation failed.
+    pub fn has_failure(&self) -> bool
+        ensures { result ≡ list_any is_failure (reverse self.now.entries) }
+    {
+        self.failure
     }
 
     /// Whether a stop was asked for.

@@ -9,7 +9,7 @@ ghost use Rattle.nd_ledger.specs.Legal.{IsLeastFree};
 ghost use Rattle.nd_ledger.specs.Choices.{loads_of, ups_of, HasDecision, IsLocal, IsLocalFree, HasReply};
 
 use nd_eligible::{Need, local_ok};
-use nd_hook::{Decision, decide};
+use nd_hook::{Decision, Reply, decide, reply};
 
 use crate::book::Book;
 use crate::inputs::Inputs;
@@ -86,6 +86,27 @@ pub(crate) fn decide_now(inputs: &Inputs, book: &Book, drv: usize) -> Decision
     let loc = is_local(inputs, book, need);
     let loc_free = is_local_free(inputs, book, need);
     decide(machines, loads, ups, need, loc, loc_free)
+}
+
+/// The hook's reply about derivation `drv`, whatever its status. It takes no memory.
+pub(crate) fn reply_now(inputs: &Inputs, book: &Book, drv: usize) -> Reply
+    requires sound { IsSound inputs.now.graph }
+    requires node { drv < length inputs.now.graph.paths }
+    requires few { length inputs.now.machines ≤ 1024 }
+    requires park { book.now.machines ≡ length inputs.now.machines + 1 }
+    requires fits { (m : ℕ) → load m (reverse book.now.entries) < 2 ^ 32 }
+    ensures { HasReply (premises_of inputs.now) (reverse book.now.entries) drv result }
+{
+    let need = inputs.graph.need(drv);
+    let machines = inputs.machines.as_slice();
+    let mut loads = [0; MOST_MACHINES];
+    let loads = &mut loads[..machines.len()];
+    fill_loads(inputs, book, loads);
+    let mut ups = [false; MOST_MACHINES];
+    let ups = &mut ups[..machines.len()];
+    fill_ups(inputs, book, ups);
+    let loc_free = is_local_free(inputs, book, need);
+    reply(machines, loads, ups, need, loc_free)
 }
 
 /// The least slot of a machine that no live lease is on.

@@ -2,9 +2,10 @@
 
 ghost use Rattle.std.specs.Prelude.{◌≡◌, ℕ, ◌+◌, ◌<◌, ◌≤◌, ◌++◌, [], ◌∷◌, List, false, length, reverse, IfOk, OnOk, IfErr, OnErr, IsOk, IsTrue, ◌↔◌};
 ghost use Rattle.nd_ledger.specs.History.{live, lease_of, current_of, load, is_started, is_up, has_stop};
-ghost use Rattle.nd_ledger.specs.Choices.{machines_in};
+ghost use Rattle.nd_ledger.specs.Choices.{machines_in, HasReply};
 ghost use Rattle.nd_ledger.specs.Legal.{IsLegal};
 ghost use Rattle.nd_ledger.specs.Headline.{SlotsAreLeases, LeasesAreInOrder, StartsAreEligible, ChoicesAreBest};
+ghost use Rattle.nd_ledger.specs.Pumping.{HasPumped, HasPumpedBy, AreAtRest};
 ghost use Rattle.nd_choose.specs.Best.{jobs_at};
 ghost use Rattle.nd_ledger.specs.Refusals.{IsLive, IsFailRefused, IsDownRefused, IsStopRefused};
 
@@ -15,12 +16,15 @@ use nd_bytes::Items;
 use nd_closure::RefTable;
 use nd_eligible::Local;
 use nd_graph::Graph;
+use nd_hook::Reply;
 use nd_machines::Machine;
 
 use crate::book::Book;
+use crate::deciding::reply_now;
 use crate::entry::{Entry, Ticket, Why};
 use crate::inputs::{Inputs, Parts};
 use crate::refusal::Refusal;
+use crate::stepping::next_step;
 
 /// Leases and their history: it only ever holds a legal one. Contracts see the five inputs, which
 /// never change, and the entries, oldest first.
@@ -44,6 +48,24 @@ impl Model for Dispatch {
 
 impl Dispatch {
     ghost use Rattle.nd_ledger.specs.Inner.{room_for};
+
+    /// Again and again the first derivation, in the order of the bundle, that is ready and whose
+    /// decision is not to wait gets its choice or the word that nothing can build it, until there is
+    /// none. The answer is the number of these steps; those made before a refusal stand.
+    pub fn pump(&mut self) -> Result<usize, AllocError>
+        ensures inputs { self.new.inputs ≡ self.old.inputs }
+        ensures steps { IfOk result (HasPumpedBy self.old.inputs self.old.history self.new.history) }
+        ensures rest { OnOk result (AreAtRest self.new.inputs (reverse self.new.history)) }
+        ensures err { OnErr result (HasPumped self.old.inputs self.old.history self.new.history) }
+    {
+        let before = self.book.entries().len();
+        while let Some(step) = next_step(&self.inputs, &self.book) {
+            let room = self.book.live_len() + 3;
+            self.book.make_room(room)?;
+            self.book.record(step);
+        }
+        Ok(self.book.entries().len() - before)
+    }
 
     /// The end of a lease without its outputs. It takes no memory.
     ///
@@ -161,6 +183,15 @@ impl Dispatch {
             },
             book,
         })
+    }
+
+    /// The hook's reply about derivation `i`, as the machines are now. It doesn't ask how `i` stands,
+    /// and takes no memory.
+    pub fn ask(&self, i: usize) -> Reply
+        requires { i < length self.now.inputs.graph.paths }
+        ensures { HasReply self.now.inputs (reverse self.now.history) i result }
+    {
+        reply_now(&self.inputs, &self.book, i)
     }
 
     /// The live lease on this slot of this machine.

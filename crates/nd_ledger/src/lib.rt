@@ -9,6 +9,8 @@ mod finding;
 pub mod inputs;
 pub mod laws;
 pub mod refusal;
+mod standing;
+mod stepping;
 mod tables;
 
 pub use dispatch::Dispatch;

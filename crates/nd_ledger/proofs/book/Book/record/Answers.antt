@@ -1,7 +1,8 @@
 use Rattle.std.proofs.Common.{◌≡◌, ℕ, length, ap, sym, ◌∙◌, rules, subst, Bool, ◌||◌, List, reverse}
-use Rattle.nd_ledger.specs.Kept.{leases_after, started_after, AreUpsAfter}
-use Rattle.nd_ledger.specs.History.{is_stop, has_stop}
-use Rattle.nd_ledger.proofs.Following.{follow_all, newest_first}
+use Rattle.std.specs.List.{list_any}
+use Rattle.nd_ledger.specs.Kept.{leases_after, started_after, AreUpsAfter, AreBuilt, AreFailed}
+use Rattle.nd_ledger.specs.History.{is_stop, has_stop, is_failure}
+use Rattle.nd_ledger.proofs.Following.{follow_all, newest_first, built_follow, failed_follow, started_sized, built_sized, failed_sized}
 use Rattle.nd_ledger.proofs.book.Book.record.Goals as goal
 
 pub invariant_of-self : goal.invariant_of-self
@@ -16,4 +17,19 @@ invariant_of-self c =
       c.push_reserved.ensures.items c.self.invariant.leases c.self.invariant.started c.self.invariant.ups leases started ups in
     let turned = newest_first was.entries.items c.push_reserved.new.self.items c.args.entry c.push_reserved.ensures.items in
     let stop : c.follow_stop-self-inside.result ≡ has_stop (reverse c.push_reserved.new.self.items) = rw turned (c.follow_stop-self-inside.ensures ∙ ap (λ (b : Bool). is_stop c.args.entry || b) c.self.invariant.stop) in
-    record { leases = all.0; started = all.1; ups = all.2; stop = stop }
+    let built : AreBuilt (reverse c.push_reserved.new.self.items) c.follow_built.new.built.items = rw turned (rw c.follow_built.ensures (built_follow (reverse was.entries.items) c.args.entry was.built.items c.self.invariant.built)) in
+    let failed : AreFailed (reverse c.push_reserved.new.self.items) c.follow_failed.new.failed.items = rw turned (rw c.follow_failed.ensures (failed_follow (reverse was.entries.items) c.args.entry was.failed.items c.self.invariant.failed)) in
+    let failure : c.follow_failure-self-inside.result ≡ list_any is_failure (reverse c.push_reserved.new.self.items) = rw turned (c.follow_failure-self-inside.ensures ∙ ap (λ (b : Bool). is_failure c.args.entry || b) c.self.invariant.failure) in
+    let started_len = ap length c.follow_started.ensures ∙ started_sized c.args.entry was.started.items in
+    let built_len = ap length c.follow_built.ensures ∙ built_sized c.args.entry was.built.items in
+    let failed_len = ap length c.follow_failed.ensures ∙ failed_sized c.args.entry was.failed.items in
+    record {
+      leases = all.0;
+      started = all.1;
+      ups = all.2;
+      built = built;
+      failed = failed;
+      sized = (built_len ∙ c.self.invariant.sized.0 ∙ sym started_len, failed_len ∙ c.self.invariant.sized.1 ∙ sym started_len);
+      failure = failure;
+      stop = stop;
+    }

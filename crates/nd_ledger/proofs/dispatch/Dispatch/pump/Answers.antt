@@ -1,0 +1,46 @@
+use Rattle.std.proofs.Common.{rules, ◌≡◌, ℕ, ◌+◌, ◌-◌, ◌<◌, ◌≤◌, ◌++◌, List, [], ◌∷◌, length, reverse, arith, sym, ap, ◌∙◌, subst}
+use Rattle.nd_ledger.specs.declared.entry.Entry.{Entry}
+use Rattle.nd_ledger.specs.History.{live}
+use Rattle.nd_ledger.specs.Worlds.{World}
+use Rattle.nd_ledger.specs.Premises.{Premises, premises_of}
+use Rattle.nd_ledger.specs.Pumping.{IsPumpStep}
+use Rattle.nd_ledger.proofs.Following.{newest_first}
+use Rattle.nd_ledger.proofs.Keeping.{kept_more, live_grows, HasRoom}
+use Rattle.nd_ledger.proofs.Steps.{pumped_more, pump_smaller, pump_counted}
+use Rattle.nd_ledger.proofs.dispatch.Dispatch.pump.Goals as goal
+
+pub loop-step-preserved : goal.loop-step-preserved
+loop-step-preserved c =
+    let d = c.loop-step.self-inside in
+    let inv = c.loop-step.invariant in
+    let e = c.in-Some.step in
+    let r = c.record.ensures in
+    let m = c.in_ok-make_room.ensures in
+    let many : length (live (reverse d.book.entries)) + 1 + 2 ≤ c.make_room.new.self.room = (let made = m.made in let is = c.live_len-room.ensures.live in omega arith) in
+    let P : Premises → Type 0 = λ i. IsPumpStep i (reverse d.book.entries) e in
+    record {
+      kept =
+        kept_more d c.make_room.new.self c.record.new.self e 1
+        (record { entries = m.entries; drvs = m.drvs; machines = m.machines; room = m.kept; more = many })
+        (record { entries = r.entries; room = r.room; drvs = r.drvs; machines = r.machines })
+        inv.kept c.in-Some.ensures.step.allowed (live_grows (reverse d.book.entries) e);
+      same = inv.same;
+      pumped = pumped_more _ _ d.book.entries c.record.new.self.entries e inv.pumped (r.entries ∙ ap (λ (es : List Entry). es ++ e ∷ []) m.entries) (subst P inv.same c.in-Some.ensures);
+    }
+
+pub loop-step-smaller : goal.loop-step-smaller
+loop-step-smaller c =
+    let d = c.loop-step.self-inside in
+    let e = c.in-Some.step in
+    let longer = c.record.ensures.entries ∙ ap (λ (es : List Entry). es ++ e ∷ []) c.in_ok-make_room.ensures.entries in
+    pump_smaller (premises_of d.inputs) (reverse d.book.entries) e (reverse c.record.new.self.entries) (newest_first d.book.entries c.record.new.self.entries e longer) c.in-Some.ensures
+
+pub returns-clause-steps : goal.returns-clause-steps
+returns-clause-steps c =
+    let pumped = c.loop-step.invariant.pumped in
+    record {
+      pumped = pumped;
+      count =
+        pump_counted c.args.self.now.history c.loop-step.self-inside.book.entries c.entries-before.result.now c.entries.result.now pumped.steps
+        c.entries.ensures (c.entries-before.ensures ∙ ap (λ (w : World). w.history) c.self.view_is) pumped.grown;
+    }
