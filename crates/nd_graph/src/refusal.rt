@@ -8,20 +8,20 @@ use std::fmt::{self, Display, Formatter, Write};
 /// Why a line of a bundle is refused, the causes in the order in which they are looked for.
 #[derive(Clone, Copy, Debug, PartialEq, Eq)]
 pub enum LineFault {
-    /// The line is empty or has no space.
+    /// 1: the line is empty or has no space.
     BadLine,
-    /// What stands before the first space is no store path, or doesn't end in `.drv`.
+    /// 2: what stands before the first space is no store path, or doesn't end in `.drv`.
     BadPath,
-    /// What stands after it is no derivation text, an input derivation of it is no store path that
+    /// 3: what stands after it is no derivation text, an input derivation of it is no store path that
     /// ends in `.drv`, or a source or an output path that isn't empty is no store path.
     BadDerivation,
-    /// The path of an output is empty: it isn't known before the build.
+    /// 4: the path of an output is empty: it isn't known before the build.
     UnknownOutput,
-    /// The structured attributes aren't what they have to be.
+    /// 5: the structured attributes are no JSON object, or a member is of another kind than it has to be.
     BadAttribute,
-    /// The line's path isn't the text path of its derivation text.
+    /// 6: with the check, the line's path isn't the one that its name and text have.
     WrongPath,
-    /// No memory was to be had.
+    /// No memory was to be had, at any point.
     Memory,
 }
 
