@@ -1,2 +1,3 @@
 pub mod Ordered
 pub mod Choosing
+pub mod OneChoice

@@ -3,6 +3,7 @@
 
 mod choice;
 mod contender;
+pub mod laws;
 mod order;
 
 pub use choice::{choose, choose_in};

@@ -1,5 +1,5 @@
 -- Which answers of a whole read say that the device refused it.
-use Rattle.std.specs.Prelude.{Bool, true, false, Result, Ok, Err}
+use Rattle.std.specs.Prelude.{ℕ, Bool, true, false, List, Result, Ok, Err, codes}
 use Rattle.nd_hook.specs.declared.told.TakeError.{TakeError}
 use Rattle.nd_hook.specs.declared.told.TakeError.TheVariants.{Fault, Memory}
 
@@ -8,3 +8,8 @@ abbrev pub is_fault_of : {A : Type 0} → Result A TakeError → Bool
 is_fault_of (Ok _) = false
 is_fault_of (Err Fault) = true
 is_fault_of (Err Memory) = false
+
+-- the plain name of a refusal
+abbrev pub take_error_name : TakeError → List ℕ
+take_error_name Fault = codes "Fault"
+take_error_name Memory = codes "Memory"

@@ -2,5 +2,6 @@ pub mod Device
 pub mod Decisions
 pub mod Replies
 pub mod ReplyText
+pub mod SameAnswers
 pub mod Watched
 pub mod Written

@@ -3,6 +3,7 @@
 
 mod decisions;
 mod kinds;
+pub mod laws;
 mod replies;
 mod told;
 mod writing;

@@ -16,8 +16,12 @@ use std::marker::Model;
 pub struct Fault;
 
 impl fmt::Display for Fault {
+    ghost use Rattle.std.specs.Prelude.{Some, codes};
+
+    ghost output = { λ _. Some (codes "Fault") };
+
     fn fmt<W: fmt::Write>(&self, f: &mut fmt::Formatter<W>) -> fmt::Result {
-        write!(f, "Fault")
+        f.write_str("Fault")
     }
 }
 
@@ -33,10 +37,15 @@ pub enum TakeError {
 }
 
 impl fmt::Display for TakeError {
+    ghost use Rattle.std.specs.Prelude.{Some};
+    ghost use Rattle.nd_hook.specs.Device.{take_error_name};
+
+    ghost output = { λ e. Some (take_error_name e) };
+
     fn fmt<W: fmt::Write>(&self, f: &mut fmt::Formatter<W>) -> fmt::Result {
         match self {
-            TakeError::Fault => write!(f, "Fault"),
-            TakeError::Memory => write!(f, "Memory"),
+            TakeError::Fault => f.write_str("Fault"),
+            TakeError::Memory => f.write_str("Memory"),
         }
     }
 }

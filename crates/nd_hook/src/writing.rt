@@ -19,8 +19,12 @@ pub enum WriteError {
 }
 
 impl fmt::Display for WriteError {
+    ghost use Rattle.std.specs.Prelude.{Some, codes};
+
+    ghost output = { λ _. Some (codes "Write") };
+
     fn fmt<W: fmt::Write>(&self, f: &mut fmt::Formatter<W>) -> fmt::Result {
-        write!(f, "Write")
+        f.write_str("Write")
     }
 }
 
