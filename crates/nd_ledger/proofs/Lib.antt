@@ -3,6 +3,7 @@ pub mod Following
 pub mod Headline
 pub mod Keeping
 pub mod Legality
+pub mod Marking
 pub mod OneChoice
 pub mod Provisions
 pub mod Readiness

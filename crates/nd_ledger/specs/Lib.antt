@@ -8,9 +8,11 @@ pub mod History
 pub mod Inner
 pub mod Kept
 pub mod Legal
+pub mod Marks
 pub mod Premises
 pub mod Pumping
 pub mod References
 pub mod Refusals
 pub mod Standing
+pub mod Statuses
 pub mod Worlds

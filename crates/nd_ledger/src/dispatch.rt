@@ -4,6 +4,7 @@ ghost use Rattle.std.specs.Prelude.{◌≡◌, ℕ, ◌+◌, ◌<◌, ◌≤◌,
 ghost use Rattle.nd_ledger.specs.History.{live, lease_of, current_of, load, is_started, is_up, has_stop};
 ghost use Rattle.nd_ledger.specs.Choices.{machines_in, HasReply};
 ghost use Rattle.nd_ledger.specs.Legal.{IsLegal};
+ghost use Rattle.nd_ledger.specs.Closing.{StartsAreProvisioned};
 ghost use Rattle.nd_ledger.specs.Headline.{SlotsAreLeases, LeasesAreInOrder, StartsAreEligible, ChoicesAreBest};
 ghost use Rattle.nd_ledger.specs.Pumping.{HasPumped, HasPumpedBy, AreAtRest};
 ghost use Rattle.nd_choose.specs.Best.{jobs_at};
@@ -230,16 +231,18 @@ impl Dispatch {
     ///   has more of them than it may build at once;
     /// - one lease, inputs first: no derivation has two live leases, and none was leased before its
     ///   inputs were built;
-    /// - eligible: each start was that of a lease on a machine that was eligible;
+    /// - eligible and provisioned: each start was that of a lease on a machine that was eligible, and
+    ///   that machine holds the derivation's input closure;
     /// - least-loaded choice: each choice of a builder was the least loaded of the eligible machines
     ///   that were up and free at its place in the history.
-    #[tactic(auto, using(crate::proofs::Headline::slots_are_leases, crate::proofs::Headline::leases_are_in_order, crate::proofs::Headline::starts_are_eligible, crate::proofs::Headline::choices_are_best))]
+    #[tactic(auto, using(crate::proofs::Headline::slots_are_leases, crate::proofs::Headline::leases_are_in_order, crate::proofs::Headline::starts_are_eligible, crate::proofs::Headline::choices_are_best, crate::proofs::Provisions::starts_are_provisioned))]
     pub fn history(&self) -> &[Entry]
         ensures value { result.now ≡ self.now.history }
         ensures legal { IsLegal self.now.inputs (reverse self.now.history) }
         ensures slots { SlotsAreLeases self.now.inputs (reverse self.now.history) }
         ensures leases { LeasesAreInOrder self.now.inputs (reverse self.now.history) }
         ensures starts { StartsAreEligible self.now.inputs (reverse self.now.history) }
+        ensures provisioned { StartsAreProvisioned self.now.inputs (reverse self.now.history) }
         ensures choices { ChoicesAreBest self.now.inputs (reverse self.now.history) }
     {
         self.book.entries()
