@@ -12,39 +12,39 @@ use Rattle.nd_path.proofs.Searches.{turned}
 
 first_or_other : (x : List ℕ) (xs : List (List ℕ)) (p : List ℕ) → Contains (x ∷ xs) p → (x ≡ p) ⊎ Contains xs p
 first_or_other x xs p h = elim (Contains-append_cases (x ∷ []) xs p h) [
-    inl first ↦ (elim (Contains-push_cases [] x p first) [ inl none ↦ absurd (omega (arith, none.1)) | inr same ↦ inl same ])
+  | inl first ↦ (elim (Contains-push_cases [] x p first) [ inl none ↦ absurd (omega (arith, none.1)) | inr same ↦ inl same ])
   | inr other ↦ inr other
-  ]
+]
 
 -- what is below each item of a list is below each member
 below_all : (x : List ℕ) (xs : List (List ℕ)) → AllByRecursion (λ y. path_cmp x y ≡ Less) xs → (p : List ℕ) → Contains xs p → path_cmp x p ≡ Less
 below_all x [] h p there = absurd (omega (arith, there.1))
 below_all x (y ∷ ys) h p there = elim (first_or_other y ys p there) [
-    inl same ↦ subst (λ (q : List ℕ). path_cmp x q ≡ Less) same h.0
+  | inl same ↦ subst (λ (q : List ℕ). path_cmp x q ≡ Less) same h.0
   | inr later ↦ below_all x ys h.1 p later
-  ]
+]
 
 not_both : (x y : List ℕ) → path_cmp x y ≡ Less → path_cmp y x ≡ Less → ⊥
 not_both x y h k = true≢false (sym (ap is_lt k) ∙ turned x y h)
 
 same_first : (x y : List ℕ) (xs ys : List (List ℕ)) → AllByRecursion (λ z. path_cmp x z ≡ Less) xs → AllByRecursion (λ z. path_cmp y z ≡ Less) ys
-  → HasSameMembers (x ∷ xs) (y ∷ ys) → x ≡ y
+    → HasSameMembers (x ∷ xs) (y ∷ ys) → x ≡ y
 same_first x y xs ys s t h =
     elim (first_or_other y ys x (h.to x (0, omega arith, refl))) [
-        inl same ↦ sym same
+      | inl same ↦ sym same
       | inr later ↦ (elim (first_or_other x xs y (h.from y (0, omega arith, refl))) [
-            inl same ↦ same
-          | inr too ↦ absurd (not_both x y (below_all x xs s y too) (below_all y ys t x later))
-          ])
-      ]
+        | inl same ↦ same
+        | inr too ↦ absurd (not_both x y (below_all x xs s y too) (below_all y ys t x later))
+      ])
+    ]
 
 -- a member behind the first is behind the other list's first
 behind_first : (x y : List ℕ) (xs ys : List (List ℕ)) → x ≡ y → AllByRecursion (λ z. path_cmp x z ≡ Less) xs
-  → ((p : List ℕ) → Contains (x ∷ xs) p → Contains (y ∷ ys) p) → (p : List ℕ) → Contains xs p → Contains ys p
+    → ((p : List ℕ) → Contains (x ∷ xs) p → Contains (y ∷ ys) p) → (p : List ℕ) → Contains xs p → Contains ys p
 behind_first x y xs ys same s h p there = elim (first_or_other y ys p (h p (Contains-append_right (x ∷ []) xs p there))) [
-    inl first ↦ absurd (let e : path_cmp x x ≡ Less = subst (λ (q : List ℕ). path_cmp x q ≡ Less) (sym (same ∙ first)) (below_all x xs s p there) in not_both x x e e)
+  | inl first ↦ absurd (let e : path_cmp x x ≡ Less = subst (λ (q : List ℕ). path_cmp x q ≡ Less) (sym (same ∙ first)) (below_all x xs s p there) in not_both x x e e)
   | inr later ↦ later
-  ]
+]
 
 same_sorted : (xs ys : List (List ℕ)) → IsStrictlySortedBy path_cmp xs → IsStrictlySortedBy path_cmp ys → HasSameMembers xs ys → xs ≡ ys
 unfolding IsStrictlySortedBy
