@@ -30,4 +30,6 @@ pub use graph::{Graph, Input};
 pub use line::{LineNode, NamedInput};
 
 #[cfg(test)]
+mod bundle_tests;
+#[cfg(test)]
 mod line_tests;
