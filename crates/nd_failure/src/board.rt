@@ -17,7 +17,7 @@ use std::marker::Model;
 ///
 /// It keeps the number of unbuilt inputs of each node, the nodes that have a failed one below, the five counts, and the
 /// free nodes whose inputs are all built, so that no call searches the nodes. Only `new` and `try_clone` take memory.
-#[derive(Drop)]
+#[derive(Drop, Debug)]
 pub struct Board {
     edges: Edges,
     keep_going: bool,

@@ -70,7 +70,7 @@ fn is_any_up(flags: &[bool], block: usize) -> bool
 }
 
 /// A single row, which is searched from one end to the other.
-#[derive(Drop)]
+#[derive(Drop, Debug)]
 pub struct Flat {
     items: Vec<bool>,
 }
@@ -113,7 +113,7 @@ impl Flags for Flat {
 }
 
 /// A row with a layer above it, whose flag j is up where one of the flags 64 j to 64 j + 63 is.
-#[derive(Drop)]
+#[derive(Drop, Debug)]
 pub struct Layered<U: Flags> {
     items: Vec<bool>,
     above: U,

@@ -10,7 +10,10 @@ use std::marker::Model;
 ///
 /// It is made of three layers, each of which has one flag for 64 of the layer below. So for n numbers a member is put in, taken
 /// out and found in about 64 + 64 + n / 4096 steps, and only `new` and `try_clone` take memory.
-#[derive(Drop)]
+///
+/// For sets by groups of nodes, number the nodes so that each group stands together, by group and then by node, and keep one
+/// set of these numbers: the first member from a group's first number on, where it lies in the group, is the group's least node.
+#[derive(Drop, Debug)]
 pub struct NodeSet {
     rows: Layered<Layered<Flat>>,
 }

@@ -59,7 +59,7 @@ fn find_doomed(inputs: &Rows, order: &[usize], marks: &[Mark], doomed: &mut Node
 ///
 /// It keeps the three sets of nodes as marks, and which nodes have a failed one below; all else is found by a search over the
 /// nodes. Only `new` and `try_clone` take memory.
-#[derive(Drop)]
+#[derive(Drop, Debug)]
 pub struct PlainBoard {
     inputs: Rows,
     /// The nodes, each after its inputs.
