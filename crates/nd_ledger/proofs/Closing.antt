@@ -1,7 +1,7 @@
 -- What is referred to is known, and what is known keeps its references: so closures stay as they are.
-use Rattle.std.proofs.Common.{◌≡◌, ◌⊎◌, ℕ, ◌<◌, Bool, true, false, ◌||◌, ◌==◌, List, [], ◌∷◌, ◌++◌, length, get_or, map, refl, sym, ap, subst, ◌∙◌, arith, inl, inr, Some}
+use Rattle.std.proofs.Common.{◌≡◌, ◌⊎◌, ℕ, List, [], ◌∷◌, ◌++◌, get_or, map, refl, sym, ap, subst, ◌∙◌, inl, inr, Some}
 use Rattle.std.specs.Prelude.{◌↔◌}
-use Rattle.std.specs.List.{Contains, list_any, zip, slice_get}
+use Rattle.std.specs.List.{Contains, zip, slice_get}
 use Rattle.std.proofs.lemmas.Bool.{cases_Bool}
 use Rattle.std.proofs.lemmas.List.{length-map}
 use Rattle.std.proofs.lemmas.Option.{slice_get_within, get_or_from_slice_get}
@@ -10,17 +10,17 @@ use Rattle.nd_graph.specs.declared.graph.Input.{Input}
 use Rattle.nd_graph.specs.Graphs.{nodes_of}
 use Rattle.nd_closure.specs.Tables.{is_listed, refs_of}
 use Rattle.nd_ledger.specs.declared.entry.Entry.{Entry}
-use Rattle.nd_ledger.specs.declared.entry.Entry.TheVariants.{Chosen, NoBuilder, Started, Down, Built, Failed, Stop, Drain, Enable}
+use Rattle.nd_ledger.specs.declared.entry.Entry.TheVariants.{Built}
 use Rattle.nd_ledger.specs.Premises.{Premises}
 use Rattle.nd_ledger.specs.History.{is_built, builds}
 use Rattle.nd_ledger.specs.Standing.{needed_by, AreInputsBuilt}
 use Rattle.nd_ledger.specs.Legal.{IsLegal}
-use Rattle.nd_ledger.specs.References.{IsAlong, sources_of, outputs_of, inputs_at, IsOutputOf, IsSource, IsNamedBy, IsGiven, reports, Refers, IsNeededBy, IsInClosure, IsBuiltPath}
+use Rattle.nd_ledger.specs.References.{IsAlong, outputs_of, inputs_at, IsNamedBy, IsGiven, reports, Refers, IsNeededBy, IsInClosure, IsBuiltPath}
 use Rattle.nd_ledger.specs.References.IsAlong.{seed, step}
 use Rattle.nd_ledger.specs.References.Refers.{listed, reported}
 use Rattle.nd_ledger.specs.Closing.{ClosureStays}
 use Rattle.nd_ledger.proofs.Legality.{leased_fresh}
-use Rattle.nd_ledger.proofs.Reported.{or_true, nothing_in, zip_refs, refs_first, refs_second, built_listed, listed_built, built_on, just_built}
+use Rattle.nd_ledger.proofs.Reported.{or_true, nothing_in, zip_refs, refs_first, refs_second, built_listed, built_on, just_built}
 
 -- ---- sets that are closed under a relation
 
@@ -90,15 +90,15 @@ reported_known i [] legal p q h = absurd (nothing_in q h)
 reported_known i (Built d refs ∷ past) legal p q h =
     elim (cases_Bool (is_listed (reports i past) p)) [
       | inl before ↦ known_on i past (Built d refs) q
-        (reported_known i past legal.1 p q (subst (λ (rs : List (List ℕ)). Contains rs q) (refs_first (reports i past) (zip (outputs_of i d) refs) p before) h))
+          (reported_known i past legal.1 p q (subst (λ (rs : List (List ℕ)). Contains rs q) (refs_first (reports i past) (zip (outputs_of i d) refs) p before) h))
       | inr new ↦
-        let among = zip_refs (outputs_of i d) refs p q (subst (λ (rs : List (List ℕ)). Contains rs q) (refs_second (reports i past) (zip (outputs_of i d) refs) p new) h) in
-        let inputs = (leased_fresh i past legal.1 d legal.0.may.live).inputs in
-        elim (legal.0.may.right.within among.list q among.listed among.there) [
-          | inl close ↦ known_on i past (Built d refs) q
-            (along_within (IsKnown i past) (needed_known i past d inputs) (λ x y _ r. known_by i past (λ a b g. reported_known i past legal.1 a b g) x y r) q close)
-          | inr out ↦ inr (just_built i past d refs q out)
-        ]
+          let among = zip_refs (outputs_of i d) refs p q (subst (λ (rs : List (List ℕ)). Contains rs q) (refs_second (reports i past) (zip (outputs_of i d) refs) p new) h) in
+          let inputs = (leased_fresh i past legal.1 d legal.0.may.live).inputs in
+          elim (legal.0.may.right.within among.list q among.listed among.there) [
+            | inl close ↦ known_on i past (Built d refs) q
+                (along_within (IsKnown i past) (needed_known i past d inputs) (λ x y _ r. known_by i past (λ a b g. reported_known i past legal.1 a b g) x y r) q close)
+            | inr out ↦ inr (just_built i past d refs q out)
+          ]
     ]
 reported_known i (e ∷ past) legal p q h = known_on i past e q (reported_known i past legal.1 p q h)
 

@@ -1,5 +1,5 @@
 -- The tables follow a history: after one more entry they say of the longer history what they said of the one before.
-use Rattle.std.proofs.Common.{◌≡◌, ℕ, ◌+◌, ◌<◌, Bool, true, false, not, ◌==◌, ◌&&◌, ◌||◌, eqb, cond, if◌then◌else◌, List, [], ◌∷◌, ◌++◌, length, reverse, get_or, set, take, refl, sym, ap, ◌∙◌, subst, arith, inl, inr, get_or-set_other, get_or-set_same, length-set}
+use Rattle.std.proofs.Common.{◌≡◌, ℕ, ◌<◌, Bool, true, false, ◌==◌, ◌&&◌, ◌||◌, cond, if◌then◌else◌, List, [], ◌∷◌, ◌++◌, length, reverse, get_or, set, refl, sym, ap, ◌∙◌, arith, inl, inr, get_or-set_other, length-set}
 use Rattle.std.proofs.lemmas.Grind.{common_steps}
 use Rattle.std.proofs.lemmas.Bool.{cases_eq, ne_eqb}
 use Rattle.std.proofs.lemmas.List.{reverse-append, length-reverse}
@@ -9,8 +9,8 @@ use Rattle.std.specs.List.{list_any, filter}
 use Rattle.nd_ledger.specs.declared.entry.Entry.{Entry}
 use Rattle.nd_ledger.specs.declared.entry.Entry.TheVariants.{Chosen, NoBuilder, Started, Down, Built, Failed, Stop, Drain, Enable}
 use Rattle.nd_ledger.specs.declared.entry.Ticket.{Ticket}
-use Rattle.nd_ledger.specs.History.{live, without, is_started, is_up, is_built, is_failed}
-use Rattle.nd_ledger.specs.Kept.{leases_after, started_after, built_after, failed_after, AreBuilt, AreFailed, AreStarted, AreUp, AreLowered, AreUpsAfter}
+use Rattle.nd_ledger.specs.History.{live, is_started, is_built, is_failed}
+use Rattle.nd_ledger.specs.Kept.{leases_after, started_after, built_after, failed_after, AreBuilt, AreFailed, AreStarted, AreUp, AreUpsAfter}
 
 pub reverse_cons : {X : Type 0} → (x : X) (xs : List X) → reverse (x ∷ xs) ≡ reverse xs ++ x ∷ []
 reverse_cons x xs = reverse-append (x ∷ []) xs
@@ -51,7 +51,7 @@ leases_follow past (Enable m) leases is = is
 put_flag : (flags : List Bool) (e d : ℕ) (flag : Bool) → d < length flags → get_or (set flags e flag) d false ≡ (if d == e then flag else get_or flags d false)
 put_flag flags e d flag lt =
     elim (cases_eq d e) [
-      inl same ↦ grind (arith, common_steps, same, lt)
+      | inl same ↦ grind (arith, common_steps, same, lt)
       | inr other ↦ rw (ne_eqb d e other, get_or-set_other flags e d flag false other)
     ]
 
@@ -140,9 +140,9 @@ failed_sized (Enable m) flags = refl
 pub ups_follow : (past : List Entry) (e : Entry) (leases : List Ticket) (old new : List Bool) → leases ≡ reverse (live past) → AreUp past old → AreUpsAfter e leases old new → AreUp (e ∷ past) new
 ups_follow past (Down d) leases old new is are after = record {
   said = λ m lt.
-    let here : m < length old = omega (arith, after.sized, lt) in
-    let same : list_any (λ (t : Ticket). (m == t.machine) && (d == t.drv)) leases ≡ list_any (λ (t : Ticket). (m == t.machine) && (d == t.drv)) (live past) = rw is (any_reverse _ (live past)) in
-    after.said m here ∙ ap (λ (b : Bool). if b then false else get_or old m false) same ∙ ap (λ (b : Bool). if list_any (λ (t : Ticket). (m == t.machine) && (d == t.drv)) (live past) then false else b) (are.said m here);
+      let here : m < length old = omega (arith, after.sized, lt) in
+      let same : list_any (λ (t : Ticket). (m == t.machine) && (d == t.drv)) leases ≡ list_any (λ (t : Ticket). (m == t.machine) && (d == t.drv)) (live past) = rw is (any_reverse _ (live past)) in
+      after.said m here ∙ ap (λ (b : Bool). if b then false else get_or old m false) same ∙ ap (λ (b : Bool). if list_any (λ (t : Ticket). (m == t.machine) && (d == t.drv)) (live past) then false else b) (are.said m here);
 }
 ups_follow past (Drain n) leases old new is are after = rw after (record {
   said = λ m lt. let here : m < length old = grind (arith, common_steps, lt) in put_flag old n m false here ∙ ap (λ (b : Bool). if m == n then false else b) (are.said m here);
@@ -164,7 +164,8 @@ newest_first items longer e is = ap reverse is ∙ reverse-append items (e ∷ [
 -- all three tables after one more entry
 pub follow_all : (items longer : List Entry) (e : Entry) (leases new_leases : List Ticket) (started new_started ups new_ups : List Bool) → longer ≡ items ++ e ∷ [] → leases ≡ reverse (live (reverse items)) → AreStarted (reverse items) started → AreUp (reverse items) ups → new_leases ≡ leases_after (length items) e leases → new_started ≡ started_after e started → AreUpsAfter e leases ups new_ups → (new_leases ≡ reverse (live (reverse longer))) × AreStarted (reverse longer) new_started × AreUp (reverse longer) new_ups
 follow_all items longer e leases new_leases started new_started ups new_ups is led begun up leases_new started_new ups_new =
-    rw (newest_first items longer e is)
-    (leases_new ∙ ap (λ (n : ℕ). leases_after n e leases) (sym (length-reverse items)) ∙ leases_follow (reverse items) e leases led,
+    rw (newest_first items longer e is) (
+      leases_new ∙ ap (λ (n : ℕ). leases_after n e leases) (sym (length-reverse items)) ∙ leases_follow (reverse items) e leases led,
       rw started_new (started_follow (reverse items) e started begun),
-      ups_follow (reverse items) e leases ups new_ups led up ups_new)
+      ups_follow (reverse items) e leases ups new_ups led up ups_new,
+    )

@@ -1,16 +1,14 @@
 -- The claims hold of every legal history.
-use Rattle.std.proofs.Common.{◌≡◌, ◌⊎◌, ℕ, zero, suc, ◌+◌, ◌<◌, ◌≤◌, Bool, true, false, not, ◌==◌, ◌&&◌, ◌||◌, eqb, cond, List, [], ◌∷◌, ◌++◌, length, count_by, refl, sym, ap, ◌∙◌, subst, arith, inl, inr, Option, Some, None, eq-eqb}
-use Rattle.std.proofs.lemmas.Grind.{common_steps}
-use Rattle.std.proofs.lemmas.Bool.{cases_eq, ne_eqb, cases_Bool}
+use Rattle.std.proofs.Common.{◌≡◌, ◌⊎◌, ℕ, zero, suc, ◌<◌, Bool, true, false, not, ◌==◌, ◌&&◌, ◌||◌, cond, List, [], ◌∷◌, length, refl, sym, ap, ◌∙◌, subst, inl, inr, Some}
 use Rattle.std.specs.List.{list_any, filter, find}
 use Rattle.nd_ledger.specs.declared.entry.Entry.{Entry}
 use Rattle.nd_ledger.specs.declared.entry.Entry.TheVariants.{Chosen, NoBuilder, Started, Down, Built, Failed, Stop, Drain, Enable}
 use Rattle.nd_ledger.specs.declared.entry.Ticket.{Ticket}
 use Rattle.nd_ledger.specs.Premises.{Premises}
-use Rattle.nd_ledger.specs.History.{live, without, load, is_on, is_taken, is_leased, lease_of}
-use Rattle.nd_ledger.specs.Choices.{machines_in, jobs_of, IsBestFor}
-use Rattle.nd_ledger.specs.Legal.{IsLegal, IsAllowed, IsPlaceFor}
-use Rattle.nd_ledger.specs.Headline.{SlotsAreLeases, LeasesAreInOrder, StartsAreEligible, WasEligible, IsChosenIn, IsFit, IsFitFor, ChoicesAreBest}
+use Rattle.nd_ledger.specs.History.{live, is_on, is_taken}
+use Rattle.nd_ledger.specs.Choices.{jobs_of}
+use Rattle.nd_ledger.specs.Legal.{IsLegal, IsPlaceFor}
+use Rattle.nd_ledger.specs.Headline.{SlotsAreLeases, LeasesAreInOrder, StartsAreEligible, IsChosenIn, IsFitFor, ChoicesAreBest}
 use Rattle.nd_ledger.proofs.Legality.{allowed_at}
 use Rattle.nd_ledger.proofs.OneChoice.{local_free}
 use Rattle.nd_ledger.proofs.Slots.{lease_once, slot_once, load_within, same_of}
@@ -42,11 +40,11 @@ pub taken_ranged : (i : Premises) (past : List Entry) → IsLegal i past → (m 
 taken_ranged i [] legal m s h = cc
 taken_ranged i (Chosen e n k ∷ past) legal m s h =
     elim (either_of ((m == n) && (s == k)) (is_taken m s past) h) [
-      inl here ↦
-      let two = two_of (m == n) (s == k) here in
-      let P : ℕ → Type 0 = λ x. k < jobs_of i x in
-      let Q : ℕ → Type 0 = λ x. x < jobs_of i m in
-      subst Q (sym (same_of s k two.1)) (subst P (sym (same_of m n two.0)) legal.0.ranged.2)
+      | inl here ↦
+          let two = two_of (m == n) (s == k) here in
+          let P : ℕ → Type 0 = λ x. k < jobs_of i x in
+          let Q : ℕ → Type 0 = λ x. x < jobs_of i m in
+          subst Q (sym (same_of s k two.1)) (subst P (sym (same_of m n two.0)) legal.0.ranged.2)
       | inr before ↦ taken_ranged i past legal.1 m s before
     ]
 taken_ranged i (Down e ∷ past) legal m s h = taken_ranged i past legal.1 m s (any_filter (is_on m s) (λ (t : Ticket). not (e == t.drv)) (live past) h)
@@ -119,9 +117,9 @@ chosen_fits i past legal t chosen =
 pub starts_are_eligible : (i : Premises) (past : List Entry) → IsLegal i past → StartsAreEligible i past
 starts_are_eligible i past legal = record {
   starts = λ later before d paths is.
-    let at = allowed_at i later before past (Started d paths) is legal in
-    let chosen = chosen_in before (λ t. d == t.drv) at.0.may.ticket at.0.may.live in
-    record { ticket = at.0.may.ticket; live = at.0.may.live; chosen = chosen; fit = chosen_fits i before at.1 at.0.may.ticket chosen };
+      let at = allowed_at i later before past (Started d paths) is legal in
+      let chosen = chosen_in before (λ t. d == t.drv) at.0.may.ticket at.0.may.live in
+      record { ticket = at.0.may.ticket; live = at.0.may.live; chosen = chosen; fit = chosen_fits i before at.1 at.0.may.ticket chosen };
 }
 
 -- ---- least-loaded choice
@@ -130,6 +128,6 @@ pub choices_are_best : (i : Premises) (past : List Entry) → IsLegal i past →
 choices_are_best i past legal = record {
   best = λ later before d p s is. (allowed_at i later before past (Chosen d (suc p) s) is legal).0.may.place.1;
   home = λ later before d s is.
-    let decided = (allowed_at i later before past (Chosen d 0 s) is legal).0.may.place in
-    (decided, (local_free i before d decided).slot);
+      let decided = (allowed_at i later before past (Chosen d 0 s) is legal).0.may.place in
+      (decided, (local_free i before d decided).slot);
 }

@@ -1,7 +1,6 @@
 -- What a dispatch holds stays so when an allowed entry is recorded.
-use Rattle.std.proofs.Common.{◌≡◌, ℕ, zero, suc, ◌+◌, ◌<◌, ◌≤◌, Bool, true, false, not, ◌==◌, ◌&&◌, ◌||◌, cond, if◌then◌else◌, List, [], ◌∷◌, ◌++◌, length, reverse, refl, sym, ap, ◌∙◌, subst, arith, inl, inr, Option, Some, None}
+use Rattle.std.proofs.Common.{◌≡◌, ℕ, ◌+◌, ◌<◌, ◌≤◌, Bool, true, false, not, ◌==◌, ◌||◌, cond, if◌then◌else◌, List, [], ◌∷◌, ◌++◌, length, reverse, refl, sym, ◌∙◌, subst, arith, Some}
 use Rattle.std.proofs.lemmas.Grind.{common_steps}
-use Rattle.std.proofs.lemmas.Bool.{cases_Bool}
 use Rattle.std.specs.List.{list_any, filter, find}
 use Rattle.nd_ledger.specs.declared.dispatch.Dispatch.TheInside.{Inside}
 use Rattle.nd_ledger.specs.declared.entry.Entry.{Entry}
@@ -9,7 +8,7 @@ use Rattle.nd_ledger.specs.declared.entry.Entry.TheVariants.{Chosen, NoBuilder, 
 use Rattle.nd_ledger.specs.declared.entry.Ticket.{Ticket}
 use Rattle.nd_ledger.specs.declared.entry.Why.{Why}
 use Rattle.nd_ledger.specs.Books.{Recorded}
-use Rattle.nd_ledger.specs.Premises.{Premises, premises_of}
+use Rattle.nd_ledger.specs.Premises.{premises_of}
 use Rattle.nd_ledger.specs.History.{live, without, load, is_leased, lease_of, is_started, has_stop}
 use Rattle.nd_ledger.specs.Legal.{IsLegal, IsAllowed}
 use Rattle.nd_ledger.specs.Fitting.{FitTogether}

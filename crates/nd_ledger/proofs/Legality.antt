@@ -1,14 +1,14 @@
 -- What holds of every legal history: of leased, built and failed derivations, and of loads.
-use Rattle.std.proofs.Common.{◌≡◌, ◌⊎◌, ℕ, zero, suc, ◌+◌, ◌<◌, ◌≤◌, Bool, true, false, not, ◌==◌, ◌&&◌, ◌||◌, eqb, cond, if◌then◌else◌, List, [], ◌∷◌, ◌++◌, length, Contains, count_by, refl, sym, ap, ◌∙◌, subst, arith, inl, inr, Option, Some, None}
+use Rattle.std.proofs.Common.{◌≡◌, ◌⊎◌, ℕ, ◌<◌, Bool, true, false, not, ◌==◌, ◌&&◌, ◌||◌, List, [], ◌∷◌, ◌++◌, refl, sym, ◌∙◌, subst, arith, inl, inr}
 use Rattle.std.proofs.lemmas.Grind.{common_steps}
-use Rattle.std.proofs.lemmas.Bool.{cases_eq, ne_eqb, cases_Bool}
-use Rattle.std.specs.List.{list_any, filter, find}
+use Rattle.std.proofs.lemmas.Bool.{cases_eq, ne_eqb}
+use Rattle.std.specs.List.{list_any}
 use Rattle.nd_ledger.specs.declared.entry.Entry.{Entry}
 use Rattle.nd_ledger.specs.declared.entry.Entry.TheVariants.{Chosen, NoBuilder, Started, Down, Built, Failed, Stop, Drain, Enable}
 use Rattle.nd_ledger.specs.declared.entry.Ticket.{Ticket}
 use Rattle.nd_ledger.specs.Premises.{Premises}
-use Rattle.nd_ledger.specs.History.{live, without, load, is_on, is_taken, is_leased, is_built, is_failed, builds, fails, lease_of}
-use Rattle.nd_ledger.specs.Standing.{drvs_in, needed_by, AreInputsBuilt, IsReady}
+use Rattle.nd_ledger.specs.History.{live, without, is_leased, is_built, is_failed, builds, fails}
+use Rattle.nd_ledger.specs.Standing.{drvs_in, AreInputsBuilt, IsReady}
 use Rattle.nd_ledger.specs.Legal.{IsLegal, IsAllowed}
 
 -- a lease that was taken out is gone, and the others stay
@@ -43,7 +43,7 @@ none_of a b h k = cc
 apart : (d e : ℕ) (past : List Entry) → is_leased d past ≡ true → is_leased e past ≡ false → (d == e) ≡ false
 apart d e past leased free =
     elim (cases_eq d e) [
-      inl same ↦ let lease : is_leased e past ≡ true = subst (λ (x : ℕ). is_leased x past ≡ true) same leased in cc
+      | inl same ↦ let lease : is_leased e past ≡ true = subst (λ (x : ℕ). is_leased x past ≡ true) same leased in cc
       | inr other ↦ ne_eqb d e other
     ]
 
@@ -71,7 +71,7 @@ pub leased_fresh : (i : Premises) (past : List Entry) → IsLegal i past → (d 
 leased_fresh i [] legal d leased = cc
 leased_fresh i (Chosen e m s ∷ past) legal d leased =
     elim (cases_eq d e) [
-      inl same ↦ fresh_on i past d (Chosen e m s) refl refl (subst (IsFresh i past) (sym same) (ready_fresh i past e legal.0.may.ready))
+      | inl same ↦ fresh_on i past d (Chosen e m s) refl refl (subst (IsFresh i past) (sym same) (ready_fresh i past e legal.0.may.ready))
       | inr other ↦ fresh_on i past d (Chosen e m s) refl refl (leased_fresh i past legal.1 d (rest_true (d == e) (is_leased d past) (ne_eqb d e other) leased))
     ]
 leased_fresh i (NoBuilder e ∷ past) legal d leased =
@@ -105,7 +105,7 @@ settled_on i past d e f settled = record {
 pub built_apart : (d e : ℕ) (past : List Entry) → is_built d past ≡ true → is_built e past ≡ false → (d == e) ≡ false
 built_apart d e past built unbuilt =
     elim (cases_eq d e) [
-      inl same ↦ let too : is_built e past ≡ true = subst (λ (x : ℕ). is_built x past ≡ true) same built in cc
+      | inl same ↦ let too : is_built e past ≡ true = subst (λ (x : ℕ). is_built x past ≡ true) same built in cc
       | inr other ↦ ne_eqb d e other
     ]
 
@@ -114,10 +114,10 @@ pub built_settled : (i : Premises) (past : List Entry) → IsLegal i past → (d
 built_settled i [] legal d built = cc
 built_settled i (Built e refs ∷ past) legal d built =
     elim (cases_eq d e) [
-      inl same ↦
-      let fresh = leased_fresh i past legal.1 e legal.0.may.live in
-      let settled : IsSettled i past e = record { unfailed = fresh.unfailed; inputs = fresh.inputs } in
-      settled_on i past d (Built e refs) refl (subst (IsSettled i past) (sym same) settled)
+      | inl same ↦
+          let fresh = leased_fresh i past legal.1 e legal.0.may.live in
+          let settled : IsSettled i past e = record { unfailed = fresh.unfailed; inputs = fresh.inputs } in
+          settled_on i past d (Built e refs) refl (subst (IsSettled i past) (sym same) settled)
       | inr other ↦ settled_on i past d (Built e refs) refl (built_settled i past legal.1 d (rest_true (d == e) (is_built d past) (ne_eqb d e other) built))
     ]
 built_settled i (Chosen e m s ∷ past) legal d built = settled_on i past d (Chosen e m s) refl (built_settled i past legal.1 d built)
@@ -136,7 +136,7 @@ pub leased_ranged : (i : Premises) (past : List Entry) → IsLegal i past → (d
 leased_ranged i [] legal d leased = cc
 leased_ranged i (Chosen e m s ∷ past) legal d leased =
     elim (cases_eq d e) [
-      inl same ↦ subst (λ (x : ℕ). x < drvs_in i) (sym same) legal.0.ranged.0
+      | inl same ↦ subst (λ (x : ℕ). x < drvs_in i) (sym same) legal.0.ranged.0
       | inr other ↦ leased_ranged i past legal.1 d (rest_true (d == e) (is_leased d past) (ne_eqb d e other) leased)
     ]
 leased_ranged i (NoBuilder e ∷ past) legal d leased = leased_ranged i past legal.1 d leased

@@ -1,18 +1,18 @@
 -- A board follows a history: after one more entry it says of the longer history what it said of the one before.
-use Rattle.std.proofs.Common.{◌≡◌, ◌⊎◌, ℕ, ◌+◌, ◌<◌, Bool, true, false, not, ◌==◌, ◌&&◌, ◌||◌, eqb, if◌then◌else◌, List, [], ◌∷◌, length, get_or, set, refl, sym, ap, ◌∙◌, subst, arith, inl, inr, eq-eqb, get_or-set_other, get_or-set_same, length-set}
-use Rattle.std.proofs.lemmas.Bool.{cases_eq, ne_eqb, cases_Bool}
+use Rattle.std.proofs.Common.{◌≡◌, ℕ, ◌<◌, Bool, true, false, not, ◌==◌, ◌&&◌, ◌||◌, if◌then◌else◌, List, ◌∷◌, length, get_or, set, refl, sym, ap, ◌∙◌, subst, arith, inl, inr, eq-eqb, get_or-set_other, get_or-set_same, length-set}
+use Rattle.std.proofs.lemmas.Bool.{cases_eq, ne_eqb}
 use Rattle.nd_failure.specs.declared.status.Mark.{Mark}
 use Rattle.nd_failure.specs.declared.status.Mark.TheVariants.{Free, Leased, Built as BuiltMark, Failed as FailedMark}
-use Rattle.nd_failure.specs.Progress.{Progress, mark_of}
+use Rattle.nd_failure.specs.Progress.{Progress}
 use Rattle.nd_ledger.specs.declared.entry.Entry.{Entry}
 use Rattle.nd_ledger.specs.declared.entry.Why.{Why}
-use Rattle.nd_ledger.specs.declared.entry.Entry.TheVariants.{Chosen, NoBuilder, Started, Down, Built, Failed, Stop, Drain, Enable}
+use Rattle.nd_ledger.specs.declared.entry.Entry.TheVariants.{Chosen, NoBuilder, Down, Failed, Stop}
 use Rattle.nd_ledger.specs.Premises.{Premises}
 use Rattle.nd_ledger.specs.History.{live, is_built, is_failed, is_leased, has_stop}
 use Rattle.nd_ledger.specs.Standing.{drvs_in, IsReady}
-use Rattle.nd_ledger.specs.Legal.{IsLegal, IsAllowed}
+use Rattle.nd_ledger.specs.Legal.{IsLegal}
 use Rattle.nd_ledger.specs.Marks.{mark_in, AreMarked}
-use Rattle.nd_ledger.proofs.Legality.{gone, leased_fresh, built_settled}
+use Rattle.nd_ledger.proofs.Legality.{gone, leased_fresh}
 
 -- one mark was set
 pub marked_set : (i : Premises) (past : List Entry) (p : Progress) (e : Entry) (d : ℕ) (mark : Mark) → AreMarked i past p → d < drvs_in i → has_stop (e ∷ past) ≡ has_stop past → mark_in (e ∷ past) d ≡ mark → ((k : ℕ) → (k ≡ d → ⊥) → mark_in (e ∷ past) k ≡ mark_in past k) → AreMarked i (e ∷ past) (record p { marks = set p.marks d mark })
@@ -22,13 +22,13 @@ marked_set i past p e d mark was lt stop here others = record {
   stop = was.stop ∙ sym stop;
   sized = length-set p.marks d mark ∙ was.sized;
   marks = λ k in_row.
-    elim (cases_eq k d) [
-      inl same ↦
-      let room : d < length p.marks = omega (arith, was.sized) in
-      let P : ℕ → Type 0 = λ x. get_or (set p.marks d mark) x Free ≡ mark_in (e ∷ past) x in
-      subst P (sym same) (get_or-set_same p.marks d mark Free room ∙ sym here)
-      | inr other ↦ get_or-set_other p.marks d k mark Free other ∙ was.marks k in_row ∙ sym (others k other)
-    ];
+      elim (cases_eq k d) [
+        | inl same ↦
+            let room : d < length p.marks = omega (arith, was.sized) in
+            let P : ℕ → Type 0 = λ x. get_or (set p.marks d mark) x Free ≡ mark_in (e ∷ past) x in
+            subst P (sym same) (get_or-set_same p.marks d mark Free room ∙ sym here)
+        | inr other ↦ get_or-set_other p.marks d k mark Free other ∙ was.marks k in_row ∙ sym (others k other)
+      ];
 }
 
 -- no mark changes
@@ -94,5 +94,5 @@ marked_failed i past p d why was legal leased lt =
     marked_set i past p (Failed d why) d FailedMark was lt refl
     (failed_now (is_built d past) (d == d) (is_failed d past) (is_leased d (Failed d why ∷ past)) fresh.unbuilt (eq-eqb d d refl))
     (λ k other.
-      ap (λ (b : Bool). of_flags (is_built k past) (b || is_failed k past) (is_leased k (Failed d why ∷ past))) (ne_eqb k d other)
-      ∙ ap (λ (b : Bool). of_flags (is_built k past) (is_failed k past) b) (kept_lease k d past other))
+    ap (λ (b : Bool). of_flags (is_built k past) (b || is_failed k past) (is_leased k (Failed d why ∷ past))) (ne_eqb k d other)
+    ∙ ap (λ (b : Bool). of_flags (is_built k past) (is_failed k past) b) (kept_lease k d past other))

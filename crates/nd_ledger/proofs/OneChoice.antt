@@ -1,23 +1,22 @@
 -- There is one best machine, one reply and one decision.
-use Rattle.std.proofs.Common.{◌≡◌, ◌⊎◌, ◌≢◌, ℕ, zero, suc, ◌+◌, ◌*◌, ◌<◌, ◌≤◌, ◌↔◌, Bool, true, false, ◌&&◌, if◌then◌else◌, cond, List, [], ◌∷◌, length, map, get_or, refl, sym, ap, ◌∙◌, subst, arith, inl, inr, Option, Some, None, add-one, slice_get}
+use Rattle.std.proofs.Common.{◌≡◌, ◌⊎◌, ℕ, ◌+◌, ◌*◌, ◌<◌, ◌↔◌, Bool, true, false, ◌&&◌, if◌then◌else◌, List, [], length, refl, sym, ap, ◌∙◌, subst, arith, inl, inr, Some, slice_get}
 use Rattle.std.specs.Bool.{MatchBool, IsTrue}
-use Rattle.std.proofs.lemmas.Bool.{cases_eq, cases_Bool}
+use Rattle.std.proofs.lemmas.Bool.{cases_eq}
 use Rattle.std.proofs.lemmas.List.FromFn.{get_or-map-range_with_len}
-use Rattle.std.specs.List.{range_with_len}
 use Rattle.nd_machines.specs.Builders.{Builder}
 use Rattle.nd_eligible.specs.declared.need.Need.{Need}
 use Rattle.nd_eligible.specs.Eligibility.{IsEligibleAt}
-use Rattle.nd_choose.specs.Best.{jobs_at, load_at, speed_at, ComesBefore, IsBest, IsCandidate}
-use Rattle.nd_hook.specs.Replies.{IsReply, IsNoneFree, IsOneUp}
+use Rattle.nd_choose.specs.Best.{jobs_at, load_at, speed_at, IsBest}
+use Rattle.nd_hook.specs.Replies.{IsReply}
 use Rattle.nd_hook.specs.Decisions.{IsDecision, decision_after, decision_at_home}
 use Rattle.nd_hook.specs.declared.kinds.Reply.{Reply}
 use Rattle.nd_hook.specs.declared.kinds.Reply.TheVariants.{Accept, Postpone, Decline, DeclinePermanently}
 use Rattle.nd_hook.specs.declared.kinds.Decision.{Decision}
-use Rattle.nd_hook.specs.declared.kinds.Decision.TheVariants.{Local, Remote, Wait, NoBuilder}
+use Rattle.nd_hook.specs.declared.kinds.Decision.TheVariants.{Local, Remote, Wait}
 use Rattle.nd_ledger.specs.declared.entry.Entry.{Entry}
 use Rattle.nd_ledger.specs.Premises.{Premises}
 use Rattle.nd_ledger.specs.History.{load}
-use Rattle.nd_ledger.specs.Choices.{machines_in, jobs_of, loads_of, ups_of, IsLocal, IsLocalFree, HasDecision, IsRemote, IsBestFor}
+use Rattle.nd_ledger.specs.Choices.{loads_of, ups_of, IsLocal, IsLocalFree, HasDecision, IsBestFor}
 
 no_two : (a b s t p q : ℕ) → ((a < b) ⊎ ((a ≡ b) × (t < s))) ⊎ ((a ≡ b) × (s ≡ t) × (p < q)) → ((b < a) ⊎ ((b ≡ a) × (s < t))) ⊎ ((b ≡ a) × (t ≡ s) × (q < p)) → ⊥
 no_two a b s t p q (inl (inl x)) (inl (inl y)) = omega arith
@@ -34,11 +33,11 @@ no_two a b s t p q (inr x) (inr y) = omega arith
 pub best_once : (machines : List Builder) (loads : List ℕ) (ups : List Bool) (M : ℕ → Type 0) (p q : ℕ) → IsBest machines loads ups M p → IsBest machines loads ups M q → p ≡ q
 best_once machines loads ups M p q one other =
     elim (cases_eq p q) [
-      inl same ↦ same
+      | inl same ↦ same
       | inr apart ↦
-      absurd (no_two (load_at loads p * speed_at machines q) (load_at loads q * speed_at machines p) (speed_at machines p) (speed_at machines q) p q
-      (one.first q other.candidate (λ e. apart (sym e)))
-      (other.first p one.candidate apart))
+          absurd (no_two (load_at loads p * speed_at machines q) (load_at loads q * speed_at machines p) (speed_at machines p) (speed_at machines q) p q
+          (one.first q other.candidate (λ e. apart (sym e)))
+          (other.first p one.candidate apart))
     ]
 
 -- no machine of an empty list is eligible

@@ -1,24 +1,24 @@
 -- What machines hold over a legal history: the local one each closure that is asked for, a builder what its builds need.
-use Rattle.std.proofs.Common.{◌≡◌, ◌⊎◌, ℕ, zero, suc, ◌<◌, Bool, true, false, ◌||◌, ◌&&◌, ◌==◌, if◌then◌else◌, List, [], ◌∷◌, ◌++◌, refl, sym, ap, subst, ◌∙◌, arith, inl, inr, Option, Some, None, eq-eqb}
+use Rattle.std.proofs.Common.{◌≡◌, ◌⊎◌, ℕ, zero, suc, Bool, true, false, ◌||◌, ◌&&◌, ◌==◌, if◌then◌else◌, List, [], ◌∷◌, ◌++◌, refl, ap, subst, ◌∙◌, inl, inr, Some, eq-eqb}
 use Rattle.std.specs.Prelude.{◌↔◌}
 use Rattle.std.specs.List.{Contains, list_any, find, zip}
 use Rattle.std.proofs.lemmas.Bool.{cases_eq, ne_eqb, cases_Bool}
-use Rattle.std.proofs.lemmas.List.Elements.{Contains-append_left, Contains-append_right, Contains-append_cases}
+use Rattle.std.proofs.lemmas.List.Elements.{Contains-append_left, Contains-append_right}
 use Rattle.nd_closure.specs.Tables.{is_listed, refs_of}
 use Rattle.nd_ledger.specs.declared.entry.Entry.{Entry}
-use Rattle.nd_ledger.specs.declared.entry.Entry.TheVariants.{Chosen, NoBuilder, Started, Down, Built, Failed, Stop, Drain, Enable}
+use Rattle.nd_ledger.specs.declared.entry.Entry.TheVariants.{Started, Built}
 use Rattle.nd_ledger.specs.declared.entry.Ticket.{Ticket}
 use Rattle.nd_ledger.specs.Premises.{Premises}
-use Rattle.nd_ledger.specs.History.{live, lease_of, is_leased, is_built, builds}
+use Rattle.nd_ledger.specs.History.{live, lease_of, is_leased, is_built}
 use Rattle.nd_ledger.specs.Standing.{AreInputsBuilt}
 use Rattle.nd_ledger.specs.Legal.{IsLegal}
-use Rattle.nd_ledger.specs.References.{IsAlong, outputs_of, IsOutputOf, IsSource, IsGiven, reports, Refers, IsNeededBy, IsInClosure, IsBuiltPath, is_leased_on, brought, IsHeld}
+use Rattle.nd_ledger.specs.References.{outputs_of, IsOutputOf, IsSource, IsGiven, reports, IsNeededBy, IsInClosure, IsBuiltPath, is_leased_on, brought, IsHeld}
 use Rattle.nd_ledger.specs.References.IsAlong.{seed, step}
 use Rattle.nd_ledger.specs.References.Refers.{listed, reported}
 use Rattle.nd_ledger.specs.Closing.{OutputsAlone, StartsAreProvisioned}
 use Rattle.nd_ledger.proofs.Legality.{leased_fresh}
-use Rattle.nd_ledger.proofs.Reported.{or_true, rest_true, zip_refs, refs_first, refs_second, listed_built, built_on, just_built}
-use Rattle.nd_ledger.proofs.Closing.{along_more, along_within, along_known, IsKnown, refers_alike, named_built, reported_known, referred_known, refers_before, refers_after, closing, inputs_later}
+use Rattle.nd_ledger.proofs.Reported.{or_true, rest_true, zip_refs, refs_first, refs_second, built_on, just_built}
+use Rattle.nd_ledger.proofs.Closing.{along_more, along_within, along_known, IsKnown, named_built, reported_known, referred_known, refers_after, closing, inputs_later}
 
 -- ---- the local machine
 
@@ -65,11 +65,11 @@ new_known i past d refs legal p q h =
     elim (cases_Bool (is_listed (reports i past) p)) [
       | inl before ↦ inl (known_held i past q (reported_known i past legal.1 p q (subst (λ (rs : List (List ℕ)). Contains rs q) (refs_first (reports i past) (zip (outputs_of i d) refs) p before) h)))
       | inr new ↦
-        let among = zip_refs (outputs_of i d) refs p q (subst (λ (rs : List (List ℕ)). Contains rs q) (refs_second (reports i past) (zip (outputs_of i d) refs) p new) h) in
-        elim (legal.0.may.right.within among.list q among.listed among.there) [
-          | inl close ↦ inl (closure_held i past d (leased_fresh i past legal.1 d legal.0.may.live).inputs q close)
-          | inr out ↦ inr out
-        ]
+          let among = zip_refs (outputs_of i d) refs p q (subst (λ (rs : List (List ℕ)). Contains rs q) (refs_second (reports i past) (zip (outputs_of i d) refs) p new) h) in
+          elim (legal.0.may.right.within among.list q among.listed among.there) [
+            | inl close ↦ inl (closure_held i past d (leased_fresh i past legal.1 d legal.0.may.live).inputs q close)
+            | inr out ↦ inr out
+          ]
     ]
 
 -- an output of what is built, one more built: the newest one's, or known before
@@ -166,12 +166,15 @@ provisioned : (i : Premises) (later before : List Entry) (d : ℕ) (paths : List
 provisioned i later before d paths legal =
     let now : IsLegal i (Started d paths ∷ before) = legal_before i later (Started d paths ∷ before) legal in
     let start = now.0.may in
-    let inputs = (leased_fresh i before now.1 d (leased_by d before start.ticket start.live)).inputs in
-    (start.ticket, start.live, λ p h.
-      let then_ : IsInClosure i (Started d paths ∷ before) d p = (closing i later (Started d paths ∷ before) d legal (inputs_later i (Started d paths ∷ []) before d inputs) p).0 h in
-      let close : IsInClosure i before d p = (closing i (Started d paths ∷ []) before d now inputs p).0 then_ in
-      held_later i later (Started d paths ∷ before) legal start.ticket.machine p
-      (started_holds i before d start.ticket.machine paths (leased_there d before start.ticket start.live) p (start.right.covered p close) inputs now.1 close))
+    let inputs = (leased_fresh i before now.1 d (leased_by d before start.ticket start.live)).inputs in (
+      start.ticket,
+      start.live,
+      λ p h.
+          let then_ : IsInClosure i (Started d paths ∷ before) d p = (closing i later (Started d paths ∷ before) d legal (inputs_later i (Started d paths ∷ []) before d inputs) p).0 h in
+          let close : IsInClosure i before d p = (closing i (Started d paths ∷ []) before d now inputs p).0 then_ in
+          held_later i later (Started d paths ∷ before) legal start.ticket.machine p
+          (started_holds i before d start.ticket.machine paths (leased_there d before start.ticket start.live) p (start.right.covered p close) inputs now.1 close),
+    )
 
 pub starts_are_provisioned : (i : Premises) (past : List Entry) → IsLegal i past → StartsAreProvisioned i past
 starts_are_provisioned i past legal = record {

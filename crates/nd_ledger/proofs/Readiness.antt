@@ -1,16 +1,15 @@
 -- A derivation is ready exactly where nothing has been said of it, nothing stops it and its inputs are built: then nothing
 -- below it has failed.
-use Rattle.std.proofs.Common.{◌≡◌, ◌⊎◌, ℕ, zero, suc, ◌+◌, ◌<◌, ◌≤◌, Bool, true, false, List, [], ◌∷◌, length, Contains, get_or, map, refl, sym, ap, ◌∙◌, subst, arith, inl, inr}
-use Rattle.std.proofs.lemmas.Grind.{common_steps}
+use Rattle.std.proofs.Common.{◌≡◌, ℕ, zero, suc, ◌<◌, ◌≤◌, true, false, List, length, Contains, get_or, sym, ap, ◌∙◌, subst, arith, inl, inr}
 use Rattle.std.proofs.lemmas.List.{get_or-map, length-map, get_or_default}
 use Rattle.std.proofs.lemmas.Bool.{false_from_ne_true}
 use Rattle.nd_graph.specs.declared.graph.Input.{Input}
 use Rattle.nd_graph.specs.Graphs.{nodes_of, rows_of, IsSound}
-use Rattle.nd_graph.specs.Walks.{inputs_of, Walk}
+use Rattle.nd_graph.specs.Walks.{Walk}
 use Rattle.nd_ledger.specs.declared.entry.Entry.{Entry}
 use Rattle.nd_ledger.specs.Premises.{Premises}
 use Rattle.nd_ledger.specs.History.{is_built, is_failed, is_leased, is_stopped}
-use Rattle.nd_ledger.specs.Standing.{drvs_in, needed_by, AreInputsBuilt, HasFailedBelow, IsDoomed, IsReady}
+use Rattle.nd_ledger.specs.Standing.{drvs_in, needed_by, AreInputsBuilt, HasFailedBelow, IsReady}
 use Rattle.nd_ledger.specs.Legal.{IsLegal}
 use Rattle.nd_ledger.proofs.Legality.{built_settled}
 
@@ -69,10 +68,10 @@ unbuilt_input i past d row k x is lt at unbuilt are =
 pub all_built : (i : Premises) (past : List Entry) (d : ℕ) (row : List Input) (n : ℕ) → nodes_of row ≡ needed_by i d → length row ≤ n → ((k : ℕ) → k < n → is_built (get_or (nodes_of row) k 0) past ≡ true) → AreInputsBuilt i past d
 all_built i past d row n is le built = record {
   built = λ c h.
-    let P : List ℕ → Type 0 = λ ns. Contains ns c in
-    let here : Contains (nodes_of row) c = subst P (sym is) h in
-    let long = length-map row (λ (i : Input). i.node) in
-    let same : get_or (nodes_of row) here.0 0 ≡ c = get_or_default (nodes_of row) here.0 0 c here.1 ∙ here.2 in
-    let Q : ℕ → Type 0 = λ x. is_built x past ≡ true in
-    subst Q same (built here.0 (omega (arith, here.1)));
+      let P : List ℕ → Type 0 = λ ns. Contains ns c in
+      let here : Contains (nodes_of row) c = subst P (sym is) h in
+      let long = length-map row (λ (i : Input). i.node) in
+      let same : get_or (nodes_of row) here.0 0 ≡ c = get_or_default (nodes_of row) here.0 0 c here.1 ∙ here.2 in
+      let Q : ℕ → Type 0 = λ x. is_built x past ≡ true in
+      subst Q same (built here.0 (omega (arith, here.1)));
 }

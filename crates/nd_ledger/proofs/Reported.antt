@@ -1,6 +1,6 @@
 -- Tables of paths with their references, and what builds reported.
-use Rattle.std.proofs.Common.{◌≡◌, ◌⊎◌, ℕ, ◌<◌, Bool, true, false, ◌||◌, ◌==◌, if◌then◌else◌, List, [], ◌∷◌, ◌++◌, length, eq-eqb, refl, sym, ap, subst, ◌∙◌, arith, inl, inr}
-use Rattle.std.specs.List.{Contains, list_any, zip}
+use Rattle.std.proofs.Common.{◌≡◌, ◌⊎◌, ℕ, Bool, true, false, ◌||◌, ◌==◌, if◌then◌else◌, List, [], ◌∷◌, ◌++◌, length, eq-eqb, refl, sym, ap, subst, ◌∙◌, arith, inl, inr}
+use Rattle.std.specs.List.{Contains, zip}
 use Rattle.std.proofs.lemmas.Bool.{cases_eq, ne_eqb}
 use Rattle.std.proofs.lemmas.List.Folds.{list_any-append}
 use Rattle.std.proofs.lemmas.List.Elements.{Contains-append_left, Contains-append_right, Contains-append_cases, Contains-push, Contains-push_cases}
@@ -10,7 +10,7 @@ use Rattle.nd_closure.specs.Sets.{is_held}
 use Rattle.nd_closure.specs.Tables.{is_listed, refs_of}
 use Rattle.nd_closure.proofs.Members.{member_by_test}
 use Rattle.nd_ledger.specs.declared.entry.Entry.{Entry}
-use Rattle.nd_ledger.specs.declared.entry.Entry.TheVariants.{Chosen, NoBuilder, Started, Down, Built, Failed, Stop, Drain, Enable}
+use Rattle.nd_ledger.specs.declared.entry.Entry.TheVariants.{Built}
 use Rattle.nd_ledger.specs.Premises.{Premises}
 use Rattle.nd_ledger.specs.History.{is_built, builds}
 use Rattle.nd_ledger.specs.Legal.{IsLegal}
@@ -119,9 +119,9 @@ built_listed i (Built e refs ∷ past) legal d p built out =
     listed_both (reports i past) (zip (outputs_of i e) refs) p
     ∙ elim (cases_eq d e) [
       | inl same ↦ or_true (is_listed (reports i past) p) (is_listed (zip (outputs_of i e) refs) p)
-        (zip_lists (outputs_of i e) refs p legal.0.may.right.sized ∙ (member_by_test (outputs_of i e) p).1 (subst (λ (x : ℕ). Contains (outputs_of i x) p) same out))
+          (zip_lists (outputs_of i e) refs p legal.0.may.right.sized ∙ (member_by_test (outputs_of i e) p).1 (subst (λ (x : ℕ). Contains (outputs_of i x) p) same out))
       | inr other ↦ ap (λ (b : Bool). b || is_listed (zip (outputs_of i e) refs) p)
-        (built_listed i past legal.1 d p (rest_true (d == e) (is_built d past) (ne_eqb d e other) built) out)
+          (built_listed i past legal.1 d p (rest_true (d == e) (is_built d past) (ne_eqb d e other) built) out)
     ]
 built_listed i (e ∷ past) legal d p built out = built_listed i past legal.1 d p built out
 

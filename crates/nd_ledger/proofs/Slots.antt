@@ -1,8 +1,8 @@
 -- What holds of the leases of every legal history: one for a derivation, one for a slot, and no more on a machine than it
 -- may build at once.
-use Rattle.std.proofs.Common.{◌≡◌, ◌⊎◌, ℕ, zero, suc, ◌+◌, ◌<◌, ◌≤◌, Bool, true, false, not, ◌==◌, ◌&&◌, ◌||◌, eqb, cond, List, [], ◌∷◌, length, map, count_by, refl, sym, ap, ◌∙◌, subst, arith, inl, inr, Option, Some, None, add-one, eq-eqb}
+use Rattle.std.proofs.Common.{◌≡◌, ℕ, zero, suc, ◌+◌, ◌<◌, ◌≤◌, Bool, true, false, not, ◌==◌, ◌&&◌, eqb, cond, List, [], ◌∷◌, length, map, count_by, refl, sym, ◌∙◌, subst, arith, inl, inr, add-one}
 use Rattle.std.proofs.lemmas.Grind.{common_steps}
-use Rattle.std.proofs.lemmas.Bool.{cases_eq, ne_eqb, cases_Bool}
+use Rattle.std.proofs.lemmas.Bool.{cases_eq, ne_eqb}
 use Rattle.std.proofs.lemmas.List.{length-map}
 use Rattle.std.proofs.lemmas.List.Sums.{length-filter}
 use Rattle.std.proofs.lemmas.Map.Steps.{le-length_from_below}
@@ -11,9 +11,9 @@ use Rattle.nd_ledger.specs.declared.entry.Entry.{Entry}
 use Rattle.nd_ledger.specs.declared.entry.Entry.TheVariants.{Chosen, NoBuilder, Started, Down, Built, Failed, Stop, Drain, Enable}
 use Rattle.nd_ledger.specs.declared.entry.Ticket.{Ticket}
 use Rattle.nd_ledger.specs.Premises.{Premises}
-use Rattle.nd_ledger.specs.History.{live, without, load, is_on, is_taken, is_leased}
+use Rattle.nd_ledger.specs.History.{live, load, is_on, is_taken, is_leased}
 use Rattle.nd_ledger.specs.Choices.{machines_in, jobs_of}
-use Rattle.nd_ledger.specs.Legal.{IsLegal, MayChoose, IsPlaceFor}
+use Rattle.nd_ledger.specs.Legal.{IsLegal, IsPlaceFor}
 use Rattle.nd_ledger.proofs.OneChoice.{local_free, best_has_room}
 
 -- one more item counts where it passes
@@ -66,11 +66,11 @@ slot_once i (Chosen e n k ∷ past) legal m s =
     rw (count_cons (is_on m s) (record { machine = n; slot = k; drv = e; serial = length past }) (live past))
     (one_more ((m == n) && (s == k)) (count_by (is_on m s) (live past))
     (λ is.
-      let two = both (m == n) (s == k) is in
-      let P : ℕ → Type 0 = λ x. is_taken x k past ≡ false in
-      let Q : ℕ → Type 0 = λ x. is_taken m x past ≡ false in
-      let free = subst Q (sym (same_of s k two.1)) (subst P (sym (same_of m n two.0)) legal.0.may.slot.free) in
-      none_counted (is_on m s) (live past) free)
+    let two = both (m == n) (s == k) is in
+    let P : ℕ → Type 0 = λ x. is_taken x k past ≡ false in
+    let Q : ℕ → Type 0 = λ x. is_taken m x past ≡ false in
+    let free = subst Q (sym (same_of s k two.1)) (subst P (sym (same_of m n two.0)) legal.0.may.slot.free) in
+    none_counted (is_on m s) (live past) free)
     (slot_once i past legal.1 m s))
 slot_once i (Down e ∷ past) legal m s = let less = count_filter (is_on m s) (λ (t : Ticket). not (e == t.drv)) (live past) in let was = slot_once i past legal.1 m s in omega arith
 slot_once i (Built e refs ∷ past) legal m s = let less = count_filter (is_on m s) (λ (t : Ticket). not (e == t.drv)) (live past) in let was = slot_once i past legal.1 m s in omega arith
@@ -97,8 +97,8 @@ load_within i (Chosen e n k ∷ past) legal m =
     rw (count_cons (λ (t : Ticket). m == t.machine) (record { machine = n; slot = k; drv = e; serial = length past }) (live past))
     (within_more (m == n) (load m past) (jobs_of i m)
     (λ is.
-      let P : ℕ → Type 0 = λ x. load x past < jobs_of i x in
-      subst P (sym (same_of m n is)) (place_has_room i past e n legal.0.ranged.1 legal.0.may.place))
+    let P : ℕ → Type 0 = λ x. load x past < jobs_of i x in
+    subst P (sym (same_of m n is)) (place_has_room i past e n legal.0.ranged.1 legal.0.may.place))
     (load_within i past legal.1 m))
 load_within i (Down e ∷ past) legal m = let less = count_filter (λ (t : Ticket). m == t.machine) (λ (t : Ticket). not (e == t.drv)) (live past) in let was = load_within i past legal.1 m in omega arith
 load_within i (Built e refs ∷ past) legal m = let less = count_filter (λ (t : Ticket). m == t.machine) (λ (t : Ticket). not (e == t.drv)) (live past) in let was = load_within i past legal.1 m in omega arith

@@ -1,21 +1,20 @@
 -- When a derivation has a step, and which.
-use Rattle.std.proofs.Common.{◌≡◌, ◌⊎◌, ℕ, zero, suc, ◌+◌, ◌<◌, ◌≤◌, Bool, true, false, not, ◌==◌, ◌||◌, ◌-◌, eq-eqb, List, [], ◌∷◌, ◌++◌, length, length-append, reverse, append-nil, append_assoc, if◌then◌else◌, refl, sym, ap, ◌∙◌, subst, arith, inl, inr, Option, Some, None, add-one, get_or}
+use Rattle.std.proofs.Common.{◌≡◌, ℕ, zero, suc, ◌+◌, ◌<◌, ◌≤◌, Bool, true, false, not, ◌==◌, ◌||◌, ◌-◌, eq-eqb, List, [], ◌∷◌, ◌++◌, length, length-append, reverse, append-nil, append_assoc, if◌then◌else◌, refl, sym, ap, ◌∙◌, subst, arith, inl, inr, Option, Some, add-one, get_or}
 use Rattle.std.proofs.lemmas.Bool.{cases_lt, cases_eq}
 use Rattle.std.specs.Option.{IsSomeAnd, option_map_or}
 use Rattle.std.proofs.lemmas.Option.{slice_get_cases, slice_get_read}
 use Rattle.nd_machines.specs.Builders.{Builder}
 use Rattle.nd_eligible.specs.Eligibility.{Eligible}
 use Rattle.nd_choose.specs.Best.{jobs_at}
-use Rattle.nd_hook.specs.declared.kinds.Decision.{Decision}
 use Rattle.nd_hook.specs.declared.kinds.Decision.TheVariants.{Local, Remote, Wait, NoBuilder as NobodyBuilds}
 use Rattle.nd_ledger.specs.declared.entry.Entry.{Entry}
 use Rattle.nd_ledger.specs.declared.entry.Entry.TheVariants.{Chosen, NoBuilder, Started, Down, Built, Failed, Stop, Drain, Enable}
 use Rattle.nd_ledger.specs.Premises.{Premises}
-use Rattle.nd_ledger.specs.History.{load, is_built, is_failed, is_leased}
+use Rattle.nd_ledger.specs.History.{is_built, is_failed, is_leased}
 use Rattle.nd_ledger.specs.Standing.{drvs_in, IsReady}
-use Rattle.nd_ledger.specs.Choices.{machines_in, jobs_of, HasDecision, IsRemote, IsBestFor}
-use Rattle.nd_ledger.specs.Legal.{IsAllowed, IsPlaceFor, IsLeastFree}
-use Rattle.nd_ledger.specs.Pumping.{step_drv, IsStepOf, IsAtRest, AreAtRest, IsPumpStep, ArePumpSteps, HasPumped, is_open}
+use Rattle.nd_ledger.specs.Choices.{jobs_of, HasDecision, IsBestFor}
+use Rattle.nd_ledger.specs.Legal.{IsPlaceFor, IsLeastFree}
+use Rattle.nd_ledger.specs.Pumping.{IsStepOf, IsAtRest, AreAtRest, IsPumpStep, ArePumpSteps, HasPumped, is_open}
 use Rattle.nd_ledger.proofs.OneChoice.{decision_once, remote_best}
 
 some_drv : (a b : ℕ) → Some a ≡ Some b → a ≡ b
@@ -92,10 +91,10 @@ step_nobody i past d ready decided = record { about = refl; allowed = record { r
 pub place_ranged : (i : Premises) (past : List Entry) (d p : ℕ) → IsBestFor i past d p → p < length i.machines
 place_ranged i past d p best =
     elim (slice_get_cases i.machines p).1 [
-      inl there ↦ there.1
+      | inl there ↦ there.1
       | inr gone ↦
-      let P : Option Builder → Type 0 = λ o. IsSomeAnd o (λ machine. Eligible machine best.need) in
-      absurd (subst P gone.1 best.best.candidate.meant)
+          let P : Option Builder → Type 0 = λ o. IsSomeAnd o (λ machine. Eligible machine best.need) in
+          absurd (subst P gone.1 best.best.candidate.meant)
     ]
 
 -- a machine that was read has so many jobs
@@ -106,10 +105,10 @@ jobs_read machines p m lt is = ap (λ (o : Option Builder). option_map_or (λ ma
 pub rest_from : (i : Premises) (past : List Entry) (n : ℕ) → drvs_in i ≤ n → ((k : ℕ) → k < n → IsAtRest i past k) → AreAtRest i past
 rest_from i past n le rests = record {
   each = λ d.
-    elim (cases_lt d n) [
-      inl lt ↦ rests d lt
-      | inr beyond ↦ rest_unready i past d (λ (r : IsReady i past d). let node = r.node in omega arith)
-    ];
+      elim (cases_lt d n) [
+        | inl lt ↦ rests d lt
+        | inr beyond ↦ rest_unready i past d (λ (r : IsReady i past d). let node = r.node in omega arith)
+      ];
 }
 
 -- ---- lists of steps
@@ -165,15 +164,15 @@ unfolding open_count open_bit
 opens_lt past e zero d lt h was now = omega arith
 opens_lt past e (suc n) d lt h was now =
     elim (cases_eq d n) [
-      inl same ↦
-      let le = opens_le past e n h in
-      let P : ℕ → Type 0 = λ x. is_open past x ≡ true in
-      let Q : ℕ → Type 0 = λ x. is_open (e ∷ past) x ≡ false in
-      rw (subst P same was, subst Q same now) (omega arith)
+      | inl same ↦
+          let le = opens_le past e n h in
+          let P : ℕ → Type 0 = λ x. is_open past x ≡ true in
+          let Q : ℕ → Type 0 = λ x. is_open (e ∷ past) x ≡ false in
+          rw (subst P same was, subst Q same now) (omega arith)
       | inr other ↦
-      let rest = opens_lt past e n d (omega arith) h was now in
-      let bit = bit_le (is_open (e ∷ past) n) (is_open past n) (h n) in
-      omega (arith, bit)
+          let rest = opens_lt past e n d (omega arith) h was now in
+          let bit = bit_le (is_open (e ∷ past) n) (is_open past n) (h n) in
+          omega (arith, bit)
     ]
 
 open_less : (a f b l : Bool) → not (a || (f || (b || l))) ≡ true → not (a || (f || l)) ≡ true

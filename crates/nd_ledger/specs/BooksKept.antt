@@ -1,5 +1,5 @@
 -- What a book holds, and what its tables say.
-use Rattle.std.specs.Prelude.{◌≡◌, ℕ, ◌-◌, List, length, reverse, min, vec_len, vec_capacity}
+use Rattle.std.specs.Prelude.{◌≡◌, ◌-◌, length, reverse, min, vec_len, vec_capacity}
 use Rattle.std.specs.List.{list_any}
 use Rattle.nd_ledger.specs.declared.book.Book.TheInside.{Inside}
 use Rattle.nd_ledger.specs.Books.{Recorded}

@@ -21,4 +21,4 @@ pub record OutputsAlone : Type 0 where
 -- each build that started has its input closure on its machine, from its start on
 pub record StartsAreProvisioned (i : Premises) (past : List Entry) : Type 0 where
   pub each : (later before : List Entry) (d : ℕ) (paths : List (List ℕ)) → past ≡ later ++ Started d paths ∷ before
-    → (ticket : Ticket) × (lease_of d before ≡ Some ticket) × ((p : List ℕ) → IsInClosure i past d p → IsHeld i past ticket.machine p)
+      → (ticket : Ticket) × (lease_of d before ≡ Some ticket) × ((p : List ℕ) → IsInClosure i past d p → IsHeld i past ticket.machine p)

@@ -1,5 +1,5 @@
 -- The inputs and the book of a dispatch fit together.
-use Rattle.std.specs.Prelude.{◌≡◌, ℕ, ◌+◌, ◌≤◌, length, reverse}
+use Rattle.std.specs.Prelude.{◌≡◌, ◌+◌, ◌≤◌, length, reverse}
 use Rattle.nd_graph.specs.Graphs.{IsSound}
 use Rattle.nd_ledger.specs.Books.{Recorded}
 use Rattle.nd_ledger.specs.Premises.{Premises}

@@ -1,6 +1,6 @@
 -- The claims about every history that a dispatch holds. The histories of these definitions stand newest first.
 -- "At its place" an entry comes after those that stand before it: `past ≡ later ++ e ∷ before`.
-use Rattle.std.specs.Prelude.{◌≡◌, ◌==◌, ℕ, zero, suc, ◌<◌, ◌≤◌, true, List, ◌∷◌, ◌++◌, length, count_by, Option, Some, slice_get}
+use Rattle.std.specs.Prelude.{◌≡◌, ◌==◌, ℕ, zero, suc, ◌<◌, ◌≤◌, true, List, ◌∷◌, ◌++◌, length, count_by, Some, slice_get}
 use Rattle.nd_eligible.specs.declared.need.Need.{Need}
 use Rattle.nd_eligible.specs.Eligibility.{IsEligibleAt, LocalOk}
 use Rattle.nd_hook.specs.declared.kinds.Decision.TheVariants.{Local}

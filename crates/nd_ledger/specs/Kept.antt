@@ -1,11 +1,11 @@
 -- What is kept beside the entries, so that questions about leases and machines are answered without a search of the history.
 -- The lists of entries of these definitions stand newest first.
-use Rattle.std.specs.Prelude.{◌≡◌, ℕ, ◌<◌, Bool, true, false, not, ◌==◌, ◌&&◌, if◌then◌else◌, List, [], ◌∷◌, ◌++◌, length, reverse, slice_set, slice_index_or}
+use Rattle.std.specs.Prelude.{◌≡◌, ℕ, ◌<◌, Bool, true, false, ◌==◌, ◌&&◌, if◌then◌else◌, List, [], ◌∷◌, ◌++◌, length, slice_set, slice_index_or}
 use Rattle.std.specs.List.{list_any}
 use Rattle.nd_ledger.specs.declared.entry.Entry.{Entry}
 use Rattle.nd_ledger.specs.declared.entry.Entry.TheVariants.{Chosen, NoBuilder, Started, Down, Built, Failed, Stop, Drain, Enable}
 use Rattle.nd_ledger.specs.declared.entry.Ticket.{Ticket}
-use Rattle.nd_ledger.specs.History.{live, without, is_started, is_up, is_built, is_failed}
+use Rattle.nd_ledger.specs.History.{without, is_started, is_up, is_built, is_failed}
 
 -- the live leases oldest first, after one more entry; `serial` is the number of entries before it
 abbrev pub leases_after : ℕ → Entry → List Ticket → List Ticket

@@ -1,6 +1,6 @@
 -- What a history says of each derivation, as the marks of a board, and statuses over a history.
 -- The histories of these definitions stand newest first.
-use Rattle.std.specs.Prelude.{◌≡◌, ℕ, ◌<◌, true, if◌then◌else◌, List, length}
+use Rattle.std.specs.Prelude.{◌≡◌, ℕ, ◌<◌, if◌then◌else◌, List, length}
 use Rattle.nd_graph.specs.Graphs.{rows_of}
 use Rattle.nd_failure.specs.declared.status.Mark.{Mark}
 use Rattle.nd_failure.specs.declared.status.Mark.TheVariants.{Free, Leased, Built, Failed}

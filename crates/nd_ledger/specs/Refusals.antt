@@ -1,5 +1,5 @@
 -- When calls are refused. The histories of these definitions stand newest first.
-use Rattle.std.specs.Prelude.{◌≡◌, ℕ, true, false, List, Some}
+use Rattle.std.specs.Prelude.{◌≡◌, true, List, Some}
 use Rattle.nd_ledger.specs.declared.refusal.Refusal.{Refusal}
 use Rattle.nd_ledger.specs.declared.refusal.Refusal.TheVariants.{NotLive, AlreadyStarted, NotStarted, Uncovered, Extra, BadReferences, AlreadyStopped, Memory}
 use Rattle.nd_ledger.specs.declared.entry.Entry.{Entry}

@@ -4,14 +4,14 @@ ghost use Rattle.std.specs.Prelude.{◌≡◌, ◌+◌, ◌<◌, ◌≤◌, ◌^
 ghost use Rattle.nd_ledger.specs.History.{live, lease_of, current_of, load, is_taken, is_started, is_up, has_stop, is_leased, is_built, is_failed, is_failure};
 ghost use Rattle.std.specs.List.{list_any};
 
-use std::alloc::{AllocError, Global};
-use std::marker::Model;
-
 use crate::entry::{Entry, Ticket};
 use crate::finding::{count_on, is_any_of, is_any_on, newest_of, newest_on};
 use crate::tables::{
-    follow_built, follow_failed, follow_failure, follow_leases, follow_started, follow_stop, follow_ups,
+    follow_built, follow_failed, follow_failure, follow_leases, follow_started, follow_stop,
+    follow_ups,
 };
+use std::alloc::{AllocError, Global};
+use std::marker::Model;
 
 /// A history with the tables that follow it: the live leases, which derivations were started since
 /// their newest choice, and which machines are up. No question is answered by a search of the

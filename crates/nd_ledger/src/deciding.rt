@@ -8,11 +8,10 @@ ghost use Rattle.nd_ledger.specs.History.{load, is_up};
 ghost use Rattle.nd_ledger.specs.Legal.{IsLeastFree};
 ghost use Rattle.nd_ledger.specs.Choices.{loads_of, ups_of, HasDecision, IsLocal, IsLocalFree, HasReply};
 
-use nd_eligible::{Need, local_ok};
-use nd_hook::{Decision, Reply, decide, reply};
-
 use crate::book::Book;
 use crate::inputs::Inputs;
+use nd_eligible::{Need, local_ok};
+use nd_hook::{Decision, Reply, decide, reply};
 
 /// The most machines that a builders list names.
 pub const MOST_MACHINES: usize = 1024;

@@ -10,22 +10,20 @@ ghost use Rattle.nd_ledger.specs.Pumping.{HasPumped, HasPumpedBy, AreAtRest};
 ghost use Rattle.nd_choose.specs.Best.{jobs_at};
 ghost use Rattle.nd_ledger.specs.Refusals.{IsLive, IsFailRefused, IsDownRefused, IsStopRefused};
 
-use std::alloc::{AllocError, Global};
-use std::marker::Model;
-
-use nd_bytes::Items;
-use nd_closure::RefTable;
-use nd_eligible::Local;
-use nd_graph::Graph;
-use nd_hook::Reply;
-use nd_machines::Machine;
-
 use crate::book::Book;
 use crate::deciding::reply_now;
 use crate::entry::{Entry, Ticket, Why};
 use crate::inputs::{Inputs, Parts};
 use crate::refusal::Refusal;
 use crate::stepping::next_step;
+use nd_bytes::Items;
+use nd_closure::RefTable;
+use nd_eligible::Local;
+use nd_graph::Graph;
+use nd_hook::Reply;
+use nd_machines::Machine;
+use std::alloc::{AllocError, Global};
+use std::marker::Model;
 
 /// Leases and their history: it only ever holds a legal one. Contracts see the five inputs, which
 /// never change, and the entries, oldest first.

@@ -2,10 +2,9 @@
 
 ghost use Rattle.std.specs.Prelude.{◌≡◌, IfOk};
 
-use std::alloc::AllocError;
-
 use nd_closure::Refs;
 use nd_path::PathSet;
+use std::alloc::AllocError;
 
 /// Why a lease ended without its outputs.
 #[derive(Clone, Copy, Debug, PartialEq, Eq)]
@@ -53,11 +52,7 @@ impl Entry {
         ensures { IfOk result (λ e. e ≡ self.now) }
     {
         Ok(match self {
-            Entry::Chosen {
-                drv,
-                machine,
-                slot,
-            } => Entry::Chosen {
+            Entry::Chosen { drv, machine, slot } => Entry::Chosen {
                 drv: *drv,
                 machine: *machine,
                 slot: *slot,

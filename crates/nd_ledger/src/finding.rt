@@ -38,14 +38,19 @@ pub(crate) fn newest_on(leases: &[Ticket], machine: u32, slot: u32) -> Option<Ti
 pub(crate) fn count_on(leases: &[Ticket], machine: u32) -> usize
     ensures { result ≡ count_by (λ t. machine == t.machine) leases.now }
 {
-    leases.iter().filter(|ticket| machine == ticket.machine).count()
+    leases
+        .iter()
+        .filter(|ticket| machine == ticket.machine)
+        .count()
 }
 
 /// Whether one of these leases is on this slot.
 pub(crate) fn is_any_on(leases: &[Ticket], machine: u32, slot: u32) -> bool
     ensures { result ≡ list_any (is_on machine slot) leases.now }
 {
-    leases.iter().any(|ticket| machine == ticket.machine && slot == ticket.slot)
+    leases
+        .iter()
+        .any(|ticket| machine == ticket.machine && slot == ticket.slot)
 }
 
 /// Whether one of these leases is of derivation `drv`.

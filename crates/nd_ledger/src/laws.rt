@@ -7,13 +7,11 @@ ghost use Rattle.nd_ledger.specs.Closing.{ClosureStays, OutputsAlone};
 #[tactic(auto, using(crate::proofs::Closing::closure_stays))]
 pub fn closure_stays()
     ensures { ClosureStays }
-{
-}
+{}
 
 /// A build, on whatever machine, adds its outputs alone to what the local machine holds: what the
 /// build may refer to lies there already.
 #[tactic(auto, using(crate::proofs::Provisions::outputs_alone))]
 pub fn outputs_alone()
     ensures { OutputsAlone }
-{
-}
+{}

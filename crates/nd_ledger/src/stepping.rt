@@ -9,13 +9,12 @@ ghost use Rattle.nd_ledger.specs.Legal.{IsLegal};
 ghost use Rattle.nd_ledger.specs.Pumping.{IsAtRest, AreAtRest, IsStepOf, IsPumpStep};
 ghost use Rattle.nd_ledger.specs.Fitting.{FitTogether};
 
-use nd_hook::Decision;
-
 use crate::book::Book;
 use crate::deciding::{decide_now, free_slot};
 use crate::entry::Entry;
 use crate::inputs::Inputs;
 use crate::standing::is_ready;
+use nd_hook::Decision;
 
 /// The step of derivation `drv`, which is ready, if its decision isn't to wait.
 fn step_of_ready(inputs: &Inputs, book: &Book, drv: u32) -> Option<Entry>
@@ -36,11 +35,7 @@ fn step_of_ready(inputs: &Inputs, book: &Book, drv: u32) -> Option<Entry>
             let jobs = inputs.machines.as_slice()[place].jobs();
             let machine = place as u32 + 1;
             let slot = free_slot(book, machine, jobs);
-            Some(Entry::Chosen {
-                drv,
-                machine,
-                slot,
-            })
+            Some(Entry::Chosen { drv, machine, slot })
         }
         Decision::Wait => None,
         Decision::NoBuilder => Some(Entry::NoBuilder { drv }),

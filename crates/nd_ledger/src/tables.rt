@@ -15,17 +15,15 @@ pub(crate) fn follow_leases(leases: &mut Vec<Ticket>, serial: usize, entry: &Ent
     ensures capacity { vec_capacity leases.new ≡ vec_capacity leases.old }
 {
     match entry {
-        Entry::Chosen {
-            drv,
-            machine,
-            slot,
-        } => leases.push_reserved(Ticket {
+        Entry::Chosen { drv, machine, slot } => leases.push_reserved(Ticket {
             machine: *machine,
             slot: *slot,
             drv: *drv,
             serial,
         }),
-        Entry::Down { drv } | Entry::Built { drv, .. } | Entry::Failed { drv, .. } => take_out(leases, *drv),
+        Entry::Down { drv } | Entry::Built { drv, .. } | Entry::Failed { drv, .. } => take_out(
+            leases, *drv,
+        ),
         _ => {}
     }
 }

@@ -1,6 +1,5 @@
-use Rattle.std.proofs.Common.{◌≡◌, ℕ, ◌<◌, ◌≤◌, reverse, arith, length, refl, sym, ◌∙◌}
+use Rattle.std.proofs.Common.{length, sym}
 use Rattle.std.proofs.lemmas.Option.{slice_get_read}
-use Rattle.nd_ledger.specs.Choices.{HasDecision}
 use Rattle.nd_ledger.proofs.deciding.decide_now.Goals as goal
 
 pub returns : goal.returns

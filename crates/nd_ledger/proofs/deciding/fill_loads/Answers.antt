@@ -1,4 +1,4 @@
-use Rattle.std.proofs.Common.{◌≡◌, ℕ, ◌+◌, ◌<◌, ◌≤◌, length, reverse, arith, map}
+use Rattle.std.proofs.Common.{ℕ, ◌+◌, length, reverse, arith}
 use Rattle.std.proofs.lemmas.List.FromFn.{fill_by_all}
 use Rattle.nd_ledger.specs.History.{load}
 use Rattle.nd_ledger.proofs.deciding.fill_loads.Goals as goal

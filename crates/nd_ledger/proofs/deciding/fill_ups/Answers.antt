@@ -1,4 +1,4 @@
-use Rattle.std.proofs.Common.{◌≡◌, ℕ, ◌+◌, ◌<◌, ◌≤◌, length, reverse, arith, map, false}
+use Rattle.std.proofs.Common.{ℕ, ◌+◌, length, reverse, arith, false}
 use Rattle.std.proofs.lemmas.List.FromFn.{fill_by_all}
 use Rattle.nd_ledger.specs.History.{is_up}
 use Rattle.nd_ledger.proofs.deciding.fill_ups.Goals as goal

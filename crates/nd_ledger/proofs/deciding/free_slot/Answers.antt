@@ -1,4 +1,4 @@
-use Rattle.std.proofs.Common.{◌≡◌, ℕ, ◌<◌, ◌≤◌, reverse, arith, count_by, ◌==◌}
+use Rattle.std.proofs.Common.{◌≤◌, reverse, arith}
 use Rattle.nd_ledger.specs.History.{load}
 use Rattle.nd_ledger.proofs.Slots.{full}
 use Rattle.nd_ledger.proofs.deciding.free_slot.Goals as goal

@@ -1,4 +1,4 @@
-use Rattle.std.proofs.Common.{◌≡◌, ℕ, ◌<◌, ◌≤◌, reverse, arith, length, sym}
+use Rattle.std.proofs.Common.{length, sym}
 use Rattle.std.proofs.lemmas.Option.{slice_get_read}
 use Rattle.nd_ledger.proofs.deciding.reply_now.Goals as goal
 

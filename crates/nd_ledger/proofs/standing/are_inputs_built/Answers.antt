@@ -1,4 +1,4 @@
-use Rattle.std.proofs.Common.{rules, ◌≡◌, ◌≤◌, ℕ, reverse, true, false, refl, arith, sym, below_more}
+use Rattle.std.proofs.Common.{rules, ◌≡◌, reverse, true, false, refl, below_more}
 use Rattle.nd_ledger.specs.Premises.{premises_of}
 use Rattle.nd_ledger.specs.History.{is_built}
 use Rattle.nd_ledger.proofs.Readiness.{row_contains, input_ranged, unbuilt_input, all_built, node_built}
@@ -12,9 +12,10 @@ is_built-requires c =
 
 pub returns-then-not-is_built : goal.returns-then-not-is_built
 returns-then-not-is_built c =
-    let said : is_built c.input-item.result.node (reverse c.args.book.now.entries) ≡ false = search rules in
-    (λ h. let no_way : ⊥ = cc in absurd no_way,
-      λ are. absurd (unbuilt_input (premises_of c.args.inputs.now) (reverse c.args.book.now.entries) c.args.drv c.inputs-row.result.now c.loop-input.input-index c.input-item.result c.inputs-row.ensures.nodes c.loop-input-test.true c.input-item.is said are))
+    let said : is_built c.input-item.result.node (reverse c.args.book.now.entries) ≡ false = search rules in (
+      λ h. let no_way : ⊥ = cc in absurd no_way,
+      λ are. absurd (unbuilt_input (premises_of c.args.inputs.now) (reverse c.args.book.now.entries) c.args.drv c.inputs-row.result.now c.loop-input.input-index c.input-item.result c.inputs-row.ensures.nodes c.loop-input-test.true c.input-item.is said are),
+    )
 
 pub loop-input-preserved : goal.loop-input-preserved
 loop-input-preserved c =
@@ -23,6 +24,7 @@ loop-input-preserved c =
     (node_built (reverse c.args.book.now.entries) c.inputs-row.result.now c.loop-input.input-index c.input-item.result c.loop-input-test.true c.input-item.is said)
 
 pub returns : goal.returns
-returns c =
-    (λ h. all_built (premises_of c.args.inputs.now) (reverse c.args.book.now.entries) c.args.drv c.inputs-row.result.now c.loop-input.input-index c.inputs-row.ensures.nodes c.loop-input-test.false c.loop-input.invariant,
-      λ are. refl)
+returns c = (
+  λ h. all_built (premises_of c.args.inputs.now) (reverse c.args.book.now.entries) c.args.drv c.inputs-row.result.now c.loop-input.input-index c.inputs-row.ensures.nodes c.loop-input-test.false c.loop-input.invariant,
+  λ are. refl,
+)

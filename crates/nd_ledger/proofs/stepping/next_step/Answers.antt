@@ -1,5 +1,4 @@
-use Rattle.std.proofs.Common.{◌≡◌, ◌≤◌, ◌<◌, ℕ, length, reverse, arith, inl, inr, below_more}
-use Rattle.std.proofs.lemmas.Bool.{cases_lt}
+use Rattle.std.proofs.Common.{reverse, arith}
 use Rattle.nd_ledger.specs.Premises.{premises_of}
 use Rattle.nd_ledger.proofs.Steps.{rest_from}
 use Rattle.nd_ledger.proofs.stepping.next_step.Goals as goal

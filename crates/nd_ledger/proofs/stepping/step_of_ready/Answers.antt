@@ -1,4 +1,4 @@
-use Rattle.std.proofs.Common.{rules, ◌≡◌, ℕ, ◌+◌, ◌<◌, ◌≤◌, length, reverse, arith, refl, sym, ◌∙◌, ap, subst, suc}
+use Rattle.std.proofs.Common.{◌+◌, ◌<◌, ◌≤◌, length, reverse, arith, refl}
 use Rattle.nd_choose.specs.Best.{jobs_at}
 use Rattle.nd_ledger.specs.Premises.{premises_of}
 use Rattle.nd_ledger.specs.History.{load}
@@ -10,9 +10,9 @@ use Rattle.nd_ledger.proofs.stepping.step_of_ready.Goals as goal
 
 pub decide_now-requires-clause-fits : goal.decide_now-requires-clause-fits
 decide_now-requires-clause-fits c = λ m.
-  let within : load m (reverse c.args.book.now.entries) ≤ jobs_of (premises_of c.args.inputs.now) m = load_within (premises_of c.args.inputs.now) (reverse c.args.book.now.entries) c.requires.fit.legal m in
-  let small : jobs_of (premises_of c.args.inputs.now) m ≤ 65535 = c.requires.fit.small.jobs m in
-  omega (arith, within, small)
+    let within : load m (reverse c.args.book.now.entries) ≤ jobs_of (premises_of c.args.inputs.now) m = load_within (premises_of c.args.inputs.now) (reverse c.args.book.now.entries) c.requires.fit.legal m in
+    let small : jobs_of (premises_of c.args.inputs.now) m ≤ 65535 = c.requires.fit.small.jobs m in
+    omega (arith, within, small)
 
 pub offset_bounds-as_slice-place : goal.offset_bounds-as_slice-place
 offset_bounds-as_slice-place c =

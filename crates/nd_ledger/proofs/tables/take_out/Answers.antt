@@ -1,4 +1,4 @@
-use Rattle.std.proofs.Common.{rules, not, ◌==◌, ℕ, Bool, ◌≡◌, refl}
+use Rattle.std.proofs.Common.{rules, not, ◌==◌}
 use Rattle.std.proofs.lemmas.Fn.{filter_same}
 use Rattle.nd_ledger.specs.declared.entry.Ticket.{Ticket}
 use Rattle.nd_ledger.proofs.tables.take_out.Goals as goal

@@ -1,6 +1,6 @@
-use Rattle.std.proofs.Common.{◌≡◌, ℕ, length, ap, sym, ◌∙◌, rules, subst, Bool, ◌||◌, List, reverse}
+use Rattle.std.proofs.Common.{◌≡◌, ℕ, length, ap, sym, ◌∙◌, Bool, ◌||◌, reverse}
 use Rattle.std.specs.List.{list_any}
-use Rattle.nd_ledger.specs.Kept.{leases_after, started_after, AreUpsAfter, AreBuilt, AreFailed}
+use Rattle.nd_ledger.specs.Kept.{leases_after, AreBuilt, AreFailed}
 use Rattle.nd_ledger.specs.History.{is_stop, has_stop, is_failure}
 use Rattle.nd_ledger.proofs.Following.{follow_all, newest_first, built_follow, failed_follow, started_sized, built_sized, failed_sized}
 use Rattle.nd_ledger.proofs.book.Book.record.Goals as goal
@@ -13,8 +13,8 @@ invariant_of-self c =
     let started = c.follow_started.ensures in
     let ups = rw c.as_slice.ensures.value at c.follow_ups.ensures in
     let all =
-      follow_all was.entries.items c.push_reserved.new.self.items c.args.entry was.leases.items c.follow_leases.new.leases.items was.started.items c.follow_started.new.started.items was.ups.items c.follow_ups.new.ups.items
-      c.push_reserved.ensures.items c.self.invariant.leases c.self.invariant.started c.self.invariant.ups leases started ups in
+    follow_all was.entries.items c.push_reserved.new.self.items c.args.entry was.leases.items c.follow_leases.new.leases.items was.started.items c.follow_started.new.started.items was.ups.items c.follow_ups.new.ups.items
+    c.push_reserved.ensures.items c.self.invariant.leases c.self.invariant.started c.self.invariant.ups leases started ups in
     let turned = newest_first was.entries.items c.push_reserved.new.self.items c.args.entry c.push_reserved.ensures.items in
     let stop : c.follow_stop-self-inside.result ≡ has_stop (reverse c.push_reserved.new.self.items) = rw turned (c.follow_stop-self-inside.ensures ∙ ap (λ (b : Bool). is_stop c.args.entry || b) c.self.invariant.stop) in
     let built : AreBuilt (reverse c.push_reserved.new.self.items) c.follow_built.new.built.items = rw turned (rw c.follow_built.ensures (built_follow (reverse was.entries.items) c.args.entry was.built.items c.self.invariant.built)) in

@@ -1,4 +1,4 @@
-use Rattle.std.proofs.Common.{rules, ◌≡◌, refl, reverse}
+use Rattle.std.proofs.Common.{rules, refl, reverse}
 use Rattle.nd_ledger.specs.Refusals.{IsLive}
 use Rattle.nd_ledger.proofs.Keeping.{kept_failed}
 use Rattle.nd_ledger.proofs.dispatch.Dispatch.failed.Goals as goal

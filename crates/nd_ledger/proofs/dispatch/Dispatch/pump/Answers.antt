@@ -1,11 +1,11 @@
-use Rattle.std.proofs.Common.{rules, ◌≡◌, ℕ, ◌+◌, ◌-◌, ◌<◌, ◌≤◌, ◌++◌, List, [], ◌∷◌, length, reverse, arith, sym, ap, ◌∙◌, subst}
+use Rattle.std.proofs.Common.{◌+◌, ◌≤◌, ◌++◌, List, [], ◌∷◌, length, reverse, arith, ap, ◌∙◌, subst}
 use Rattle.nd_ledger.specs.declared.entry.Entry.{Entry}
 use Rattle.nd_ledger.specs.History.{live}
 use Rattle.nd_ledger.specs.Worlds.{World}
 use Rattle.nd_ledger.specs.Premises.{Premises, premises_of}
 use Rattle.nd_ledger.specs.Pumping.{IsPumpStep}
 use Rattle.nd_ledger.proofs.Following.{newest_first}
-use Rattle.nd_ledger.proofs.Keeping.{kept_more, live_grows, HasRoom}
+use Rattle.nd_ledger.proofs.Keeping.{kept_more, live_grows}
 use Rattle.nd_ledger.proofs.Steps.{pumped_more, pump_smaller, pump_counted}
 use Rattle.nd_ledger.proofs.dispatch.Dispatch.pump.Goals as goal
 
@@ -20,10 +20,10 @@ loop-step-preserved c =
     let P : Premises → Type 0 = λ i. IsPumpStep i (reverse d.book.entries) e in
     record {
       kept =
-        kept_more d c.make_room.new.self c.record.new.self e 1
-        (record { entries = m.entries; drvs = m.drvs; machines = m.machines; room = m.kept; more = many })
-        (record { entries = r.entries; room = r.room; drvs = r.drvs; machines = r.machines })
-        inv.kept c.in-Some.ensures.step.allowed (live_grows (reverse d.book.entries) e);
+          kept_more d c.make_room.new.self c.record.new.self e 1
+          (record { entries = m.entries; drvs = m.drvs; machines = m.machines; room = m.kept; more = many })
+          (record { entries = r.entries; room = r.room; drvs = r.drvs; machines = r.machines })
+          inv.kept c.in-Some.ensures.step.allowed (live_grows (reverse d.book.entries) e);
       same = inv.same;
       pumped = pumped_more _ _ d.book.entries c.record.new.self.entries e inv.pumped (r.entries ∙ ap (λ (es : List Entry). es ++ e ∷ []) m.entries) (subst P inv.same c.in-Some.ensures);
     }
@@ -41,6 +41,6 @@ returns-clause-steps c =
     record {
       pumped = pumped;
       count =
-        pump_counted c.args.self.now.history c.loop-step.self-inside.book.entries c.entries-before.result.now c.entries.result.now pumped.steps
-        c.entries.ensures (c.entries-before.ensures ∙ ap (λ (w : World). w.history) c.self.view_is) pumped.grown;
+          pump_counted c.args.self.now.history c.loop-step.self-inside.book.entries c.entries-before.result.now c.entries.result.now pumped.steps
+          c.entries.ensures (c.entries-before.ensures ∙ ap (λ (w : World). w.history) c.self.view_is) pumped.grown;
     }

@@ -1,4 +1,4 @@
-use Rattle.std.proofs.Common.{rules, ◌≡◌, refl, reverse, false}
+use Rattle.std.proofs.Common.{rules, ◌≡◌, reverse, false}
 use Rattle.nd_ledger.specs.History.{has_stop}
 use Rattle.nd_ledger.proofs.Keeping.{kept_stop}
 use Rattle.nd_ledger.proofs.dispatch.Dispatch.stop.Goals as goal
