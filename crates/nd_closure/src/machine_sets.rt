@@ -194,8 +194,7 @@ impl Holdings {
     pub fn try_clone(&self) -> Result<Holdings, AllocError>
         ensures { IfOk result (HoldTheSame self.now) }
     {
-        Ok(Holdings {
-            machines: self.machines.clone()?,
-        })
+        let machines = self.machines.clone()?;
+        Ok(Holdings { machines })
     }
 }

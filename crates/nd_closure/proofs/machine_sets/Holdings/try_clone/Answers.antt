@@ -5,5 +5,5 @@ use Rattle.nd_closure.proofs.machine_sets.Holdings.try_clone.Goals as goal
 
 pub returns : goal.returns
 returns c =
-    subst (λ (stocks : List Stock). HoldTheSame stocks c.in_ok-clone.field-0.items) c.self.view_is
-    (same_by_each c.self.inside.machines.items c.in_ok-clone.field-0.items c.in_ok-clone.ensures.cases.0)
+    subst (λ (stocks : List Stock). HoldTheSame stocks c.in_ok-machines.machines.items) c.self.view_is
+    (same_by_each c.self.inside.machines.items c.in_ok-machines.machines.items c.in_ok-machines.ensures.cases.0)
