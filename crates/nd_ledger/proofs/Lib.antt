@@ -1,13 +1,17 @@
 pub mod Closing
 pub mod Following
+pub mod Gains
 pub mod Headline
 pub mod Keeping
 pub mod Legality
 pub mod Marking
+pub mod Lookalikes
+pub mod Joined
 pub mod OneChoice
 pub mod Provisions
 pub mod Readiness
 pub mod Reported
 pub mod Slots
 pub mod Steps
+pub mod Storing
 pub mod Turned

@@ -87,7 +87,7 @@ outputs_added i past d refs legal x (step p q r (listed given h)) = inl (known_h
 outputs_added i past d refs legal x (step p q r (reported not_given h)) = new_known i past d refs legal p q h
 
 -- a build adds its outputs alone
-adding : (i : Premises) (past : List Entry) (d : ℕ) (refs : List (List (List ℕ))) → IsLegal i (Built d refs ∷ past) → (p : List ℕ) → IsHeld i (Built d refs ∷ past) 0 p ↔ IsHeld i past 0 p ⊎ IsOutputOf i d p
+pub adding : (i : Premises) (past : List Entry) (d : ℕ) (refs : List (List (List ℕ))) → IsLegal i (Built d refs ∷ past) → (p : List ℕ) → IsHeld i (Built d refs ∷ past) 0 p ↔ IsHeld i past 0 p ⊎ IsOutputOf i d p
 adding i past d refs legal p = (outputs_added i past d refs legal p, held_or_output i past d refs legal p)
   where
     held_or_output : (i : Premises) (past : List Entry) (d : ℕ) (refs : List (List (List ℕ))) → IsLegal i (Built d refs ∷ past) → (p : List ℕ) → IsHeld i past 0 p ⊎ IsOutputOf i d p → IsHeld i (Built d refs ∷ past) 0 p

@@ -15,4 +15,5 @@ pub mod References
 pub mod Refusals
 pub mod Standing
 pub mod Statuses
+pub mod Stored
 pub mod Worlds

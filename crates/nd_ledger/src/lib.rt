@@ -2,15 +2,19 @@
 #![tactic(auto)]
 
 mod book;
+mod checks;
+mod copying;
 mod deciding;
 mod dispatch;
 pub mod entry;
 mod finding;
 pub mod inputs;
 pub mod laws;
+mod needs;
 pub mod refusal;
 mod standing;
 mod stepping;
+mod stores;
 mod tables;
 
 pub use dispatch::Dispatch;
