@@ -156,18 +156,18 @@ impl Boards {
             assert_eq!(rt; self.kept.is_ready(i), self.plain.is_ready(i), "ready {i}");
         }
         for from in [0, 1, 63, 64, 150, 299, 300, usize::MAX] {
-            assert_eq!(rt; self.kept.first_ready(from), self.plain.first_ready(from), "from {from}");
+            assert_eq!(rt;
+                self.kept.first_ready(from),
+                self.plain.first_ready(from),
+                "from {from}"
+            );
         }
         assert_eq!(rt; self.kept.counts(), self.plain.counts());
     }
 }
 
 /// The graph of the example `keep_going`, with the calls of its script.
-fn keep_going_calls(
-    rt: &impl Abort,
-    alloc: Global,
-    keep_going: bool,
-) -> Result<Counts, Fail> {
+fn keep_going_calls(rt: &impl Abort, alloc: Global, keep_going: bool) -> Result<Counts, Fail> {
     let mut boards = Boards::new(alloc, &five(alloc)?, keep_going)?;
     boards.agree(rt);
     assert_eq!(rt; boards.kept.first_ready(0), Some(0));
@@ -199,12 +199,24 @@ fn two_boards(rt: HostRuntime) -> Result<(), Fail> {
     let going = keep_going_calls(&rt, rt.alloc(), true)?;
     assert_eq!(rt;
         going,
-        Counts { waiting: 0, leased: 0, built: 3, failed: 1, cancelled: 1 }
+        Counts {
+            waiting: 0,
+            leased: 0,
+            built: 3,
+            failed: 1,
+            cancelled: 1
+        }
     );
     let ended = keep_going_calls(&rt, rt.alloc(), false)?;
     assert_eq!(rt;
         ended,
-        Counts { waiting: 0, leased: 0, built: 2, failed: 1, cancelled: 2 }
+        Counts {
+            waiting: 0,
+            leased: 0,
+            built: 2,
+            failed: 1,
+            cancelled: 2
+        }
     );
     Ok(())
 }
@@ -229,7 +241,13 @@ fn two_boards_of_a_chain(rt: HostRuntime) -> Result<(), Fail> {
         boards.agree(&rt);
         assert_eq!(rt;
             boards.kept.counts(),
-            Counts { waiting: 0, leased: 0, built: 200, failed: 1, cancelled: 99 }
+            Counts {
+                waiting: 0,
+                leased: 0,
+                built: 200,
+                failed: 1,
+                cancelled: 99
+            }
         );
     }
     Ok(())
@@ -246,7 +264,13 @@ fn stopped_boards(rt: HostRuntime) -> Result<(), Fail> {
     boards.agree(&rt);
     assert_eq!(rt;
         boards.kept.counts(),
-        Counts { waiting: 0, leased: 1, built: 0, failed: 0, cancelled: 4 }
+        Counts {
+            waiting: 0,
+            leased: 1,
+            built: 0,
+            failed: 0,
+            cancelled: 4
+        }
     );
     boards.give_back(&rt, 0);
     boards.agree(&rt);
@@ -266,7 +290,13 @@ fn tower_of_diamonds(rt: HostRuntime) -> Result<(), Fail> {
     boards.agree(&rt);
     assert_eq!(rt;
         boards.kept.counts(),
-        Counts { waiting: 1, leased: 0, built: 0, failed: 1, cancelled: 1_998 }
+        Counts {
+            waiting: 1,
+            leased: 0,
+            built: 0,
+            failed: 1,
+            cancelled: 1_998
+        }
     );
     Ok(())
 }
@@ -280,7 +310,13 @@ fn many_nodes_on_a_failed_one(rt: HostRuntime) -> Result<(), Fail> {
     boards.agree(&rt);
     assert_eq!(rt;
         boards.kept.counts(),
-        Counts { waiting: 0, leased: 0, built: 0, failed: 1, cancelled: 65_535 }
+        Counts {
+            waiting: 0,
+            leased: 0,
+            built: 0,
+            failed: 1,
+            cancelled: 65_535
+        }
     );
     Ok(())
 }

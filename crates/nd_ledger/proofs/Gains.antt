@@ -28,7 +28,7 @@ read_there xs i x lt is = (i, lt, sym is)
 pub gained_none : (stocks : List Stock) (m : ℕ) → HasGained stocks stocks m []
 gained_none stocks m = record {
   size = refl;
-  gained = λ p. (λ h. inl h, λ h. elim h [ | inl there ↦ there | inr none ↦ absurd (nothing_in p none) ]);
+  gained = λ p. (λ h. inl h, λ h. elim h [ inl there ↦ there | inr none ↦ absurd (nothing_in p none) ]);
   others = λ k _. refl;
 }
 
@@ -39,7 +39,7 @@ gained_more old mid new m seen p added was is made keeps = record {
   size = keeps.size ∙ was.size;
   gained = λ q. (
     λ h. elim (from q h) [
-      | inl there ↦ (elim ((was.gained q).0 there) [ | inl before ↦ inl before | inr among ↦ inr (Contains-append_left seen (p ∷ []) q among) ])
+      | inl there ↦ (elim ((was.gained q).0 there) [ inl before ↦ inl before | inr among ↦ inr (Contains-append_left seen (p ∷ []) q among) ])
       | inr same ↦ inr (subst (λ (x : List ℕ). Contains (seen ++ p ∷ []) x) same (Contains-push seen p))
     ],
     λ h. elim h [
@@ -58,11 +58,13 @@ gained_more old mid new m seen p added was is made keeps = record {
       | inl held ↦ inl (subst (λ (xs : List (List ℕ)). Contains xs q) (made ∙ ap (λ (b : Bool). if b then (stock_of mid m).paths ++ p ∷ [] else (stock_of mid m).paths) (is ∙ ap not held)) h)
       | inr fresh ↦ Contains-push_cases (stock_of mid m).paths p q (subst (λ (xs : List (List ℕ)). Contains xs q) (made ∙ ap (λ (b : Bool). if b then (stock_of mid m).paths ++ p ∷ [] else (stock_of mid m).paths) (is ∙ ap not fresh)) h)
     ]
+
     to_old : (q : List ℕ) → Contains (stock_of mid m).paths q → Contains (stock_of new m).paths q
     to_old q h = elim (cases_Bool (is_held (stock_of mid m).paths p)) [
       | inl held ↦ subst (λ (xs : List (List ℕ)). Contains xs q) (sym (made ∙ ap (λ (b : Bool). if b then (stock_of mid m).paths ++ p ∷ [] else (stock_of mid m).paths) (is ∙ ap not held))) h
       | inr fresh ↦ subst (λ (xs : List (List ℕ)). Contains xs q) (sym (made ∙ ap (λ (b : Bool). if b then (stock_of mid m).paths ++ p ∷ [] else (stock_of mid m).paths) (is ∙ ap not fresh))) (Contains-append_left (stock_of mid m).paths (p ∷ []) q h)
     ]
+
     here : Contains (stock_of new m).paths p
     here = elim (cases_Bool (is_held (stock_of mid m).paths p)) [
       | inl held ↦ to_old p ((member_by_test (stock_of mid m).paths p).0 held)

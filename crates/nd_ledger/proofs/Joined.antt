@@ -48,6 +48,7 @@ sources_joined i = record { exact = λ p. (to p, from p) }
       drv = one.listed.0;
       listed = subst (λ (ps : List (List ℕ)). Contains ps p) (sym (get_or_default i.graph.sources one.listed.0 [] one.item one.listed.1 ∙ one.listed.2)) one.there;
     }
+
     from : (p : List ℕ) → IsSource i p → Contains (flat_map (λ x. x) i.graph.sources) p
     from p s = in_joined (λ (x : List (List ℕ)). x) i.graph.sources (sources_of i s.drv) p (within s.drv i.graph.sources p s.listed) s.listed
       where
@@ -73,7 +74,7 @@ named_listed i input p place listed path = (
   listed.0,
   rw (length-map input.outputs (λ k. get_or (outputs_of i input.node) k [])) listed.1,
   get_or-map (λ k. get_or (outputs_of i input.node) k []) input.outputs listed.0 place p listed.1
-  ∙ ap (λ (k : ℕ). get_or (outputs_of i input.node) k []) listed.2 ∙ get_or_from_slice_get (outputs_of i input.node) place p [] path,
+      ∙ ap (λ (k : ℕ). get_or (outputs_of i input.node) k []) listed.2 ∙ get_or_from_slice_get (outputs_of i input.node) place p [] path,
 )
 
 pub needed_joined : (i : Premises) (d : ℕ) → ((input : Input) (place : ℕ) → Contains (inputs_at i d) input → Contains input.outputs place → place < length (outputs_of i input.node))
@@ -84,10 +85,11 @@ needed_joined i d ranged = record { exact = λ p. (to p, from p) }
     to p h = elim (Contains-append_cases (sources_of i d) (flat_map (named_outputs i) (inputs_at i d)) p h) [
       | inl source ↦ inl source
       | inr named ↦
-        let one = in_one (named_outputs i) (inputs_at i d) p named in
-        let at = named_there i one.item p (λ place k. ranged one.item place one.listed k) one.there in
-        inr (record { input = one.item; needed = one.listed; place = at.0; named = at.1; path = at.2 })
+          let one = in_one (named_outputs i) (inputs_at i d) p named in
+          let at = named_there i one.item p (λ place k. ranged one.item place one.listed k) one.there in
+          inr (record { input = one.item; needed = one.listed; place = at.0; named = at.1; path = at.2 })
     ]
+
     from : (p : List ℕ) → IsNeededBy i d p → Contains (sources_of i d ++ flat_map (named_outputs i) (inputs_at i d)) p
     from p (inl source) = Contains-append_left (sources_of i d) (flat_map (named_outputs i) (inputs_at i d)) p source
     from p (inr n) = Contains-append_right (sources_of i d) (flat_map (named_outputs i) (inputs_at i d)) p

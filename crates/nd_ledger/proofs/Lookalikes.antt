@@ -42,6 +42,7 @@ looks_again t e known = record {
       | inl same ↦ (let there : is_listed t p ≡ true = subst (λ (x : List ℕ). is_listed t x ≡ true) (sym (paths_same p e.0 same)) known in cc)
       | inr apart ↦ apart
     ]
+
     alone : (t : List (List ℕ × List (List ℕ))) (e : List ℕ × List (List ℕ)) (p : List ℕ) → is_listed t e.0 ≡ true → is_listed t p ≡ false → refs_of (e ∷ []) p ≡ []
     alone t e p known past = elim (cases_Bool (path_eq p e.0)) [
       | inl same ↦ (let there : is_listed t p ≡ true = subst (λ (x : List ℕ). is_listed t x ≡ true) (sym (paths_same p e.0 same)) known in cc)
@@ -56,11 +57,11 @@ looks_more t new base seen e added like is made =
     looks_through (t ++ e ∷ []) ((base ++ seen) ++ e ∷ []) (base ++ (seen ++ e ∷ [])) (looks_longer t (base ++ seen) (e ∷ []) like) (looks_same _ _ (append_assoc base seen (e ∷ []))) in
     elim (cases_Bool (is_listed t e.0)) [
       | inl known ↦
-        let stays : new ≡ t = made ∙ ap (λ (b : Bool). if b then t ++ e ∷ [] else t) (is ∙ ap not known) in
-        looks_through new t (base ++ (seen ++ e ∷ [])) (looks_same new t stays) (looks_through t (t ++ e ∷ []) (base ++ (seen ++ e ∷ [])) (looks_again t e known) after)
+          let stays : new ≡ t = made ∙ ap (λ (b : Bool). if b then t ++ e ∷ [] else t) (is ∙ ap not known) in
+          looks_through new t (base ++ (seen ++ e ∷ [])) (looks_same new t stays) (looks_through t (t ++ e ∷ []) (base ++ (seen ++ e ∷ [])) (looks_again t e known) after)
       | inr fresh ↦
-        let grows : new ≡ t ++ e ∷ [] = made ∙ ap (λ (b : Bool). if b then t ++ e ∷ [] else t) (is ∙ ap not fresh) in
-        looks_through new (t ++ e ∷ []) (base ++ (seen ++ e ∷ [])) (looks_same new (t ++ e ∷ []) grows) after
+          let grows : new ≡ t ++ e ∷ [] = made ∙ ap (λ (b : Bool). if b then t ++ e ∷ [] else t) (is ∙ ap not fresh) in
+          looks_through new (t ++ e ∷ []) (base ++ (seen ++ e ∷ [])) (looks_same new (t ++ e ∷ []) grows) after
     ]
 
 pub looks_at_first : (t : List (List ℕ × List (List ℕ))) → LooksLike t (t ++ [])

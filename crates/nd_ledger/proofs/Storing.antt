@@ -42,9 +42,9 @@ refers_by : (i : Premises) (past : List Entry) (given : List (List ℕ × List (
 refers_by i past given base p q h =
     elim (cases_Bool (is_listed given p)) [
       | inl there ↦ listed ((base.listed p).0 there)
-        ((base.refs p ((base.listed p).0 there)).to q (subst (λ (rs : List (List ℕ)). Contains rs q) (refs_first given (reports i past) p there) h))
+          ((base.refs p ((base.listed p).0 there)).to q (subst (λ (rs : List (List ℕ)). Contains rs q) (refs_first given (reports i past) p there) h))
       | inr past_it ↦ reported (λ g. let there : is_listed given p ≡ true = (base.listed p).1 g in cc)
-        (subst (λ (rs : List (List ℕ)). Contains rs q) (refs_second given (reports i past) p past_it) h)
+          (subst (λ (rs : List (List ℕ)). Contains rs q) (refs_second given (reports i past) p past_it) h)
     ]
 
 by_refers : (i : Premises) (past : List Entry) (given : List (List ℕ × List (List ℕ))) → IsGivenTable i given → (p q : List ℕ) → Refers i past p q → Contains (refs_of (given ++ reports i past) p) q
@@ -402,7 +402,7 @@ of_part k paths p h = subst (λ (b : Bool). Contains (if b then [] else paths) p
 
 -- a builder's paths, grown where the lease is on it
 grown_to : (b : Bool) (before paths : List (List ℕ)) (p : List ℕ) → Contains (if b then before ++ paths else before) p → Contains before p ⊎ ((b ≡ true) × Contains paths p)
-grown_to true before paths p h = elim (Contains-append_cases before paths p h) [ | inl there ↦ inl there | inr new ↦ inr (refl, new) ]
+grown_to true before paths p h = elim (Contains-append_cases before paths p h) [ inl there ↦ inl there | inr new ↦ inr (refl, new) ]
 grown_to false before paths p h = inl h
 
 to_grown : (b : Bool) (before paths : List (List ℕ)) (p : List ℕ) → Contains before p ⊎ ((b ≡ true) × Contains paths p) → Contains (if b then before ++ paths else before) p
@@ -415,8 +415,7 @@ to_grown false before paths p (inr new) = let never = new.0 in cc
 builder_holds : (i : Premises) (past : List Entry) → IsLegal i past → (d k : ℕ) (t : Ticket) (paths before : List (List ℕ)) (p : List ℕ) → lease_of d past ≡ Some t
     → (Contains before p ⊎ ((suc k ≡ t.machine) × Contains (part t.machine paths) p)) ↔ Contains (if is_leased_on (suc k) d past then before ++ paths else before) p
 builder_holds i past legal d k t paths before p found =
-    let on = leased_on_is i past legal d (suc k) t found in
-    (
+    let on = leased_on_is i past legal d (suc k) t found in (
       λ h. to_grown (is_leased_on (suc k) d past) before paths p (elim h [
         | inl there ↦ inl there
         | inr new ↦ inr (on ∙ eq-eqb (suc k) t.machine new.0, (part_of t.machine paths p new.1).1)
@@ -424,8 +423,8 @@ builder_holds i past legal d k t paths before p found =
       λ h. elim (grown_to (is_leased_on (suc k) d past) before paths p h) [
         | inl there ↦ inl there
         | inr new ↦
-          let same : suc k ≡ t.machine = eqb-true (suc k) t.machine (sym on ∙ new.0) in
-          inr (same, subst (λ (m : ℕ). Contains (part m paths) p) same (of_part k paths p new.1))
+            let same : suc k ≡ t.machine = eqb-true (suc k) t.machine (sym on ∙ new.0) in
+            inr (same, subst (λ (m : ℕ). Contains (part m paths) p) same (of_part k paths p new.1))
       ],
     )
 
@@ -461,10 +460,10 @@ stored_start i past d t paths old new a legal found are adds took = record {
         | inr came ↦ inr (came.0 ∙ sym adds.machine, subst (λ (xs : List (List ℕ)). Contains xs p) (sym adds.brought) came.1)
       ]),
     )
+
     at : (m : ℕ) → m < length old.stocks → (p : List ℕ) → Contains (stock_of new.stocks m).paths p ↔ IsHeld i (Started d paths ∷ past) m p
     at zero lt p =
-        let stays = local_stays i past (Started d paths) refl (λ e. refl) p in
-        (
+        let stays = local_stays i past (Started d paths) refl (λ e. refl) p in (
           λ h. stays.0 ((are.holdings.held 0 lt p).0 (elim ((now 0 p).0 h) [
             | inl before ↦ before
             | inr came ↦ absurd ((part_of t.machine paths p came.1).0 (sym came.0))
@@ -472,8 +471,7 @@ stored_start i past d t paths old new a legal found are adds took = record {
           λ h. (now 0 p).1 (inl ((are.holdings.held 0 lt p).1 (stays.1 h))),
         )
     at (suc k) lt p =
-        let grows = builder_holds i past legal d k t paths (brought i (suc k) past) p found in
-        (
+        let grows = builder_holds i past legal d k t paths (brought i (suc k) past) p found in (
           λ h. grows.0 (elim ((now (suc k) p).0 h) [
             | inl before ↦ inl ((are.holdings.held (suc k) lt p).0 before)
             | inr came ↦ inr came
@@ -523,10 +521,10 @@ stored_built i past d t refs old new a legal found are adds took = record {
         ])
       ]),
     )
+
     at : (m : ℕ) → m < length old.stocks → (p : List ℕ) → Contains (stock_of new.stocks m).paths p ↔ IsHeld i (Built d refs ∷ past) m p
     at zero lt p =
-        let adding_p = adding i past d refs legal p in
-        (
+        let adding_p = adding i past d refs legal p in (
           λ h. adding_p.1 (elim ((now 0 p).0 h) [
             | inl before ↦ inl ((are.holdings.held 0 lt p).0 before)
             | inr more ↦ (elim more [
@@ -540,11 +538,10 @@ stored_built i past d t refs old new a legal found are adds took = record {
           ]),
         )
     at (suc k) lt p =
-        let grows = builder_holds i past legal.1 d k t (outputs_of i d) (brought i (suc k) past) p found in
-        (
+        let grows = builder_holds i past legal.1 d k t (outputs_of i d) (brought i (suc k) past) p found in (
           λ h. grows.0 (elim ((now (suc k) p).0 h) [
             | inl before ↦ inl ((are.holdings.held (suc k) lt p).0 before)
-            | inr more ↦ (elim more [ | inl own ↦ (let never = own.0 in absurd (omega arith)) | inr came ↦ inr came ])
+            | inr more ↦ (elim more [ inl own ↦ (let never = own.0 in absurd (omega arith)) | inr came ↦ inr came ])
           ]),
           λ h. (now (suc k) p).1 (elim (grows.1 h) [
             | inl before ↦ inl ((are.holdings.held (suc k) lt p).1 before)

@@ -7,10 +7,9 @@ ghost use Rattle.nd_closure.specs.Sets.{stock_of};
 ghost use Rattle.nd_ledger.specs.declared.copying.PathsFault.TheVariants.{Memory};
 ghost use Rattle.nd_ledger.specs.Stored.{LooksLike, HasGained};
 
-use std::alloc::{AllocError, Global};
-
 use nd_closure::{Holdings, RefTable};
 use nd_path::{PathSet, StorePath};
+use std::alloc::{AllocError, Global};
 
 /// What a start or a build adds to a table of references and to the holdings of a machine and of the
 /// local one: copies of it, made before anything is changed.

@@ -7,13 +7,11 @@ ghost use Rattle.nd_graph.specs.Graphs.{IsSound};
 ghost use Rattle.nd_ledger.specs.Premises.{premises_of};
 ghost use Rattle.nd_ledger.specs.Stored.{AreNeeded};
 
-use std::alloc::{AllocError, Global};
-
-use nd_graph::Graph;
-use nd_path::StorePath;
-
 use crate::copying::add_copies;
 use crate::inputs::Inputs;
+use nd_graph::Graph;
+use nd_path::StorePath;
+use std::alloc::{AllocError, Global};
 
 /// All input sources, node by node.
 pub(crate) fn all_sources(alloc: Global, graph: &Graph) -> Result<Vec<StorePath>, AllocError>
@@ -27,7 +25,11 @@ pub(crate) fn all_sources(alloc: Global, graph: &Graph) -> Result<Vec<StorePath>
 }
 
 /// The sources of derivation `drv` and the outputs that it names of its inputs.
-pub(crate) fn needed_by(alloc: Global, inputs: &Inputs, drv: usize) -> Result<Vec<StorePath>, AllocError>
+pub(crate) fn needed_by(
+    alloc: Global,
+    inputs: &Inputs,
+    drv: usize,
+) -> Result<Vec<StorePath>, AllocError>
     requires { drv < length inputs.now.graph.paths }
     ensures { IfOk result (λ v. AreNeeded (premises_of inputs.now) drv v.items) }
 {
@@ -42,7 +44,11 @@ pub(crate) fn needed_by(alloc: Global, inputs: &Inputs, drv: usize) -> Result<Ve
 }
 
 /// Appends copies of the outputs at these places.
-fn add_named(into: &mut Vec<StorePath>, outputs: &[StorePath], places: &[usize]) -> Result<(), AllocError>
+fn add_named(
+    into: &mut Vec<StorePath>,
+    outputs: &[StorePath],
+    places: &[usize],
+) -> Result<(), AllocError>
     requires { All (λ k. k < length outputs.now) places.now }
     ensures { OnOk result (into.new.items ≡ into.old.items ++ map (λ k. slice_index_or outputs.now k []) places.now) }
 {

@@ -5,17 +5,17 @@ ghost use Rattle.nd_ledger.specs.Premises.{premises_of};
 ghost use Rattle.nd_ledger.specs.References.{outputs_of};
 ghost use Rattle.nd_ledger.specs.Stored.{IsFirstFor, IsSameStored, IsClosureBy, IsMissingBy, ArePathsRightBy, IsPathsFaultBy, AreReferencesRightBy, Fits, HasTaken, AreStartAdditions, AreBuiltAdditions, AreGivenEntries};
 
-use std::alloc::{AllocError, Global};
-use std::marker::Model;
-
-use nd_closure::{reach, Holdings, RefTable, Refs};
-use nd_graph::Graph;
-use nd_path::{PathSet, StorePath};
-
 use crate::checks::{all_lie_in, is_covered, lie_in};
-use crate::copying::{add_copies, copy_all, copy_beside, enter_all, put_all, set_of, Additions, PathsFault};
+use crate::copying::{
+    Additions, PathsFault, add_copies, copy_all, copy_beside, enter_all, put_all, set_of,
+};
 use crate::inputs::Inputs;
 use crate::needs::{all_sources, needed_by};
+use nd_closure::{Holdings, RefTable, Refs, reach};
+use nd_graph::Graph;
+use nd_path::{PathSet, StorePath};
+use std::alloc::{AllocError, Global};
+use std::marker::Model;
 
 /// A table of what each path refers to, and the set of the paths that each machine holds. Both follow
 /// a history entry by entry, so that no closure and no copy is found by a search of the entries.
@@ -67,7 +67,13 @@ impl Stores {
     }
 
     /// The paths of derivation `drv`'s input closure that machine `m` doesn't hold.
-    pub fn missing(&self, alloc: Global, inputs: &Inputs, drv: usize, m: usize) -> Result<PathSet, AllocError>
+    pub fn missing(
+        &self,
+        alloc: Global,
+        inputs: &Inputs,
+        drv: usize,
+        m: usize,
+    ) -> Result<PathSet, AllocError>
         requires drv { drv < length inputs.now.graph.paths }
         requires machine { m < length self.now.stocks }
         ensures { IfOk result (IsMissingBy (premises_of inputs.now) self.now drv m) }
@@ -128,7 +134,12 @@ impl Stores {
     }
 
     /// Takes the memory that a start on machine `m` with these copied paths needs.
-    pub fn prepare_start(&mut self, alloc: Global, m: usize, paths: &PathSet) -> Result<Additions, AllocError>
+    pub fn prepare_start(
+        &mut self,
+        alloc: Global,
+        m: usize,
+        paths: &PathSet,
+    ) -> Result<Additions, AllocError>
         requires { m < length self.old.stocks }
         ensures same { IsSameStored self.old self.new }
         ensures fits { IfOk result (Fits self.new) }

@@ -12,7 +12,7 @@ loop-entry-preserved c =
       looks = looks_more c.loop-entry.table.entries c.add.new.self.entries c.args.table.now.entries c.loop-entry.yielded c.in-Some.entry c.in-Ok.field-0
           c.loop-entry.invariant.looks c.in-Ok.ensures.added c.in-Ok.ensures.entries;
       whole =
-        c.loop-entry.invariant.whole ∙ ap (λ (rest : List (List ℕ × List (List ℕ))). c.loop-entry.yielded ++ rest) c.in-Some.ensures.steps.0
-        ∙ sym (append_assoc c.loop-entry.yielded (c.in-Some.entry ∷ []) (into_iter_items c.next.new.self));
+          c.loop-entry.invariant.whole ∙ ap (λ (rest : List (List ℕ × List (List ℕ))). c.loop-entry.yielded ++ rest) c.in-Some.ensures.steps.0
+          ∙ sym (append_assoc c.loop-entry.yielded (c.in-Some.entry ∷ []) (into_iter_items c.next.new.self));
       room = omega (arith, c.loop-entry.invariant.room, c.in-Ok.ensures.room, left);
     }

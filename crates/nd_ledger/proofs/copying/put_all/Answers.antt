@@ -12,7 +12,7 @@ loop-path-preserved c =
       gained = gained_more c.args.holdings.now c.loop-path.holdings c.add.new.self c.args.m c.loop-path.yielded c.in-Some.path c.in-Ok.field-0
           c.loop-path.invariant.gained c.in-Ok.ensures.added c.in-Ok.ensures.paths c.in-Ok.ensures.others;
       whole =
-        c.loop-path.invariant.whole ∙ ap (λ (rest : List (List ℕ)). c.loop-path.yielded ++ rest) c.in-Some.ensures.steps.0
-        ∙ sym (append_assoc c.loop-path.yielded (c.in-Some.path ∷ []) (into_iter_items c.next.new.self));
+          c.loop-path.invariant.whole ∙ ap (λ (rest : List (List ℕ)). c.loop-path.yielded ++ rest) c.in-Some.ensures.steps.0
+          ∙ sym (append_assoc c.loop-path.yielded (c.in-Some.path ∷ []) (into_iter_items c.next.new.self));
       room = omega (arith, c.loop-path.invariant.room, c.in-Ok.ensures.room, left);
     }
