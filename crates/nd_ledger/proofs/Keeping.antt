@@ -12,10 +12,15 @@ use Rattle.nd_ledger.specs.Premises.{premises_of}
 use Rattle.nd_ledger.specs.History.{live, without, load, is_leased, lease_of, is_started, has_stop}
 use Rattle.nd_ledger.specs.Legal.{IsLegal, IsAllowed}
 use Rattle.nd_ledger.specs.Fitting.{FitTogether}
+use Rattle.nd_ledger.specs.Stored.{Stored, AreStored, is_quiet, IsSameStored, HasTaken}
+use Rattle.nd_ledger.specs.declared.copying.Additions.{Additions}
+use Rattle.nd_ledger.specs.Pumping.{step_drv}
+use Rattle.nd_ledger.specs.Moves.{IsRoomier, IsReadyToStart, IsReadyToEnd}
 use Rattle.nd_ledger.specs.Inner.{IsKept, room_for}
 use Rattle.nd_ledger.proofs.Following.{newest_first}
 use Rattle.nd_ledger.proofs.Legality.{leased_ranged}
 use Rattle.nd_ledger.proofs.Slots.{load_within}
+use Rattle.nd_ledger.proofs.Storing.{stored_quiet, stored_same, stored_start, stored_built}
 
 -- one more entry in the book
 pub record IsRecorded (old new : Recorded) (e : Entry) : Type 0 where
@@ -24,11 +29,14 @@ pub record IsRecorded (old new : Recorded) (e : Entry) : Type 0 where
   pub drvs : new.drvs ≡ old.drvs
   pub machines : new.machines ≡ old.machines
 
-pub kept : (d : Inside) (book : Recorded) (e : Entry) → IsRecorded d.book book e → IsKept d → IsAllowed (premises_of d.inputs) e (reverse d.book.entries) → room_for (e ∷ reverse d.book.entries) + 1 ≤ d.book.room → IsKept (record d { book = book })
-kept d book e rec was allowed room =
+-- .. with what is kept of references and holdings after it
+pub kept_with : (d : Inside) (book : Recorded) (stores : Stored) (e : Entry) → IsRecorded d.book book e → IsKept d → IsAllowed (premises_of d.inputs) e (reverse d.book.entries) → room_for (e ∷ reverse d.book.entries) + 1 ≤ d.book.room
+    → AreStored (premises_of d.inputs) (e ∷ reverse d.book.entries) stores → IsKept (record d { book = book; stores = stores })
+kept_with d book stores e rec was allowed room stored =
     let turned : reverse book.entries ≡ e ∷ reverse d.book.entries = newest_first d.book.entries book.entries e rec.entries in
     let P : List Entry → Type 0 = λ past. IsLegal (premises_of d.inputs) past in
     let Q : List Entry → Type 0 = λ past. room_for past ≤ book.room in
+    let R : List Entry → Type 0 = λ past. AreStored (premises_of d.inputs) past stores in
     record {
       legal = subst P (sym turned) (allowed, was.legal);
       room = subst Q (sym turned) (let more = rec.room in omega arith);
@@ -37,7 +45,12 @@ kept d book e rec was allowed room =
       park = rec.machines ∙ was.park;
       few = was.few;
       small = was.small;
+      stores = subst R (sym turned) stored;
     }
+
+-- .. which an entry that is no start and no build leaves as it was
+pub kept : (d : Inside) (book : Recorded) (e : Entry) → IsRecorded d.book book e → IsKept d → IsAllowed (premises_of d.inputs) e (reverse d.book.entries) → room_for (e ∷ reverse d.book.entries) + 1 ≤ d.book.room → is_quiet e ≡ true → IsKept (record d { book = book })
+kept d book e rec was allowed room quiet = kept_with d book d.stores e rec was allowed room (stored_quiet (premises_of d.inputs) (reverse d.book.entries) e d.stores quiet was.stores)
 
 -- ---- leases that are found
 
@@ -76,7 +89,7 @@ kept_failed d book t e why is rec was found =
     let P : Entry → Type 0 = λ e. IsRecorded d.book book e in
     kept d book (Failed t.drv why) (subst P is rec) was
     (record { ranged = leased_ranged (premises_of d.inputs) past was.legal t.drv leased; may = leased })
-    (let less = fewer t.drv (live past) leased in let room = was.room in omega arith)
+    (let less = fewer t.drv (live past) leased in let room = was.room in omega arith) refl
 
 pub kept_down : (d : Inside) (book : Recorded) (t : Ticket) (e : Entry) → e ≡ Down t.drv → IsRecorded d.book book e → IsKept d → lease_of t.drv (reverse d.book.entries) ≡ Some t → is_started t.drv (reverse d.book.entries) ≡ false → IsKept (record d { book = book })
 kept_down d book t e is rec was found fresh =
@@ -85,14 +98,14 @@ kept_down d book t e is rec was found fresh =
     let P : Entry → Type 0 = λ e. IsRecorded d.book book e in
     kept d book (Down t.drv) (subst P is rec) was
     (record { ranged = leased_ranged (premises_of d.inputs) past was.legal t.drv leased; may = record { live = leased; fresh = fresh } })
-    (let less = fewer t.drv (live past) leased in let room = was.room in omega arith)
+    (let less = fewer t.drv (live past) leased in let room = was.room in omega arith) refl
 
 stop_room : (past : List Entry) (n : ℕ) → has_stop past ≡ false → room_for past ≤ n → room_for (Stop ∷ past) + 1 ≤ n
 stop_room past n none room = let at = rw none at room in omega arith
 
 pub kept_stop : (d : Inside) (book : Recorded) → IsRecorded d.book book Stop → IsKept d → has_stop (reverse d.book.entries) ≡ false → IsKept (record d { book = book })
 kept_stop d book rec was none =
-    kept d book Stop rec was (record { ranged = tt; may = none }) (stop_room (reverse d.book.entries) d.book.room none was.room)
+    kept d book Stop rec was (record { ranged = tt; may = none }) (stop_room (reverse d.book.entries) d.book.room none was.room) refl
 
 -- ---- entries that end no lease, for which room was made
 
@@ -121,18 +134,28 @@ kept_room d book n more was =
       park = more.machines ∙ was.park;
       few = was.few;
       small = was.small;
+      stores = (let R : List Entry → Type 0 = λ es. AreStored (premises_of d.inputs) (reverse es) d.stores in subst R (sym more.entries) was.stores);
     }
 
--- an entry that makes no more than one lease is recorded where room was made for it, a stop and all leases
-pub kept_more : (d : Inside) (roomy book : Recorded) (e : Entry) (n : ℕ) → HasRoom d.book roomy (length (live (reverse d.book.entries)) + n + 2) → IsRecorded roomy book e → IsKept d → IsAllowed (premises_of d.inputs) e (reverse d.book.entries) → length (live (e ∷ reverse d.book.entries)) ≤ length (live (reverse d.book.entries)) + n → IsKept (record d { book = book })
-kept_more d roomy book e n more rec was allowed few =
+-- an entry is recorded where room was made for it, a stop and all leases
+pub kept_more_with : (d : Inside) (roomy book : Recorded) (stores : Stored) (e : Entry) (n : ℕ) → HasRoom d.book roomy (length (live (reverse d.book.entries)) + n + 2) → IsRecorded roomy book e → IsKept d → IsAllowed (premises_of d.inputs) e (reverse d.book.entries)
+    → length (live (e ∷ reverse d.book.entries)) ≤ length (live (reverse d.book.entries)) + n → AreStored (premises_of d.inputs) (e ∷ reverse d.book.entries) stores → IsKept (record d { book = book; stores = stores })
+kept_more_with d roomy book stores e n more rec was allowed few stored =
     let P : List Entry → Type 0 = λ es. IsAllowed (premises_of d.inputs) e (reverse es) in
     let Q : List Entry → Type 0 = λ es. room_for (e ∷ reverse es) + 1 ≤ roomy.room in
+    let R : List Entry → Type 0 = λ es. AreStored (premises_of d.inputs) (e ∷ reverse es) stores in
     let bit = stop_bit (has_stop (e ∷ reverse d.book.entries)) in
     let had = more.more in
-    kept (record d { book = roomy }) book e rec (kept_room d roomy (length (live (reverse d.book.entries)) + n + 2) more was)
+    kept_with (record d { book = roomy }) book stores e rec (kept_room d roomy (length (live (reverse d.book.entries)) + n + 2) more was)
     (subst P (sym more.entries) allowed)
     (subst Q (sym more.entries) (omega arith))
+    (subst R (sym more.entries) stored)
+
+-- an entry that is no start and no build, and makes no more than one lease
+pub kept_more : (d : Inside) (roomy book : Recorded) (e : Entry) (n : ℕ) → HasRoom d.book roomy (length (live (reverse d.book.entries)) + n + 2) → IsRecorded roomy book e → IsKept d → IsAllowed (premises_of d.inputs) e (reverse d.book.entries)
+    → length (live (e ∷ reverse d.book.entries)) ≤ length (live (reverse d.book.entries)) + n → is_quiet e ≡ true → IsKept (record d { book = book })
+kept_more d roomy book e n more rec was allowed few quiet =
+    kept_more_with d roomy book d.stores e n more rec was allowed few (stored_quiet (premises_of d.inputs) (reverse d.book.entries) e d.stores quiet was.stores)
 
 -- the load of a machine is a small number
 pub small_load : (d : Inside) → IsKept d → (m : ℕ) → load m (reverse d.book.entries) ≤ 65535
@@ -161,3 +184,51 @@ live_grows past (Started d paths) = omega arith
 live_grows past Stop = omega arith
 live_grows past (Drain m) = omega arith
 live_grows past (Enable m) = omega arith
+
+-- a step is no start and no build
+pub step_quiet : (e : Entry) (d : ℕ) → step_drv e ≡ Some d → is_quiet e ≡ true
+step_quiet (Started c paths) d h = cc
+step_quiet (Built c refs) d h = cc
+step_quiet e d h = refl
+
+-- what was kept with other room for references and holdings is kept
+pub kept_stores : (d : Inside) (stores : Stored) → IsSameStored d.stores stores → IsKept d → IsKept (record d { stores = stores })
+kept_stores d stores same was = record {
+  legal = was.legal;
+  room = was.room;
+  sound = was.sound;
+  drvs = was.drvs;
+  park = was.park;
+  few = was.few;
+  small = was.small;
+  stores = stored_same (premises_of d.inputs) (reverse d.book.entries) d.stores stores same was.stores;
+}
+
+-- ---- starts, and builds that end
+
+pub kept_started : (d : Inside) (roomy book : Recorded) (mid new : Stored) (t : Ticket) (paths : List (List ℕ)) (a : Additions) (e : Entry) → e ≡ Started t.drv paths → IsRoomier d.book roomy → IsRecorded roomy book e → IsKept d → IsSameStored d.stores mid
+    → IsReadyToStart (premises_of d.inputs) (reverse d.book.entries) t paths roomy mid a → HasTaken mid new a → IsKept (record d { book = book; stores = new })
+kept_started d roomy book mid new t paths a e is more rec was same ready took =
+    let i = premises_of d.inputs in
+    let past = reverse d.book.entries in
+    let P : Entry → Type 0 = λ e. IsRecorded roomy book e in
+    let leased = found_leased t.drv past t ready.live in
+    let had = ready.room in
+    kept_more_with d roomy book new (Started t.drv paths) 0
+    (record { entries = more.entries; drvs = more.drvs; machines = more.machines; room = more.room; more = omega arith })
+    (subst P is rec) was
+    (record { ranged = leased_ranged i past was.legal t.drv leased; may = record { ticket = t; live = ready.live; fresh = ready.fresh; right = ready.right } })
+    (omega arith)
+    (stored_start i past t.drv t paths mid new a was.legal ready.live (stored_same i past d.stores mid same was.stores) ready.adds took)
+
+pub kept_built : (d : Inside) (book : Recorded) (mid new : Stored) (t : Ticket) (refs : List (List (List ℕ))) (a : Additions) (e : Entry) → e ≡ Built t.drv refs → IsRecorded d.book book e → IsKept d → IsSameStored d.stores mid
+    → IsReadyToEnd (premises_of d.inputs) (reverse d.book.entries) t refs mid a → HasTaken mid new a → IsKept (record d { book = book; stores = new })
+kept_built d book mid new t refs a e is rec was same ready took =
+    let i = premises_of d.inputs in
+    let past = reverse d.book.entries in
+    let P : Entry → Type 0 = λ e. IsRecorded d.book book e in
+    let leased = found_leased t.drv past t ready.live in
+    let allowed : IsAllowed i (Built t.drv refs) past = record { ranged = leased_ranged i past was.legal t.drv leased; may = record { live = leased; started = ready.started; right = ready.right } } in
+    kept_with d book new (Built t.drv refs) (subst P is rec) was allowed
+    (let less = fewer t.drv (live past) leased in let room = was.room in omega arith)
+    (stored_built i past t.drv t refs mid new a (allowed, was.legal) ready.live (stored_same i past d.stores mid same was.stores) ready.adds took)

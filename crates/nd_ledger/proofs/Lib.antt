@@ -2,11 +2,11 @@ pub mod Closing
 pub mod Following
 pub mod Gains
 pub mod Headline
+pub mod Joined
 pub mod Keeping
 pub mod Legality
-pub mod Marking
 pub mod Lookalikes
-pub mod Joined
+pub mod Marking
 pub mod OneChoice
 pub mod Provisions
 pub mod Readiness
@@ -14,4 +14,5 @@ pub mod Reported
 pub mod Slots
 pub mod Steps
 pub mod Storing
+pub mod Tickets
 pub mod Turned

@@ -9,6 +9,7 @@ use Rattle.nd_ledger.specs.History.{live, has_stop}
 use Rattle.nd_ledger.specs.Standing.{drvs_in}
 use Rattle.nd_ledger.specs.Choices.{AreSmall}
 use Rattle.nd_ledger.specs.Legal.{IsLegal}
+use Rattle.nd_ledger.specs.Stored.{AreStored}
 
 abbrev pub seen : Inside → World
 seen d = record { inputs = premises_of d.inputs; history = d.book.entries }
@@ -28,3 +29,5 @@ pub record IsKept (d : Inside) : Type 0 where
   pub few : length d.inputs.machines ≤ 1024
   -- no machine builds more at once than may be asked for
   pub small : AreSmall (premises_of d.inputs)
+  -- what is kept of references and holdings follows the history
+  pub stores : AreStored (premises_of d.inputs) (reverse d.book.entries) d.stores

@@ -9,6 +9,7 @@ pub mod Inner
 pub mod Kept
 pub mod Legal
 pub mod Marks
+pub mod Moves
 pub mod Premises
 pub mod Pumping
 pub mod References

@@ -1,6 +1,6 @@
 //! The dispatch: leases and their history.
 
-ghost use Rattle.std.specs.Prelude.{◌≡◌, ℕ, ◌+◌, ◌<◌, ◌≤◌, ◌++◌, [], ◌∷◌, List, false, length, reverse, IfOk, OnOk, IfErr, OnErr, IsOk, IsTrue, ◌↔◌};
+ghost use Rattle.std.specs.Prelude.{◌≡◌, ℕ, ◌+◌, ◌<◌, ◌≤◌, ◌++◌, [], ◌∷◌, List, false, length, reverse, IfOk, OnOk, IfErr, OnErr, IsOk};
 ghost use Rattle.nd_ledger.specs.History.{live, lease_of, current_of, load, is_started, is_up, has_stop};
 ghost use Rattle.nd_ledger.specs.Choices.{machines_in, HasReply};
 ghost use Rattle.nd_ledger.specs.Legal.{IsLegal};
@@ -8,20 +8,25 @@ ghost use Rattle.nd_ledger.specs.Closing.{StartsAreProvisioned};
 ghost use Rattle.nd_ledger.specs.Headline.{SlotsAreLeases, LeasesAreInOrder, StartsAreEligible, ChoicesAreBest};
 ghost use Rattle.nd_ledger.specs.Pumping.{HasPumped, HasPumpedBy, AreAtRest};
 ghost use Rattle.nd_choose.specs.Best.{jobs_at};
+ghost use Rattle.nd_ledger.specs.Moves.{IsStartRefused, IsEndRefused, IsJobRefused};
+ghost use Rattle.nd_ledger.specs.Stored.{IsMissing};
 ghost use Rattle.nd_ledger.specs.Refusals.{IsLive, IsFailRefused, IsDownRefused, IsStopRefused};
 
 use crate::book::Book;
 use crate::deciding::reply_now;
 use crate::entry::{Entry, Ticket, Why};
 use crate::inputs::{Inputs, Parts};
-use crate::refusal::Refusal;
+use crate::moving::{is_live, prepare_end, prepare_start};
+use crate::refusal::{Refusal, Refused};
 use crate::stepping::next_step;
+use crate::stores::Stores;
 use nd_bytes::Items;
-use nd_closure::RefTable;
+use nd_closure::{RefTable, Refs};
 use nd_eligible::Local;
 use nd_graph::Graph;
 use nd_hook::Reply;
 use nd_machines::Machine;
+use nd_path::PathSet;
 use std::alloc::{AllocError, Global};
 use std::marker::Model;
 
@@ -31,6 +36,7 @@ use std::marker::Model;
 pub struct Dispatch {
     inputs: Inputs,
     book: Book,
+    stores: Stores,
 }
 
 impl Model for Dispatch {
@@ -64,6 +70,75 @@ impl Dispatch {
             self.book.record(step);
         }
         Ok(self.book.entries().len() - before)
+    }
+
+    /// A build starts, after these paths were copied to its machine.
+    ///
+    /// Refuses with `NotLive` (1) where the ticket is not a live lease's, then with `AlreadyStarted`
+    /// (2) where the lease was started, then with `Uncovered` (4) where a path of the input closure is
+    /// neither held by the machine nor copied, then with `Extra` (5) where a copied path is outside the
+    /// closure, and with `Memory` (8) where an allocation is refused. The paths come back then.
+    pub fn started(
+        &mut self,
+        alloc: Global,
+        ticket: Ticket,
+        paths: PathSet,
+    ) -> Result<(), Refused<PathSet>>
+        ensures ok { OnOk result (self.new ≡ record self.old { history = self.old.history ++ Entry.Started ticket.drv paths ∷ [] }) }
+        ensures refused { IfErr result (λ e. IsStartRefused self.old.inputs (reverse self.old.history) ticket paths e.why) }
+        ensures err { OnErr result (self.new ≡ self.old) }
+        ensures back { IfErr result (λ e. e.value ≡ paths) }
+    {
+        match prepare_start(alloc, &self.inputs, &mut self.book, &mut self.stores, ticket, &paths) {
+            Ok(additions) => {
+                self.book.record(Entry::Started {
+                    drv: ticket.drv,
+                    paths,
+                });
+                self.stores.take_in(additions);
+                Ok(())
+            }
+            Err(why) => Err(Refused { why, value: paths }),
+        }
+    }
+
+    /// A build ends with its outputs, which have these references.
+    ///
+    /// Refuses with `NotLive` (1) where the ticket is not a live lease's, then with `NotStarted` (3)
+    /// where the lease was not started, then with `BadReferences` (6) where there is not one set per
+    /// output, or a reference is neither in the input closure nor an output, and with `Memory` (8)
+    /// where an allocation is refused. The references come back then.
+    pub fn built(&mut self, alloc: Global, ticket: Ticket, refs: Refs) -> Result<(), Refused<Refs>>
+        ensures ok { OnOk result (self.new ≡ record self.old { history = self.old.history ++ Entry.Built ticket.drv refs ∷ [] }) }
+        ensures refused { IfErr result (λ e. IsEndRefused self.old.inputs (reverse self.old.history) ticket refs e.why) }
+        ensures err { OnErr result (self.new ≡ self.old) }
+        ensures back { IfErr result (λ e. e.value ≡ refs) }
+    {
+        match prepare_end(alloc, &self.inputs, &self.book, &mut self.stores, ticket, &refs) {
+            Ok(additions) => {
+                self.book.record(Entry::Built {
+                    drv: ticket.drv,
+                    refs,
+                });
+                self.stores.take_in(additions);
+                Ok(())
+            }
+            Err(why) => Err(Refused { why, value: refs }),
+        }
+    }
+
+    /// The paths of the lease's input closure that its machine doesn't hold now.
+    ///
+    /// Refuses with `NotLive` (1) where the ticket is not a live lease's, and with `Memory` (8) where an
+    /// allocation is refused.
+    pub fn missing(&self, alloc: Global, ticket: &Ticket) -> Result<PathSet, Refusal>
+        ensures ok { IfOk result (IsMissing self.now.inputs (reverse self.now.history) ticket.now.drv ticket.now.machine) }
+        ensures refused { IfErr result (IsJobRefused (reverse self.now.history) ticket.now) }
+    {
+        if !is_live(&self.book, *ticket) {
+            return Err(Refusal::NotLive);
+        }
+        Ok(self.stores.missing(alloc, &self.inputs, ticket.drv as usize, ticket.machine as usize)?)
     }
 
     /// The end of a lease without its outputs. It takes no memory.
@@ -171,6 +246,15 @@ impl Dispatch {
                 keep_going,
             });
         };
+        let Ok(stores) = Stores::new(alloc, &graph, machines.len(), &info) else {
+            return Err(Parts {
+                graph,
+                machines,
+                local,
+                info,
+                keep_going,
+            });
+        };
         learn_jobs(machines.as_slice(), &local);
         Ok(Dispatch {
             inputs: Inputs {
@@ -181,6 +265,7 @@ impl Dispatch {
                 keep_going,
             },
             book,
+            stores,
         })
     }
 
@@ -265,16 +350,6 @@ impl Dispatch {
         ensures { result.now ≡ self.now.inputs.local }
     {
         &self.inputs.local
-    }
-}
-
-/// Whether the ticket is a live lease's.
-fn is_live(book: &Book, ticket: Ticket) -> bool
-    ensures { IsTrue result ↔ IsLive (reverse book.now.entries) ticket }
-{
-    match book.lease(ticket.drv) {
-        Some(found) => found == ticket,
-        None => false,
     }
 }
 

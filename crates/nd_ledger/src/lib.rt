@@ -10,6 +10,7 @@ pub mod entry;
 mod finding;
 pub mod inputs;
 pub mod laws;
+mod moving;
 mod needs;
 pub mod refusal;
 mod standing;

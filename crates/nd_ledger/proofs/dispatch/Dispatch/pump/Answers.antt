@@ -5,7 +5,7 @@ use Rattle.nd_ledger.specs.Worlds.{World}
 use Rattle.nd_ledger.specs.Premises.{Premises, premises_of}
 use Rattle.nd_ledger.specs.Pumping.{IsPumpStep}
 use Rattle.nd_ledger.proofs.Following.{newest_first}
-use Rattle.nd_ledger.proofs.Keeping.{kept_more, live_grows}
+use Rattle.nd_ledger.proofs.Keeping.{kept_more, live_grows, step_quiet}
 use Rattle.nd_ledger.proofs.Steps.{pumped_more, pump_smaller, pump_counted}
 use Rattle.nd_ledger.proofs.dispatch.Dispatch.pump.Goals as goal
 
@@ -23,7 +23,7 @@ loop-step-preserved c =
           kept_more d c.make_room.new.self c.record.new.self e 1
           (record { entries = m.entries; drvs = m.drvs; machines = m.machines; room = m.kept; more = many })
           (record { entries = r.entries; room = r.room; drvs = r.drvs; machines = r.machines })
-          inv.kept c.in-Some.ensures.step.allowed (live_grows (reverse d.book.entries) e);
+          inv.kept c.in-Some.ensures.step.allowed (live_grows (reverse d.book.entries) e) (step_quiet e c.in-Some.ensures.drv c.in-Some.ensures.step.about);
       same = inv.same;
       pumped = pumped_more _ _ d.book.entries c.record.new.self.entries e inv.pumped (r.entries ∙ ap (λ (es : List Entry). es ++ e ∷ []) m.entries) (subst P inv.same c.in-Some.ensures);
     }

@@ -1,0 +1,10 @@
+use Rattle.std.proofs.Common.{refl}
+use Rattle.nd_ledger.proofs.Keeping.{kept_built}
+use Rattle.nd_ledger.proofs.dispatch.Dispatch.built.Goals as goal
+
+pub invariant_of-self : goal.invariant_of-self
+invariant_of-self c =
+    let r = c.record.ensures in
+    kept_built c.self.inside c.record.new.self c.prepare_end.new.stores c.take_in.new.self c.args.ticket c.args.refs c.in-Ok.additions _ refl
+    (record { entries = r.entries; room = r.room; drvs = r.drvs; machines = r.machines })
+    c.self.invariant c.in-Ok.ensures.stores c.in-Ok.ensures.ready c.take_in.ensures

@@ -1,0 +1,21 @@
+use Rattle.std.proofs.Common.{◌+◌, ◌<◌, ◌≤◌, length, reverse, refl, sym, subst, arith}
+use Rattle.nd_ledger.specs.declared.entry.Entry.TheVariants.{Drain}
+use Rattle.nd_ledger.specs.Choices.{machines_in}
+use Rattle.nd_ledger.specs.History.{live}
+use Rattle.nd_ledger.specs.Premises.{premises_of}
+use Rattle.nd_ledger.specs.Worlds.{World}
+use Rattle.nd_ledger.proofs.Keeping.{kept_more}
+use Rattle.nd_ledger.proofs.dispatch.Dispatch.drain.Goals as goal
+
+pub invariant_of-self-2 : goal.invariant_of-self-2
+invariant_of-self-2 c =
+    let d = c.self.inside in
+    let m = c.in_ok-make_room.ensures in
+    let r = c.record.ensures in
+    let many : length (live (reverse d.book.entries)) + 0 + 2 ≤ c.make_room.new.self.room = (let made = m.made in let is = c.live_len-room.ensures.live in omega arith) in
+    let P = λ (w : World). c.args.machine < machines_in w.inputs in
+    let ranged : c.args.machine < machines_in (premises_of d.inputs) = subst P (sym c.self.view_is) c.requires in
+    kept_more d c.make_room.new.self c.record.new.self (Drain c.args.machine) 0
+    (record { entries = m.entries; drvs = m.drvs; machines = m.machines; room = m.kept; more = many })
+    (record { entries = r.entries; room = r.room; drvs = r.drvs; machines = r.machines })
+    c.self.invariant (record { ranged = ranged; may = tt }) (omega arith) refl

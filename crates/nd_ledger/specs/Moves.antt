@@ -1,0 +1,81 @@
+-- When starts, ends of builds and questions about copies are refused, and what they need before they are recorded.
+-- The histories of these definitions stand newest first.
+use Rattle.std.specs.Prelude.{◌≡◌, ℕ, ◌+◌, ◌≤◌, true, false, List, length}
+use Rattle.nd_ledger.specs.declared.refusal.Refusal.{Refusal}
+use Rattle.nd_ledger.specs.declared.refusal.Refusal.TheVariants.{NotLive, AlreadyStarted, NotStarted, Uncovered, Extra, BadReferences, AlreadyStopped, Memory}
+use Rattle.nd_ledger.specs.declared.copying.Additions.{Additions}
+use Rattle.nd_ledger.specs.declared.copying.PathsFault.{PathsFault}
+use Rattle.nd_ledger.specs.declared.copying.PathsFault.TheVariants.{Uncovered as Bare, Extra as Beside, Memory as NoMemory}
+use Rattle.nd_ledger.specs.declared.entry.Entry.{Entry}
+use Rattle.nd_ledger.specs.declared.entry.Ticket.{Ticket}
+use Rattle.nd_ledger.specs.Books.{Recorded}
+use Rattle.nd_ledger.specs.Premises.{Premises}
+use Rattle.nd_ledger.specs.History.{live as leases, is_started}
+use Rattle.nd_ledger.specs.Refusals.{IsLive}
+use Rattle.nd_ledger.specs.References.{ArePathsRight, AreReferencesRight}
+use Rattle.nd_ledger.specs.Stored.{Stored, Fits, AreStartAdditions, AreBuiltAdditions, IsUncovered, IsExtra}
+
+-- `started` is refused where the ticket isn't a live lease's, then where the lease was started, then where a path of the closure is
+-- lacking, then where a copied path is outside it; memory may be wanting at any point
+abbrev pub IsStartRefused : Premises → List Entry → Ticket → List (List ℕ) → Refusal → Type 0
+IsStartRefused i past t paths NotLive = IsLive past t → ⊥
+IsStartRefused i past t paths AlreadyStarted = IsLive past t × (is_started t.drv past ≡ true)
+IsStartRefused i past t paths Uncovered = IsLive past t × (is_started t.drv past ≡ false) × IsUncovered i past t.drv t.machine paths
+IsStartRefused i past t paths Extra = IsLive past t × (is_started t.drv past ≡ false) × IsExtra i past t.drv t.machine paths
+IsStartRefused i past t paths Memory = Unit {0}
+IsStartRefused i past t paths NotStarted = ⊥
+IsStartRefused i past t paths BadReferences = ⊥
+IsStartRefused i past t paths AlreadyStopped = ⊥
+
+-- `built` is refused where the ticket isn't a live lease's, then where the lease was not started, then where the references aren't
+-- right; memory may be wanting at any point
+abbrev pub IsEndRefused : Premises → List Entry → Ticket → List (List (List ℕ)) → Refusal → Type 0
+IsEndRefused i past t refs NotLive = IsLive past t → ⊥
+IsEndRefused i past t refs NotStarted = IsLive past t × (is_started t.drv past ≡ false)
+IsEndRefused i past t refs BadReferences = IsLive past t × (is_started t.drv past ≡ true) × (AreReferencesRight i past t.drv refs → ⊥)
+IsEndRefused i past t refs Memory = Unit {0}
+IsEndRefused i past t refs AlreadyStarted = ⊥
+IsEndRefused i past t refs Uncovered = ⊥
+IsEndRefused i past t refs Extra = ⊥
+IsEndRefused i past t refs AlreadyStopped = ⊥
+
+-- `missing` and `job` are refused where the ticket isn't a live lease's; memory may be wanting at any point
+abbrev pub IsJobRefused : List Entry → Ticket → Refusal → Type 0
+IsJobRefused past t NotLive = IsLive past t → ⊥
+IsJobRefused past t Memory = Unit {0}
+IsJobRefused past t AlreadyStarted = ⊥
+IsJobRefused past t NotStarted = ⊥
+IsJobRefused past t Uncovered = ⊥
+IsJobRefused past t Extra = ⊥
+IsJobRefused past t BadReferences = ⊥
+IsJobRefused past t AlreadyStopped = ⊥
+
+-- the refusal of paths that aren't right
+abbrev pub refusal_for : PathsFault → Refusal
+refusal_for Bare = Uncovered
+refusal_for Beside = Extra
+refusal_for NoMemory = Memory
+
+-- the book is as it was, with as much room or more
+pub record IsRoomier (old new : Recorded) : Type 0 where
+  pub entries : new.entries ≡ old.entries
+  pub drvs : new.drvs ≡ old.drvs
+  pub machines : new.machines ≡ old.machines
+  pub room : old.room ≤ new.room
+
+-- a start that may be recorded, with all the memory that it takes
+pub record IsReadyToStart (i : Premises) (past : List Entry) (t : Ticket) (paths : List (List ℕ)) (book : Recorded) (stores : Stored) (a : Additions) : Type 0 where
+  pub live : IsLive past t
+  pub fresh : is_started t.drv past ≡ false
+  pub right : ArePathsRight i past t.drv t.machine paths
+  pub room : length (leases past) + 2 ≤ book.room
+  pub fits : Fits stores a
+  pub adds : AreStartAdditions t.machine paths a
+
+-- the end of a build that may be recorded, with all the memory that it takes
+pub record IsReadyToEnd (i : Premises) (past : List Entry) (t : Ticket) (refs : List (List (List ℕ))) (stores : Stored) (a : Additions) : Type 0 where
+  pub live : IsLive past t
+  pub started : is_started t.drv past ≡ true
+  pub right : AreReferencesRight i past t.drv refs
+  pub fits : Fits stores a
+  pub adds : AreBuiltAdditions i t.drv t.machine refs a
