@@ -1,14 +1,13 @@
 -- Lists of what derivations need.
-use Rattle.std.proofs.Common.{◌≡◌, ◌⊎◌, ℕ, zero, suc, ◌+◌, ◌<◌, ◌≤◌, List, [], ◌∷◌, ◌++◌, length, get_or, take, map, refl, sym, ap, subst, ◌∙◌, arith, inl, inr, Some}
-use Rattle.std.specs.Prelude.{◌↔◌}
+use Rattle.std.proofs.Common.{◌≡◌, ℕ, zero, suc, ◌+◌, ◌<◌, List, [], ◌∷◌, ◌++◌, length, get_or, take, map, sym, ap, subst, ◌∙◌, arith, inl, inr, Some}
 use Rattle.std.specs.List.{Contains, flat_map, slice_get}
 use Rattle.std.proofs.lemmas.List.{get_or-map, length-map, get_or_default, flat_map_more, take_more}
-use Rattle.std.proofs.lemmas.Option.{slice_get-get_or, slice_get_within, get_or_from_slice_get}
+use Rattle.std.proofs.lemmas.Option.{slice_get-get_or, get_or_from_slice_get}
 use Rattle.std.proofs.lemmas.List.Elements.{Contains-append_left, Contains-append_right, Contains-append_cases, Contains-get_or}
 use Rattle.nd_graph.specs.declared.graph.Input.{Input}
 use Rattle.nd_graph.specs.Graphs.{nodes_of, IsSound}
 use Rattle.nd_ledger.specs.Premises.{Premises}
-use Rattle.nd_ledger.specs.References.{sources_of, outputs_of, inputs_at, IsSource, IsNamedBy, IsNeededBy}
+use Rattle.nd_ledger.specs.References.{sources_of, outputs_of, inputs_at, IsSource, IsNeededBy}
 use Rattle.nd_ledger.specs.Stored.{AreSources, AreNeeded, named_outputs}
 use Rattle.nd_ledger.proofs.Closing.{node_needed}
 use Rattle.nd_ledger.proofs.Reported.{nothing_in, contains_here, contains_there, contains_cases}

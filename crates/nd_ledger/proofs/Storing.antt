@@ -1,5 +1,5 @@
 -- What is kept of references and holdings tells the definitions over the history, and follows it.
-use Rattle.std.proofs.Common.{◌≡◌, ◌≢◌, ◌⊎◌, ℕ, zero, suc, ◌+◌, ◌<◌, ◌≤◌, Bool, true, false, ◌||◌, ◌&&◌, ◌==◌, if◌then◌else◌, cond, List, [], ◌∷◌, ◌++◌, length, refl, sym, ap, subst, ◌∙◌, arith, inl, inr, Option, Some, None, count_by, eq-eqb}
+use Rattle.std.proofs.Common.{◌≡◌, ◌≢◌, ◌⊎◌, ℕ, zero, suc, ◌+◌, ◌<◌, ◌≤◌, Bool, true, false, ◌||◌, ◌&&◌, ◌==◌, if◌then◌else◌, cond, List, [], ◌∷◌, ◌++◌, length, refl, sym, ap, subst, ◌∙◌, arith, inl, inr, Option, Some, count_by, eq-eqb}
 use Rattle.std.specs.Prelude.{◌↔◌}
 use Rattle.std.specs.Bool.{MatchBool}
 use Rattle.std.specs.List.{Contains, find, list_any, zip}
@@ -17,19 +17,18 @@ use Rattle.nd_closure.specs.Closures.{IsReached, HoldsAll}
 use Rattle.nd_closure.specs.Closures.IsReached.{seed as start, step as onward}
 use Rattle.nd_closure.proofs.Members.{member_by_test}
 use Rattle.nd_ledger.specs.declared.entry.Entry.{Entry}
-use Rattle.nd_ledger.specs.declared.entry.Entry.TheVariants.{Chosen, NoBuilder, Started, Down, Built, Failed, Stop, Drain, Enable}
+use Rattle.nd_ledger.specs.declared.entry.Entry.TheVariants.{Started, Built}
 use Rattle.nd_ledger.specs.declared.entry.Ticket.{Ticket}
 use Rattle.nd_ledger.specs.declared.copying.Additions.{Additions}
-use Rattle.nd_ledger.specs.declared.copying.PathsFault.TheVariants.{Uncovered, Extra, Memory}
+use Rattle.nd_ledger.specs.declared.copying.PathsFault.TheVariants.{Uncovered, Extra}
 use Rattle.nd_ledger.specs.Premises.{Premises}
-use Rattle.nd_ledger.specs.History.{live, lease_of, builds, is_built}
+use Rattle.nd_ledger.specs.History.{live, lease_of, is_built}
 use Rattle.nd_ledger.specs.Choices.{machines_in}
 use Rattle.nd_ledger.specs.Legal.{IsLegal}
-use Rattle.nd_ledger.specs.References.{IsAlong, outputs_of, IsOutputOf, IsSource, IsGiven, reports, Refers, IsNeededBy, IsInClosure, IsBuiltPath, is_leased_on, brought, IsHeld}
+use Rattle.nd_ledger.specs.References.{IsAlong, outputs_of, IsGiven, reports, Refers, IsBuiltPath, is_leased_on, brought, IsHeld}
 use Rattle.nd_ledger.specs.References.IsAlong.{seed, step}
 use Rattle.nd_ledger.specs.References.Refers.{listed, reported}
-use Rattle.nd_ledger.specs.Stored.{Stored, LooksLike, IsGivenTable, AreReferences, AreHoldings, AreStored, is_quiet, IsSameStored, AreGivenEntries, AreNeeded, AreSources, IsClosureBy, IsMissing, IsMissingBy, ArePathsRightBy, IsPathsFaultBy, AreReferencesRightBy, IsCovered, IsBare, IsOutside, AreAllWithin, IsStray, HasGained, HasTaken, AreStartAdditions, AreBuiltAdditions}
-use Rattle.nd_ledger.proofs.Legality.{leased_fresh}
+use Rattle.nd_ledger.specs.Stored.{Stored, LooksLike, IsGivenTable, AreReferences, AreStored, is_quiet, IsSameStored, AreGivenEntries, AreNeeded, AreSources, IsClosureBy, IsMissingBy, ArePathsRightBy, IsPathsFaultBy, AreReferencesRightBy, IsCovered, IsBare, IsOutside, AreAllWithin, IsStray, HasGained, HasTaken, AreStartAdditions, AreBuiltAdditions}
 use Rattle.nd_ledger.proofs.Slots.{lease_once, count_cons}
 use Rattle.nd_ledger.proofs.Reported.{rest_true, or_true, one_of, nothing_in, contains_cases, refs_first, refs_second, built_on}
 use Rattle.nd_ledger.proofs.Closing.{along_more, refers_alike}

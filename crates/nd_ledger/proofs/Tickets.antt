@@ -1,9 +1,8 @@
 -- What a live lease names is there.
-use Rattle.std.proofs.Common.{◌≡◌, ◌==◌, ℕ, zero, suc, ◌+◌, ◌<◌, ◌≤◌, Bool, true, false, length, map, reverse, Some, sym, subst, ◌∙◌, arith, List}
+use Rattle.std.proofs.Common.{◌≡◌, ◌==◌, ℕ, zero, suc, ◌<◌, ◌≤◌, Bool, true, false, length, map, reverse, arith, List}
 use Rattle.std.specs.Bool.{MatchBool}
 use Rattle.std.proofs.lemmas.List.{length-map}
 use Rattle.nd_graph.specs.Graphs.{nodes_of}
-use Rattle.nd_ledger.specs.declared.refusal.Refusal.{Refusal}
 use Rattle.nd_ledger.specs.declared.copying.PathsFault.{PathsFault}
 use Rattle.nd_ledger.specs.declared.copying.PathsFault.TheVariants.{Uncovered, Extra, Memory}
 use Rattle.nd_ledger.specs.declared.entry.Entry.{Entry}

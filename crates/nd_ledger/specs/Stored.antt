@@ -1,22 +1,21 @@
 -- What is kept beside the entries of references and holdings, so that closures and copies are found without a search of the history.
 -- The histories of these definitions stand newest first.
-use Rattle.std.specs.Prelude.{◌≡◌, ◌≢◌, ℕ, ◌+◌, ◌<◌, ◌≤◌, ◌↔◌, ◌⊎◌, IsTrue, Bool, true, false, List, [], ◌∷◌, ◌++◌, length, map, ◌==◌, if◌then◌else◌}
+use Rattle.std.specs.Prelude.{◌≡◌, ◌≢◌, ℕ, ◌<◌, ◌≤◌, ◌↔◌, ◌⊎◌, IsTrue, Bool, true, false, List, [], ◌∷◌, ◌++◌, length, map, ◌==◌, if◌then◌else◌}
 use Rattle.std.specs.List.{Contains, slice_index_or, zip}
 use Rattle.std.specs.Bool.{MatchBool}
 use Rattle.nd_path.specs.PathSets.{HasSameMembers}
 use Rattle.nd_graph.specs.declared.graph.Input.{Input}
 use Rattle.nd_graph.specs.Graphs.{Nodes}
 use Rattle.nd_closure.specs.Tables.{is_listed, refs_of}
-use Rattle.nd_closure.specs.Closures.{HoldsAll}
 use Rattle.nd_closure.specs.Sets.{Stock, stock_of}
 use Rattle.nd_ledger.specs.declared.entry.Entry.{Entry}
-use Rattle.nd_ledger.specs.declared.entry.Entry.TheVariants.{Chosen, NoBuilder, Started, Down, Built, Failed, Stop, Drain, Enable}
+use Rattle.nd_ledger.specs.declared.entry.Entry.TheVariants.{Started, Built}
 use Rattle.nd_ledger.specs.declared.copying.Additions.{Additions}
 use Rattle.nd_ledger.specs.declared.copying.PathsFault.{PathsFault}
 use Rattle.nd_ledger.specs.declared.copying.PathsFault.TheVariants.{Uncovered, Extra, Memory}
 use Rattle.nd_ledger.specs.Premises.{Premises}
 use Rattle.nd_ledger.specs.Choices.{machines_in}
-use Rattle.nd_ledger.specs.References.{outputs_of, IsOutputOf, IsSource, IsGiven, reports, IsNeededBy, IsInClosure, IsHeld, ArePathsRight, AreReferencesRight}
+use Rattle.nd_ledger.specs.References.{outputs_of, IsSource, IsGiven, reports, IsNeededBy, IsInClosure, IsHeld, ArePathsRight, AreReferencesRight}
 
 -- a table of references with its reserved room, and what each machine holds
 pub record Stored : Type 0 where

@@ -89,7 +89,14 @@ impl Dispatch {
         ensures err { OnErr result (self.new ≡ self.old) }
         ensures back { IfErr result (λ e. e.value ≡ paths) }
     {
-        match prepare_start(alloc, &self.inputs, &mut self.book, &mut self.stores, ticket, &paths) {
+        match prepare_start(
+            alloc,
+            &self.inputs,
+            &mut self.book,
+            &mut self.stores,
+            ticket,
+            &paths,
+        ) {
             Ok(additions) => {
                 self.book.record(Entry::Started {
                     drv: ticket.drv,
@@ -114,7 +121,14 @@ impl Dispatch {
         ensures err { OnErr result (self.new ≡ self.old) }
         ensures back { IfErr result (λ e. e.value ≡ refs) }
     {
-        match prepare_end(alloc, &self.inputs, &self.book, &mut self.stores, ticket, &refs) {
+        match prepare_end(
+            alloc,
+            &self.inputs,
+            &self.book,
+            &mut self.stores,
+            ticket,
+            &refs,
+        ) {
             Ok(additions) => {
                 self.book.record(Entry::Built {
                     drv: ticket.drv,
@@ -138,7 +152,14 @@ impl Dispatch {
         if !is_live(&self.book, *ticket) {
             return Err(Refusal::NotLive);
         }
-        Ok(self.stores.missing(alloc, &self.inputs, ticket.drv as usize, ticket.machine as usize)?)
+        Ok(
+            self.stores.missing(
+                alloc,
+                &self.inputs,
+                ticket.drv as usize,
+                ticket.machine as usize,
+            )?,
+        )
     }
 
     /// The end of a lease without its outputs. It takes no memory.

@@ -7,17 +7,15 @@ ghost use Rattle.nd_ledger.specs.Premises.{premises_of};
 ghost use Rattle.nd_ledger.specs.Refusals.{IsLive};
 ghost use Rattle.nd_ledger.specs.Stored.{AreStored, IsSameStored};
 
-use std::alloc::Global;
-
-use nd_closure::Refs;
-use nd_path::PathSet;
-
 use crate::book::Book;
 use crate::copying::{Additions, PathsFault};
 use crate::entry::Ticket;
 use crate::inputs::Inputs;
 use crate::refusal::Refusal;
 use crate::stores::Stores;
+use nd_closure::Refs;
+use nd_path::PathSet;
+use std::alloc::Global;
 
 /// Whether the ticket is a live lease's.
 pub(crate) fn is_live(book: &Book, ticket: Ticket) -> bool
@@ -85,7 +83,13 @@ pub(crate) fn prepare_end(
     if !right {
         return Err(Refusal::BadReferences);
     }
-    Ok(stores.prepare_built(alloc, inputs, ticket.drv as usize, ticket.machine as usize, refs)?)
+    Ok(stores.prepare_built(
+        alloc,
+        inputs,
+        ticket.drv as usize,
+        ticket.machine as usize,
+        refs,
+    )?)
 }
 
 /// The refusal of a call with paths that aren't right.

@@ -1,4 +1,4 @@
-use Rattle.std.proofs.Common.{List, ℕ, [], ◌∷◌, ◌++◌, take, ap, sym, ◌∙◌}
+use Rattle.std.proofs.Common.{List, ℕ, [], ◌∷◌, ◌++◌, take, ap, ◌∙◌}
 use Rattle.std.specs.List.{zip}
 use Rattle.nd_ledger.proofs.Gains.{beside_more, beside_all}
 use Rattle.nd_ledger.proofs.copying.copy_beside.Goals as goal

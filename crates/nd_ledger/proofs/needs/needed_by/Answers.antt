@@ -1,9 +1,9 @@
-use Rattle.std.proofs.Common.{◌≡◌, ◌<◌, ◌≤◌, List, ℕ, [], ◌++◌, length, map, get_or, take, sym, ap, ◌∙◌, subst}
+use Rattle.std.proofs.Common.{◌≡◌, ◌<◌, ◌≤◌, List, ℕ, [], ◌++◌, length, map, get_or, sym, ap, ◌∙◌, subst}
 use Rattle.std.specs.List.{Contains, flat_map}
 use Rattle.std.proofs.lemmas.List.{take_all}
 use Rattle.nd_graph.specs.declared.graph.Input.{Input}
 use Rattle.nd_ledger.specs.Premises.{premises_of}
-use Rattle.nd_ledger.specs.References.{sources_of, outputs_of, inputs_at}
+use Rattle.nd_ledger.specs.References.{sources_of, inputs_at}
 use Rattle.nd_ledger.specs.Stored.{AreNeeded, named_outputs}
 use Rattle.nd_ledger.proofs.Gains.{read_there}
 use Rattle.nd_ledger.proofs.Joined.{needed_joined, needed_more, node_there, places_there}

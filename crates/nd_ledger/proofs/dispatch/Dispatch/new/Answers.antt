@@ -1,4 +1,4 @@
-use Rattle.std.proofs.Common.{rules, ◌≡◌, ◌+◌, ◌≤◌, ℕ, List, [], length, reverse, refl, sym, ap, subst, ◌∙◌, arith}
+use Rattle.std.proofs.Common.{◌≡◌, ◌≤◌, ℕ, List, [], length, reverse, refl, sym, ap, subst, ◌∙◌, arith}
 use Rattle.nd_machines.specs.Builders.{Builder}
 use Rattle.nd_choose.specs.Best.{jobs_at}
 use Rattle.nd_ledger.specs.declared.entry.Entry.{Entry}

@@ -5,8 +5,6 @@ use Rattle.std.proofs.lemmas.Bool.{cases_eq}
 use Rattle.nd_graph.specs.Graphs.{Nodes}
 use Rattle.nd_closure.specs.Sets.{Stock, stock_of}
 use Rattle.nd_closure.specs.Closures.{IsReached}
-use Rattle.nd_ledger.specs.Premises.{Premises}
-use Rattle.nd_ledger.specs.Choices.{machines_in}
 use Rattle.nd_ledger.specs.References.{IsGiven}
 use Rattle.nd_ledger.specs.Stored.{AreSources, AreGivenEntries, LooksLike, HasGained}
 use Rattle.nd_ledger.proofs.Lookalikes.{looks_same, looks_through}
