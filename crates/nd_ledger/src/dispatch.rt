@@ -1,6 +1,6 @@
 //! The dispatch: leases and their history.
 
-ghost use Rattle.std.specs.Prelude.{◌≡◌, ℕ, ◌+◌, ◌<◌, ◌≤◌, ◌++◌, [], ◌∷◌, List, false, length, reverse, IfOk, OnOk, IfErr, OnErr, IsOk};
+ghost use Rattle.std.specs.Prelude.{◌≡◌, ℕ, ◌+◌, ◌<◌, ◌≤◌, ◌++◌, [], ◌∷◌, List, false, length, slice_index_or, reverse, IfOk, OnOk, IfErr, OnErr, IsOk};
 ghost use Rattle.nd_ledger.specs.History.{live, lease_of, current_of, load, is_started, is_up, has_stop};
 ghost use Rattle.nd_ledger.specs.Choices.{machines_in, HasReply};
 ghost use Rattle.nd_ledger.specs.Legal.{IsLegal};
@@ -9,6 +9,7 @@ ghost use Rattle.nd_ledger.specs.Headline.{SlotsAreLeases, LeasesAreInOrder, Sta
 ghost use Rattle.nd_ledger.specs.Pumping.{HasPumped, HasPumpedBy, AreAtRest};
 ghost use Rattle.nd_choose.specs.Best.{jobs_at};
 ghost use Rattle.nd_ledger.specs.Moves.{IsStartRefused, IsEndRefused, IsJobRefused};
+ghost use Rattle.nd_ledger.specs.References.{outputs_of};
 ghost use Rattle.nd_ledger.specs.Stored.{IsMissing};
 ghost use Rattle.nd_ledger.specs.Refusals.{IsLive, IsFailRefused, IsDownRefused, IsStopRefused};
 
@@ -16,6 +17,7 @@ use crate::book::Book;
 use crate::deciding::reply_now;
 use crate::entry::{Entry, Ticket, Why};
 use crate::inputs::{Inputs, Parts};
+use crate::job::Job;
 use crate::moving::{is_live, prepare_end, prepare_start};
 use crate::refusal::{Refusal, Refused};
 use crate::stepping::next_step;
@@ -147,6 +149,7 @@ impl Dispatch {
     /// allocation is refused.
     pub fn missing(&self, alloc: Global, ticket: &Ticket) -> Result<PathSet, Refusal>
         ensures ok { IfOk result (IsMissing self.now.inputs (reverse self.now.history) ticket.now.drv ticket.now.machine) }
+        ensures live { OnOk result (IsLive (reverse self.now.history) ticket.now) }
         ensures refused { IfErr result (IsJobRefused (reverse self.now.history) ticket.now) }
     {
         if !is_live(&self.book, *ticket) {
@@ -160,6 +163,28 @@ impl Dispatch {
                 ticket.machine as usize,
             )?,
         )
+    }
+
+    /// What a worker needs to know of a lease: its ticket, the derivation's path, the number of its
+    /// outputs, and the paths that [`Dispatch::missing`] gives.
+    ///
+    /// Refuses with `NotLive` (1) where the ticket is not a live lease's, and with `Memory` (8) where an
+    /// allocation is refused.
+    pub fn job(&self, alloc: Global, ticket: &Ticket) -> Result<Job, Refusal>
+        ensures ticket { IfOk result (λ job. job.ticket ≡ ticket.now) }
+        ensures path { IfOk result (λ job. job.path ≡ slice_index_or self.now.inputs.graph.paths ticket.now.drv []) }
+        ensures outputs { IfOk result (λ job. job.outputs ≡ length (outputs_of self.now.inputs ticket.now.drv)) }
+        ensures paths { IfOk result (λ job. IsMissing self.now.inputs (reverse self.now.history) ticket.now.drv ticket.now.machine job.paths) }
+        ensures refused { IfErr result (IsJobRefused (reverse self.now.history) ticket.now) }
+    {
+        let paths = self.missing(alloc, ticket)?;
+        let drv = ticket.drv as usize;
+        Ok(Job {
+            ticket: *ticket,
+            path: self.inputs.graph.path(drv).try_clone()?,
+            outputs: self.inputs.graph.outputs(drv).len(),
+            paths,
+        })
     }
 
     /// The end of a lease without its outputs. It takes no memory.
