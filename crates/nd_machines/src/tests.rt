@@ -116,7 +116,7 @@ fn builder_limit(rt: HostRuntime) -> Result<(), Fail> {
 
 /// Whether the fields that the other examples leave out are those of the list below.
 fn has_all_fields(machine: &Machine) -> bool {
-    machine.key() == Some(b"/root/key".as_slice())
+    machine.key() == Some(b"/etc/nix".as_slice())
         && machine.speed() == 1_500_000
         && machine.supported().len() == 2
         && machine.supported().contains(b"a")
@@ -127,7 +127,7 @@ fn has_all_fields(machine: &Machine) -> bool {
 #[test]
 fn copies(rt: HostRuntime) -> Result<(), Fail> {
     let alloc = rt.alloc();
-    let text = b"h i686-linux,,x86_64-linux /root/key 3 1.5 b,a,b a aGk=";
+    let text = b"h i686-linux,,x86_64-linux /etc/nix 3 1.5 b,a,b a aGk=";
     let machine = last_machine(alloc, text).ok_or("no machine")?;
     assert!(rt; has_all_fields(&machine));
     assert!(rt; machine.try_clone(alloc)? == machine);
