@@ -3,24 +3,24 @@ use Rattle.std.proofs.Common.{◌≡◌, ℕ, ◌+◌, ◌<◌, ◌≤◌, Bool,
 use Rattle.std.proofs.lemmas.Grind.{common_steps}
 use Rattle.std.specs.List.{list_any, filter, find}
 use Rattle.nd_ledger.specs.declared.dispatch.Dispatch.TheInside.{Inside}
-use Rattle.nd_ledger.specs.declared.entry.Entry.{Entry}
-use Rattle.nd_ledger.specs.declared.entry.Entry.TheVariants.{Chosen, NoBuilder, Started, Down, Built, Failed, Stop, Drain, Enable}
-use Rattle.nd_ledger.specs.declared.entry.Ticket.{Ticket}
-use Rattle.nd_ledger.specs.declared.entry.Why.{Why}
-use Rattle.nd_ledger.specs.Books.{Recorded}
-use Rattle.nd_ledger.specs.Premises.{premises_of}
-use Rattle.nd_ledger.specs.History.{live, without, load, is_leased, lease_of, is_started, has_stop}
-use Rattle.nd_ledger.specs.Legal.{IsLegal, IsAllowed}
-use Rattle.nd_ledger.specs.Fitting.{FitTogether}
-use Rattle.nd_ledger.specs.Stored.{Stored, AreStored, is_quiet, IsSameStored, HasTaken}
-use Rattle.nd_ledger.specs.declared.copying.Additions.{Additions}
-use Rattle.nd_ledger.specs.Pumping.{step_drv}
+use Rattle.nd_history.specs.declared.entry.Entry.{Entry}
+use Rattle.nd_history.specs.declared.entry.Entry.TheVariants.{Chosen, NoBuilder, Started, Down, Built, Failed, Stop, Drain, Enable}
+use Rattle.nd_history.specs.declared.entry.Ticket.{Ticket}
+use Rattle.nd_history.specs.declared.entry.Why.{Why}
+use Rattle.nd_history.specs.Books.{Recorded}
+use Rattle.nd_history.specs.Premises.{premises_of}
+use Rattle.nd_history.specs.History.{live, without, load, is_leased, lease_of, is_started, has_stop}
+use Rattle.nd_history.specs.Legal.{IsLegal, IsAllowed}
+use Rattle.nd_history.specs.Fitting.{FitTogether}
+use Rattle.nd_stores.specs.Stored.{Stored, AreStored, is_quiet, IsSameStored, HasTaken}
+use Rattle.nd_stores.specs.declared.copying.Additions.{Additions}
+use Rattle.nd_history.specs.Pumping.{step_drv}
 use Rattle.nd_ledger.specs.Moves.{IsRoomier, IsReadyToStart, IsReadyToEnd}
 use Rattle.nd_ledger.specs.Inner.{IsKept, room_for}
-use Rattle.nd_ledger.proofs.Following.{newest_first}
-use Rattle.nd_ledger.proofs.Legality.{leased_ranged}
-use Rattle.nd_ledger.proofs.Slots.{load_within}
-use Rattle.nd_ledger.proofs.Storing.{stored_quiet, stored_same, stored_start, stored_built}
+use Rattle.nd_history.proofs.Following.{newest_first}
+use Rattle.nd_history.proofs.Legality.{leased_ranged}
+use Rattle.nd_history.proofs.Slots.{load_within}
+use Rattle.nd_stores.proofs.Storing.{stored_quiet, stored_same, stored_start, stored_built}
 
 -- one more entry in the book
 pub record IsRecorded (old new : Recorded) (e : Entry) : Type 0 where

@@ -4,15 +4,15 @@ use Rattle.std.proofs.lemmas.Bool.{cases_eq, ne_eqb}
 use Rattle.nd_failure.specs.declared.status.Mark.{Mark}
 use Rattle.nd_failure.specs.declared.status.Mark.TheVariants.{Free, Leased, Built as BuiltMark, Failed as FailedMark}
 use Rattle.nd_failure.specs.Progress.{Progress}
-use Rattle.nd_ledger.specs.declared.entry.Entry.{Entry}
-use Rattle.nd_ledger.specs.declared.entry.Why.{Why}
-use Rattle.nd_ledger.specs.declared.entry.Entry.TheVariants.{Chosen, NoBuilder, Down, Failed, Stop}
-use Rattle.nd_ledger.specs.Premises.{Premises}
-use Rattle.nd_ledger.specs.History.{live, is_built, is_failed, is_leased, has_stop}
-use Rattle.nd_ledger.specs.Standing.{drvs_in, IsReady}
-use Rattle.nd_ledger.specs.Legal.{IsLegal}
+use Rattle.nd_history.specs.declared.entry.Entry.{Entry}
+use Rattle.nd_history.specs.declared.entry.Why.{Why}
+use Rattle.nd_history.specs.declared.entry.Entry.TheVariants.{Chosen, NoBuilder, Down, Failed, Stop}
+use Rattle.nd_history.specs.Premises.{Premises}
+use Rattle.nd_history.specs.History.{live, is_built, is_failed, is_leased, has_stop}
+use Rattle.nd_history.specs.Standing.{drvs_in, IsReady}
+use Rattle.nd_history.specs.Legal.{IsLegal}
 use Rattle.nd_ledger.specs.Marks.{mark_in, AreMarked}
-use Rattle.nd_ledger.proofs.Legality.{gone, leased_fresh}
+use Rattle.nd_history.proofs.Legality.{gone, leased_fresh}
 
 -- one mark was set
 pub marked_set : (i : Premises) (past : List Entry) (p : Progress) (e : Entry) (d : ℕ) (mark : Mark) → AreMarked i past p → d < drvs_in i → has_stop (e ∷ past) ≡ has_stop past → mark_in (e ∷ past) d ≡ mark → ((k : ℕ) → (k ≡ d → ⊥) → mark_in (e ∷ past) k ≡ mark_in past k) → AreMarked i (e ∷ past) (record p { marks = set p.marks d mark })

@@ -3,25 +3,25 @@ use Rattle.std.proofs.Common.{◌≡◌, ◌==◌, ℕ, zero, suc, ◌<◌, ◌�
 use Rattle.std.specs.Bool.{MatchBool}
 use Rattle.std.proofs.lemmas.List.{length-map}
 use Rattle.nd_graph.specs.Graphs.{nodes_of}
-use Rattle.nd_ledger.specs.declared.copying.PathsFault.{PathsFault}
-use Rattle.nd_ledger.specs.declared.copying.PathsFault.TheVariants.{Uncovered, Extra, Memory}
-use Rattle.nd_ledger.specs.declared.entry.Entry.{Entry}
-use Rattle.nd_ledger.specs.declared.entry.Entry.TheVariants.{Chosen}
-use Rattle.nd_ledger.specs.declared.entry.Ticket.{Ticket}
-use Rattle.nd_ledger.specs.Books.{Recorded}
-use Rattle.nd_ledger.specs.Premises.{Premises}
-use Rattle.nd_ledger.specs.History.{is_started}
-use Rattle.nd_ledger.specs.Standing.{drvs_in}
+use Rattle.nd_stores.specs.declared.copying.PathsFault.{PathsFault}
+use Rattle.nd_stores.specs.declared.copying.PathsFault.TheVariants.{Uncovered, Extra, Memory}
+use Rattle.nd_history.specs.declared.entry.Entry.{Entry}
+use Rattle.nd_history.specs.declared.entry.Entry.TheVariants.{Chosen}
+use Rattle.nd_history.specs.declared.entry.Ticket.{Ticket}
+use Rattle.nd_history.specs.Books.{Recorded}
+use Rattle.nd_history.specs.Premises.{Premises}
+use Rattle.nd_history.specs.History.{is_started}
+use Rattle.nd_history.specs.Standing.{drvs_in}
 use Rattle.nd_choose.specs.Best.{jobs_at}
-use Rattle.nd_ledger.specs.Choices.{machines_in, jobs_of, AreSmall}
-use Rattle.nd_ledger.specs.Legal.{IsLegal}
+use Rattle.nd_history.specs.Choices.{machines_in, jobs_of, AreSmall}
+use Rattle.nd_history.specs.Legal.{IsLegal}
 use Rattle.nd_ledger.specs.Refusals.{IsLive}
-use Rattle.nd_ledger.specs.Fitting.{FitTogether}
-use Rattle.nd_ledger.specs.Stored.{Stored, AreStored, IsPathsFault}
+use Rattle.nd_history.specs.Fitting.{FitTogether}
+use Rattle.nd_stores.specs.Stored.{Stored, AreStored, IsPathsFault}
 use Rattle.nd_ledger.specs.Moves.{IsStartRefused, refusal_for}
-use Rattle.nd_ledger.proofs.Legality.{leased_ranged, allowed_at}
-use Rattle.nd_ledger.proofs.Headline.{chosen_in}
-use Rattle.nd_ledger.proofs.Provisions.{leased_by}
+use Rattle.nd_history.proofs.Legality.{leased_ranged, allowed_at}
+use Rattle.nd_history.proofs.Headline.{chosen_in}
+use Rattle.nd_history.proofs.Provisions.{leased_by}
 
 -- the machine of a live lease is in the park
 pub ticket_ranged : (i : Premises) (past : List Entry) (t : Ticket) → IsLegal i past → IsLive past t → t.machine < machines_in i

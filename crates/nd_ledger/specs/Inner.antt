@@ -2,14 +2,14 @@
 use Rattle.std.specs.Prelude.{◌≡◌, ℕ, ◌+◌, ◌≤◌, List, length, reverse, if◌then◌else◌}
 use Rattle.nd_graph.specs.Graphs.{IsSound}
 use Rattle.nd_ledger.specs.declared.dispatch.Dispatch.TheInside.{Inside}
-use Rattle.nd_ledger.specs.declared.entry.Entry.{Entry}
-use Rattle.nd_ledger.specs.Premises.{premises_of}
+use Rattle.nd_history.specs.declared.entry.Entry.{Entry}
+use Rattle.nd_history.specs.Premises.{premises_of}
 use Rattle.nd_ledger.specs.Worlds.{World}
-use Rattle.nd_ledger.specs.History.{live, has_stop}
-use Rattle.nd_ledger.specs.Standing.{drvs_in}
-use Rattle.nd_ledger.specs.Choices.{AreSmall}
-use Rattle.nd_ledger.specs.Legal.{IsLegal}
-use Rattle.nd_ledger.specs.Stored.{AreStored}
+use Rattle.nd_history.specs.History.{live, has_stop}
+use Rattle.nd_history.specs.Standing.{drvs_in}
+use Rattle.nd_history.specs.Choices.{AreSmall}
+use Rattle.nd_history.specs.Legal.{IsLegal}
+use Rattle.nd_stores.specs.Stored.{AreStored}
 
 abbrev pub seen : Inside → World
 seen d = record { inputs = premises_of d.inputs; history = d.book.entries }

@@ -5,10 +5,10 @@ use Rattle.nd_graph.specs.Graphs.{rows_of}
 use Rattle.nd_failure.specs.declared.status.Mark.{Mark}
 use Rattle.nd_failure.specs.declared.status.Mark.TheVariants.{Free, Leased, Built, Failed}
 use Rattle.nd_failure.specs.Progress.{Progress, mark_of}
-use Rattle.nd_ledger.specs.declared.entry.Entry.{Entry}
-use Rattle.nd_ledger.specs.Premises.{Premises}
-use Rattle.nd_ledger.specs.History.{is_built, is_failed, is_leased, has_stop}
-use Rattle.nd_ledger.specs.Standing.{drvs_in}
+use Rattle.nd_history.specs.declared.entry.Entry.{Entry}
+use Rattle.nd_history.specs.Premises.{Premises}
+use Rattle.nd_history.specs.History.{is_built, is_failed, is_leased, has_stop}
+use Rattle.nd_history.specs.Standing.{drvs_in}
 
 -- the mark of derivation d
 abbrev pub mark_in : List Entry → ℕ → Mark

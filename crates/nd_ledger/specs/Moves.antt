@@ -3,17 +3,17 @@
 use Rattle.std.specs.Prelude.{◌≡◌, ℕ, ◌+◌, ◌≤◌, true, false, List, length}
 use Rattle.nd_ledger.specs.declared.refusal.Refusal.{Refusal}
 use Rattle.nd_ledger.specs.declared.refusal.Refusal.TheVariants.{NotLive, AlreadyStarted, NotStarted, Uncovered, Extra, BadReferences, AlreadyStopped, Memory}
-use Rattle.nd_ledger.specs.declared.copying.Additions.{Additions}
-use Rattle.nd_ledger.specs.declared.copying.PathsFault.{PathsFault}
-use Rattle.nd_ledger.specs.declared.copying.PathsFault.TheVariants.{Uncovered as Bare, Extra as Beside, Memory as NoMemory}
-use Rattle.nd_ledger.specs.declared.entry.Entry.{Entry}
-use Rattle.nd_ledger.specs.declared.entry.Ticket.{Ticket}
-use Rattle.nd_ledger.specs.Books.{Recorded}
-use Rattle.nd_ledger.specs.Premises.{Premises}
-use Rattle.nd_ledger.specs.History.{live as leases, is_started}
+use Rattle.nd_stores.specs.declared.copying.Additions.{Additions}
+use Rattle.nd_stores.specs.declared.copying.PathsFault.{PathsFault}
+use Rattle.nd_stores.specs.declared.copying.PathsFault.TheVariants.{Uncovered as Bare, Extra as Beside, Memory as NoMemory}
+use Rattle.nd_history.specs.declared.entry.Entry.{Entry}
+use Rattle.nd_history.specs.declared.entry.Ticket.{Ticket}
+use Rattle.nd_history.specs.Books.{Recorded}
+use Rattle.nd_history.specs.Premises.{Premises}
+use Rattle.nd_history.specs.History.{live as leases, is_started}
 use Rattle.nd_ledger.specs.Refusals.{IsLive}
-use Rattle.nd_ledger.specs.References.{ArePathsRight, AreReferencesRight}
-use Rattle.nd_ledger.specs.Stored.{Stored, Fits, AreStartAdditions, AreBuiltAdditions, IsUncovered, IsExtra}
+use Rattle.nd_history.specs.References.{ArePathsRight, AreReferencesRight}
+use Rattle.nd_stores.specs.Stored.{Stored, Fits, AreStartAdditions, AreBuiltAdditions, IsUncovered, IsExtra}
 
 -- `started` is refused where the ticket isn't a live lease's, then where the lease was started, then where a path of the closure is
 -- lacking, then where a copied path is outside it; memory may be wanting at any point

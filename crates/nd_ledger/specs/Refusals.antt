@@ -2,9 +2,9 @@
 use Rattle.std.specs.Prelude.{◌≡◌, true, List, Some}
 use Rattle.nd_ledger.specs.declared.refusal.Refusal.{Refusal}
 use Rattle.nd_ledger.specs.declared.refusal.Refusal.TheVariants.{NotLive, AlreadyStarted, NotStarted, Uncovered, Extra, BadReferences, AlreadyStopped, Memory}
-use Rattle.nd_ledger.specs.declared.entry.Entry.{Entry}
-use Rattle.nd_ledger.specs.declared.entry.Ticket.{Ticket}
-use Rattle.nd_ledger.specs.History.{lease_of, is_started, has_stop}
+use Rattle.nd_history.specs.declared.entry.Entry.{Entry}
+use Rattle.nd_history.specs.declared.entry.Ticket.{Ticket}
+use Rattle.nd_history.specs.History.{lease_of, is_started, has_stop}
 
 -- the ticket is a live lease's
 abbrev pub IsLive : List Entry → Ticket → Type 0

@@ -1,7 +1,7 @@
 -- A dispatch, as contracts see it.
 use Rattle.std.specs.Prelude.{List}
-use Rattle.nd_ledger.specs.declared.entry.Entry.{Entry}
-use Rattle.nd_ledger.specs.Premises.{Premises}
+use Rattle.nd_history.specs.declared.entry.Entry.{Entry}
+use Rattle.nd_history.specs.Premises.{Premises}
 
 pub record World : Type 0 where
   -- what it was made of

@@ -1,34 +1,34 @@
 //! The dispatch: leases and their history.
 
 ghost use Rattle.std.specs.Prelude.{◌≡◌, ℕ, ◌+◌, ◌<◌, ◌≤◌, ◌++◌, [], ◌∷◌, List, false, length, slice_index_or, reverse, IfOk, OnOk, IfErr, OnErr, IsOk};
-ghost use Rattle.nd_ledger.specs.History.{live, lease_of, current_of, load, is_started, is_up, has_stop};
-ghost use Rattle.nd_ledger.specs.Choices.{machines_in, HasReply};
-ghost use Rattle.nd_ledger.specs.Legal.{IsLegal};
-ghost use Rattle.nd_ledger.specs.Closing.{StartsAreProvisioned};
-ghost use Rattle.nd_ledger.specs.Headline.{SlotsAreLeases, LeasesAreInOrder, StartsAreEligible, ChoicesAreBest};
-ghost use Rattle.nd_ledger.specs.Pumping.{HasPumped, HasPumpedBy, AreAtRest};
+ghost use Rattle.nd_history.specs.History.{live, lease_of, current_of, load, is_started, is_up, has_stop};
+ghost use Rattle.nd_history.specs.Choices.{machines_in, HasReply};
+ghost use Rattle.nd_history.specs.Legal.{IsLegal};
+ghost use Rattle.nd_history.specs.Closing.{StartsAreProvisioned};
+ghost use Rattle.nd_history.specs.Headline.{SlotsAreLeases, LeasesAreInOrder, StartsAreEligible, ChoicesAreBest};
+ghost use Rattle.nd_history.specs.Pumping.{HasPumped, HasPumpedBy, AreAtRest};
 ghost use Rattle.nd_choose.specs.Best.{jobs_at};
 ghost use Rattle.nd_ledger.specs.Moves.{IsStartRefused, IsEndRefused, IsJobRefused};
-ghost use Rattle.nd_ledger.specs.References.{outputs_of};
-ghost use Rattle.nd_ledger.specs.Stored.{IsMissing};
+ghost use Rattle.nd_history.specs.References.{outputs_of};
+ghost use Rattle.nd_stores.specs.Stored.{IsMissing};
 ghost use Rattle.nd_ledger.specs.Refusals.{IsLive, IsFailRefused, IsDownRefused, IsStopRefused};
 
-use crate::book::Book;
-use crate::deciding::reply_now;
-use crate::entry::{Entry, Ticket, Why};
-use crate::inputs::{Inputs, Parts};
 use crate::job::Job;
 use crate::moving::{is_live, prepare_end, prepare_start};
 use crate::refusal::{Refusal, Refused};
-use crate::stepping::next_step;
-use crate::stores::Stores;
 use nd_bytes::Items;
 use nd_closure::{RefTable, Refs};
 use nd_eligible::Local;
 use nd_graph::Graph;
+use nd_history::book::Book;
+use nd_history::deciding::reply_now;
+use nd_history::entry::{Entry, Ticket, Why};
+use nd_history::inputs::{Inputs, Parts};
+use nd_history::stepping::next_step;
 use nd_hook::Reply;
 use nd_machines::Machine;
 use nd_path::PathSet;
+use nd_stores::stores::Stores;
 use std::alloc::{AllocError, Global};
 use std::marker::Model;
 
@@ -364,7 +364,7 @@ impl Dispatch {
     ///   that machine holds the derivation's input closure;
     /// - least-loaded choice: each choice of a builder was the least loaded of the eligible machines
     ///   that were up and free at its place in the history.
-    #[tactic(auto, using(crate::proofs::Headline::slots_are_leases, crate::proofs::Headline::leases_are_in_order, crate::proofs::Headline::starts_are_eligible, crate::proofs::Headline::choices_are_best, crate::proofs::Provisions::starts_are_provisioned))]
+    #[tactic(auto, using(nd_history::proofs::Headline::slots_are_leases, nd_history::proofs::Headline::leases_are_in_order, nd_history::proofs::Headline::starts_are_eligible, nd_history::proofs::Headline::choices_are_best, nd_history::proofs::Provisions::starts_are_provisioned))]
     pub fn history(&self) -> &[Entry]
         ensures value { result.now ≡ self.now.history }
         ensures legal { IsLegal self.now.inputs (reverse self.now.history) }

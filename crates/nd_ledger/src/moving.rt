@@ -1,20 +1,20 @@
 //! What starts and the ends of builds need before they are recorded: their tests, and their memory.
 
 ghost use Rattle.std.specs.Prelude.{◌≡◌, ◌↔◌, reverse, IfOk, IfErr, IsTrue};
-ghost use Rattle.nd_ledger.specs.Fitting.{FitTogether};
+ghost use Rattle.nd_history.specs.Fitting.{FitTogether};
 ghost use Rattle.nd_ledger.specs.Moves.{IsStartRefused, IsEndRefused, refusal_for, IsRoomier, IsReadyToStart, IsReadyToEnd};
-ghost use Rattle.nd_ledger.specs.Premises.{premises_of};
+ghost use Rattle.nd_history.specs.Premises.{premises_of};
 ghost use Rattle.nd_ledger.specs.Refusals.{IsLive};
-ghost use Rattle.nd_ledger.specs.Stored.{AreStored, IsSameStored};
+ghost use Rattle.nd_stores.specs.Stored.{AreStored, IsSameStored};
 
-use crate::book::Book;
-use crate::copying::{Additions, PathsFault};
-use crate::entry::Ticket;
-use crate::inputs::Inputs;
 use crate::refusal::Refusal;
-use crate::stores::Stores;
 use nd_closure::Refs;
+use nd_history::book::Book;
+use nd_history::entry::Ticket;
+use nd_history::inputs::Inputs;
 use nd_path::PathSet;
+use nd_stores::copying::{Additions, PathsFault};
+use nd_stores::stores::Stores;
 use std::alloc::Global;
 
 /// Whether the ticket is a live lease's.

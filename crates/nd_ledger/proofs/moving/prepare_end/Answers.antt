@@ -1,7 +1,7 @@
 use Rattle.std.proofs.Common.{reverse}
-use Rattle.nd_ledger.specs.Premises.{premises_of}
+use Rattle.nd_history.specs.Premises.{premises_of}
 use Rattle.nd_ledger.specs.Refusals.{IsLive}
-use Rattle.nd_ledger.specs.References.{AreReferencesRight}
+use Rattle.nd_history.specs.References.{AreReferencesRight}
 use Rattle.nd_ledger.proofs.Tickets.{live_in_book, live_in_graph, live_in_park, right_then}
 use Rattle.nd_ledger.proofs.moving.prepare_end.Goals as goal
 

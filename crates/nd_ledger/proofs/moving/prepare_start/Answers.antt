@@ -1,8 +1,8 @@
 use Rattle.std.proofs.Common.{◌≡◌, false, reverse, sym, subst, ◌∙◌}
 use Rattle.nd_ledger.specs.declared.refusal.Refusal.{Refusal}
-use Rattle.nd_ledger.specs.History.{is_started}
+use Rattle.nd_history.specs.History.{is_started}
 use Rattle.nd_ledger.specs.Moves.{IsStartRefused}
-use Rattle.nd_ledger.specs.Premises.{premises_of}
+use Rattle.nd_history.specs.Premises.{premises_of}
 use Rattle.nd_ledger.specs.Refusals.{IsLive}
 use Rattle.nd_ledger.proofs.Tickets.{live_in_book, live_in_graph, live_in_park, start_refused}
 use Rattle.nd_ledger.proofs.moving.prepare_start.Goals as goal

@@ -1,6 +1,6 @@
 use Rattle.std.proofs.Common.{rules, ◌≡◌, refl, reverse, false}
 use Rattle.nd_ledger.specs.Refusals.{IsLive}
-use Rattle.nd_ledger.specs.History.{is_started}
+use Rattle.nd_history.specs.History.{is_started}
 use Rattle.nd_ledger.proofs.Keeping.{kept_down, in_book}
 use Rattle.nd_ledger.proofs.dispatch.Dispatch.down.Goals as goal
 

@@ -1,8 +1,8 @@
 use Rattle.std.proofs.Common.{◌+◌, ◌<◌, ◌≤◌, length, reverse, refl, sym, subst, arith}
-use Rattle.nd_ledger.specs.declared.entry.Entry.TheVariants.{Enable}
-use Rattle.nd_ledger.specs.Choices.{machines_in}
-use Rattle.nd_ledger.specs.History.{live}
-use Rattle.nd_ledger.specs.Premises.{premises_of}
+use Rattle.nd_history.specs.declared.entry.Entry.TheVariants.{Enable}
+use Rattle.nd_history.specs.Choices.{machines_in}
+use Rattle.nd_history.specs.History.{live}
+use Rattle.nd_history.specs.Premises.{premises_of}
 use Rattle.nd_ledger.specs.Worlds.{World}
 use Rattle.nd_ledger.proofs.Keeping.{kept_more}
 use Rattle.nd_ledger.proofs.dispatch.Dispatch.enable.Goals as goal

@@ -1,5 +1,5 @@
 use Rattle.std.proofs.Common.{reverse, sym, subst}
-use Rattle.nd_ledger.specs.Premises.{premises_of}
+use Rattle.nd_history.specs.Premises.{premises_of}
 use Rattle.nd_ledger.specs.Refusals.{IsLive}
 use Rattle.nd_ledger.specs.Worlds.{World}
 use Rattle.nd_ledger.proofs.Keeping.{fit_kept}

@@ -1,5 +1,5 @@
 use Rattle.std.proofs.Common.{reverse}
-use Rattle.nd_ledger.specs.Premises.{premises_of}
+use Rattle.nd_history.specs.Premises.{premises_of}
 use Rattle.nd_ledger.specs.Refusals.{IsLive}
 use Rattle.nd_ledger.proofs.Keeping.{fit_kept}
 use Rattle.nd_ledger.proofs.Tickets.{live_in_graph, live_in_park}

@@ -1,11 +1,11 @@
 use Rattle.std.proofs.Common.{◌≡◌, ◌≤◌, ℕ, List, [], length, reverse, refl, sym, ap, subst, ◌∙◌, arith}
 use Rattle.nd_machines.specs.Builders.{Builder}
 use Rattle.nd_choose.specs.Best.{jobs_at}
-use Rattle.nd_ledger.specs.declared.entry.Entry.{Entry}
-use Rattle.nd_ledger.specs.Premises.{Premises, premises_of}
-use Rattle.nd_ledger.specs.Legal.{IsLegal}
+use Rattle.nd_history.specs.declared.entry.Entry.{Entry}
+use Rattle.nd_history.specs.Premises.{Premises, premises_of}
+use Rattle.nd_history.specs.Legal.{IsLegal}
 use Rattle.nd_ledger.specs.Inner.{room_for}
-use Rattle.nd_ledger.specs.Stored.{AreStored}
+use Rattle.nd_stores.specs.Stored.{AreStored}
 use Rattle.nd_ledger.proofs.Tickets.{small_park}
 use Rattle.nd_ledger.proofs.dispatch.Dispatch.new.Goals as goal
 

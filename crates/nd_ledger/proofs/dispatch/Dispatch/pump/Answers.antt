@@ -1,12 +1,12 @@
 use Rattle.std.proofs.Common.{◌+◌, ◌≤◌, ◌++◌, List, [], ◌∷◌, length, reverse, arith, ap, ◌∙◌, subst}
-use Rattle.nd_ledger.specs.declared.entry.Entry.{Entry}
-use Rattle.nd_ledger.specs.History.{live}
+use Rattle.nd_history.specs.declared.entry.Entry.{Entry}
+use Rattle.nd_history.specs.History.{live}
 use Rattle.nd_ledger.specs.Worlds.{World}
-use Rattle.nd_ledger.specs.Premises.{Premises, premises_of}
-use Rattle.nd_ledger.specs.Pumping.{IsPumpStep}
-use Rattle.nd_ledger.proofs.Following.{newest_first}
+use Rattle.nd_history.specs.Premises.{Premises, premises_of}
+use Rattle.nd_history.specs.Pumping.{IsPumpStep}
+use Rattle.nd_history.proofs.Following.{newest_first}
 use Rattle.nd_ledger.proofs.Keeping.{kept_more, live_grows, step_quiet}
-use Rattle.nd_ledger.proofs.Steps.{pumped_more, pump_smaller, pump_counted}
+use Rattle.nd_history.proofs.Steps.{pumped_more, pump_smaller, pump_counted}
 use Rattle.nd_ledger.proofs.dispatch.Dispatch.pump.Goals as goal
 
 pub loop-step-preserved : goal.loop-step-preserved

@@ -1,9 +1,9 @@
 use Rattle.std.proofs.Common.{◌≡◌, reverse}
-use Rattle.nd_ledger.specs.Premises.{premises_of}
-use Rattle.nd_ledger.specs.Standing.{drvs_in}
+use Rattle.nd_history.specs.Premises.{premises_of}
+use Rattle.nd_history.specs.Standing.{drvs_in}
 use Rattle.nd_ledger.specs.Inner.{IsKept}
-use Rattle.nd_ledger.specs.Pumping.{HasPumped}
-use Rattle.nd_ledger.proofs.Steps.{open_count}
+use Rattle.nd_history.specs.Pumping.{HasPumped}
+use Rattle.nd_history.proofs.Steps.{open_count}
 use Rattle.nd_ledger.proofs.dispatch.Dispatch.pump.Given as goal
 
 abbrev pub invariant-loop-step : goal.invariant-loop-step

@@ -1,5 +1,5 @@
 use Rattle.std.proofs.Common.{rules, ◌≡◌, reverse, false}
-use Rattle.nd_ledger.specs.History.{has_stop}
+use Rattle.nd_history.specs.History.{has_stop}
 use Rattle.nd_ledger.proofs.Keeping.{kept_stop}
 use Rattle.nd_ledger.proofs.dispatch.Dispatch.stop.Goals as goal
 

@@ -1,5 +1,5 @@
 use Rattle.std.proofs.Common.{◌≤◌, reverse, arith}
-use Rattle.nd_ledger.specs.History.{load}
+use Rattle.nd_history.specs.History.{load}
 use Rattle.nd_ledger.proofs.Keeping.{small_load}
 use Rattle.nd_ledger.proofs.dispatch.Dispatch.taken.Goals as goal
 

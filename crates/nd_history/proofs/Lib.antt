@@ -1,0 +1,11 @@
+pub mod Closing
+pub mod Following
+pub mod Headline
+pub mod Legality
+pub mod OneChoice
+pub mod Provisions
+pub mod Readiness
+pub mod Reported
+pub mod Slots
+pub mod Steps
+pub mod Turned

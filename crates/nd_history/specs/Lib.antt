@@ -1,0 +1,14 @@
+pub mod Books
+pub mod BooksKept
+pub mod Choices
+pub mod Closing
+pub mod Fitting
+pub mod Headline
+pub mod History
+pub mod Kept
+pub mod Legal
+pub mod Premises
+pub mod Pumping
+pub mod References
+pub mod Standing
+pub mod Statuses

@@ -1,0 +1,193 @@
+//! The entries so far, and what follows from them for leases and machines.
+
+ghost use Rattle.std.specs.Prelude.{◌≡◌, ◌+◌, ◌<◌, ◌≤◌, ◌^◌, ◌++◌, [], ◌∷◌, length, reverse, IfOk, OnOk};
+ghost use Rattle.nd_history.specs.History.{live, lease_of, current_of, load, is_taken, is_started, is_up, has_stop, is_leased, is_built, is_failed, is_failure};
+ghost use Rattle.std.specs.List.{list_any};
+
+use crate::entry::{Entry, Ticket};
+use crate::finding::{count_on, is_any_of, is_any_on, newest_of, newest_on};
+use crate::tables::{
+    follow_built, follow_failed, follow_failure, follow_leases, follow_started, follow_stop,
+    follow_ups,
+};
+use std::alloc::{AllocError, Global};
+use std::marker::Model;
+
+/// A history with the tables that follow it: the live leases, which derivations were started since
+/// their newest choice, and which machines are up. No question is answered by a search of the
+/// entries. Contracts see the entries oldest first, how many more can be recorded without memory,
+/// and the numbers of derivations and machines.
+#[derive(Drop, Debug)]
+pub struct Book {
+    entries: Vec<Entry>,
+    leases: Vec<Ticket>,
+    started: Vec<bool>,
+    ups: Vec<bool>,
+    built: Vec<bool>,
+    failed: Vec<bool>,
+    failure: bool,
+    stop: bool,
+}
+
+impl Model for Book {
+    ghost use Rattle.nd_history.specs.Books.{Recorded};
+
+    ghost Value = { Recorded };
+
+    ghost use Rattle.nd_history.specs.BooksKept.{recorded, AreFollowed};
+
+    ghost view = { recorded };
+
+    ghost invariant = { AreFollowed };
+}
+
+impl Book {
+    /// Records one more entry. It takes no memory.
+    pub fn record(&mut self, entry: Entry)
+        requires { 0 < self.old.room }
+        ensures entries { self.new.entries ≡ self.old.entries ++ entry ∷ [] }
+        ensures room { self.old.room ≤ self.new.room + 1 }
+        ensures drvs { self.new.drvs ≡ self.old.drvs }
+        ensures machines { self.new.machines ≡ self.old.machines }
+    {
+        follow_ups(&mut self.ups, self.leases.as_slice(), &entry);
+        follow_started(&mut self.started, &entry);
+        follow_leases(&mut self.leases, self.entries.len(), &entry);
+        follow_built(&mut self.built, &entry);
+        follow_failed(&mut self.failed, &entry);
+        self.failure = follow_failure(self.failure, &entry);
+        self.stop = follow_stop(self.stop, &entry);
+        self.entries.push_reserved(entry);
+    }
+
+    /// A book without entries, for this many derivations and machines, the local one among them. It
+    /// has room for at least one entry.
+    pub fn new(alloc: Global, drvs: usize, machines: usize) -> Result<Book, AllocError>
+        ensures entries { IfOk result (λ b. b.entries ≡ []) }
+        ensures room { IfOk result (λ b. 1 ≤ b.room) }
+        ensures drvs { IfOk result (λ b. b.drvs ≡ drvs) }
+        ensures machines { IfOk result (λ b. b.machines ≡ machines) }
+    {
+        Ok(Book {
+            entries: Vec::with_capacity(alloc, 1)?,
+            leases: Vec::with_capacity(alloc, 1)?,
+            started: vec![in alloc; false; drvs]?,
+            ups: vec![in alloc; true; machines]?,
+            built: vec![in alloc; false; drvs]?,
+            failed: vec![in alloc; false; drvs]?,
+            failure: false,
+            stop: false,
+        })
+    }
+
+    /// Makes room for `more` entries.
+    pub fn make_room(&mut self, more: usize) -> Result<(), AllocError>
+        ensures entries { self.new.entries ≡ self.old.entries }
+        ensures drvs { self.new.drvs ≡ self.old.drvs }
+        ensures machines { self.new.machines ≡ self.old.machines }
+        ensures kept { self.old.room ≤ self.new.room }
+        ensures made { OnOk result (more ≤ self.new.room) }
+    {
+        self.entries.reserve(more)?;
+        self.leases.reserve(more)
+    }
+
+    /// The entries, oldest first.
+    pub fn entries(&self) -> &[Entry]
+        ensures { result.now ≡ self.now.entries }
+    {
+        self.entries.as_slice()
+    }
+
+    /// The number of live leases.
+    pub fn live_len(&self) -> usize
+        ensures live { result ≡ length (live (reverse self.now.entries)) }
+        ensures small { result < 2 ^ 63 }
+    {
+        self.leases.len()
+    }
+
+    /// The live lease of derivation `drv`.
+    pub fn lease(&self, drv: u32) -> Option<Ticket>
+        ensures { result ≡ lease_of drv (reverse self.now.entries) }
+    {
+        newest_of(self.leases.as_slice(), drv)
+    }
+
+    /// The live lease on this slot of this machine.
+    pub fn current(&self, machine: u32, slot: u32) -> Option<Ticket>
+        ensures { result ≡ current_of machine slot (reverse self.now.entries) }
+    {
+        newest_on(self.leases.as_slice(), machine, slot)
+    }
+
+    /// The load of this machine: the number of its live leases.
+    #[tactic(auto, using(crate::proofs::Turned::count_reverse))]
+    pub fn load(&self, machine: u32) -> usize
+        ensures { result ≡ load machine (reverse self.now.entries) }
+    {
+        count_on(self.leases.as_slice(), machine)
+    }
+
+    /// Whether a live lease is on this slot of this machine.
+    #[tactic(auto, using(crate::proofs::Following::any_reverse))]
+    pub fn is_taken(&self, machine: u32, slot: u32) -> bool
+        ensures { result ≡ is_taken machine slot (reverse self.now.entries) }
+    {
+        is_any_on(self.leases.as_slice(), machine, slot)
+    }
+
+    /// Whether derivation `drv` has a live lease.
+    #[tactic(auto, using(crate::proofs::Following::any_reverse))]
+    pub fn is_leased(&self, drv: u32) -> bool
+        ensures { result ≡ is_leased drv (reverse self.now.entries) }
+    {
+        is_any_of(self.leases.as_slice(), drv)
+    }
+
+    /// Whether derivation `drv` is built.
+    pub fn is_built(&self, drv: usize) -> bool
+        requires { drv < self.now.drvs }
+        ensures { result ≡ is_built drv (reverse self.now.entries) }
+    {
+        self.built[drv]
+    }
+
+    /// Whether derivation `drv` failed.
+    pub fn is_failed(&self, drv: usize) -> bool
+        requires { drv < self.now.drvs }
+        ensures { result ≡ is_failed drv (reverse self.now.entries) }
+    {
+        self.failed[drv]
+    }
+
+    /// Whether any derivation failed.
+    pub fn has_failure(&self) -> bool
+        ensures { result ≡ list_any is_failure (reverse self.now.entries) }
+    {
+        self.failure
+    }
+
+    /// Whether a stop was asked for.
+    pub fn has_stop(&self) -> bool
+        ensures { result ≡ has_stop (reverse self.now.entries) }
+    {
+        self.stop
+    }
+
+    /// Whether derivation `drv` was started since its newest choice.
+    pub fn is_started(&self, drv: usize) -> bool
+        requires { drv < self.now.drvs }
+        ensures { result ≡ is_started drv (reverse self.now.entries) }
+    {
+        self.started[drv]
+    }
+
+    /// Whether this machine is up.
+    pub fn is_up(&self, machine: usize) -> bool
+        requires { machine < self.now.machines }
+        ensures { result ≡ is_up machine (reverse self.now.entries) }
+    {
+        self.ups[machine]
+    }
+}

@@ -1,0 +1,123 @@
+//! What is decided about a derivation, and the slot that a lease takes.
+
+ghost use Rattle.std.specs.Prelude.{◌≡◌, ℕ, ◌+◌, ◌<◌, ◌≤◌, ◌^◌, ◌↔◌, IsTrue, length, reverse, map};
+ghost use Rattle.std.specs.List.{range_with_len};
+ghost use Rattle.nd_graph.specs.Graphs.{IsSound};
+ghost use Rattle.nd_history.specs.Premises.{premises_of};
+ghost use Rattle.nd_history.specs.History.{load, is_up};
+ghost use Rattle.nd_history.specs.Legal.{IsLeastFree};
+ghost use Rattle.nd_history.specs.Choices.{loads_of, ups_of, HasDecision, IsLocal, IsLocalFree, HasReply};
+
+use crate::book::Book;
+use crate::inputs::Inputs;
+use nd_eligible::{Need, local_ok};
+use nd_hook::{Decision, Reply, decide, reply};
+
+/// The most machines that a builders list names.
+pub const MOST_MACHINES: usize = 1024;
+
+/// The loads of the builders, in the order of their list.
+fn fill_loads(inputs: &Inputs, book: &Book, loads: &mut [u32])
+    requires sized { length loads.old ≡ length inputs.now.machines }
+    requires few { length inputs.now.machines ≤ 1024 }
+    requires fits { (m : ℕ) → load m (reverse book.now.entries) < 2 ^ 32 }
+    ensures { loads.new ≡ loads_of (premises_of inputs.now) (reverse book.now.entries) }
+{
+    for place in 0..loads.len() {
+        let load = book.load(place as u32 + 1);
+        loads[place] = load as u32;
+    }
+}
+
+/// Which builders are up, in the order of their list.
+fn fill_ups(inputs: &Inputs, book: &Book, ups: &mut [bool])
+    requires sized { length ups.old ≡ length inputs.now.machines }
+    requires park { book.now.machines ≡ length inputs.now.machines + 1 }
+    ensures { ups.new ≡ ups_of (premises_of inputs.now) (reverse book.now.entries) }
+{
+    for place in 0..ups.len() {
+        ups[place] = book.is_up(place + 1);
+    }
+}
+
+/// Whether the local machine may build a derivation with this need, and is up.
+fn is_local(inputs: &Inputs, book: &Book, need: &Need) -> bool
+    requires { 0 < book.now.machines }
+    ensures { IsTrue result ↔ IsLocal (premises_of inputs.now) (reverse book.now.entries) need.now }
+{
+    if inputs.local.jobs() == 0 {
+        return false;
+    }
+    if !book.is_up(0) {
+        return false;
+    }
+    local_ok(&inputs.local, need)
+}
+
+/// Whether the local machine may build a derivation with this need, is up and has a free slot.
+fn is_local_free(inputs: &Inputs, book: &Book, need: &Need) -> bool
+    requires { 0 < book.now.machines }
+    ensures { IsTrue result ↔ IsLocalFree (premises_of inputs.now) (reverse book.now.entries) need.now }
+{
+    if !is_local(inputs, book, need) {
+        return false;
+    }
+    book.load(0) < inputs.local.jobs() as usize
+}
+
+/// The decision about derivation `drv`. It takes no memory.
+pub fn decide_now(inputs: &Inputs, book: &Book, drv: usize) -> Decision
+    requires sound { IsSound inputs.now.graph }
+    requires node { drv < length inputs.now.graph.paths }
+    requires few { length inputs.now.machines ≤ 1024 }
+    requires park { book.now.machines ≡ length inputs.now.machines + 1 }
+    requires fits { (m : ℕ) → load m (reverse book.now.entries) < 2 ^ 32 }
+    ensures { HasDecision (premises_of inputs.now) (reverse book.now.entries) drv result }
+{
+    let need = inputs.graph.need(drv);
+    let machines = inputs.machines.as_slice();
+    let mut loads = [0; MOST_MACHINES];
+    let loads = &mut loads[..machines.len()];
+    fill_loads(inputs, book, loads);
+    let mut ups = [false; MOST_MACHINES];
+    let ups = &mut ups[..machines.len()];
+    fill_ups(inputs, book, ups);
+    let loc = is_local(inputs, book, need);
+    let loc_free = is_local_free(inputs, book, need);
+    decide(machines, loads, ups, need, loc, loc_free)
+}
+
+/// The hook's reply about derivation `drv`, whatever its status. It takes no memory.
+pub fn reply_now(inputs: &Inputs, book: &Book, drv: usize) -> Reply
+    requires sound { IsSound inputs.now.graph }
+    requires node { drv < length inputs.now.graph.paths }
+    requires few { length inputs.now.machines ≤ 1024 }
+    requires park { book.now.machines ≡ length inputs.now.machines + 1 }
+    requires fits { (m : ℕ) → load m (reverse book.now.entries) < 2 ^ 32 }
+    ensures { HasReply (premises_of inputs.now) (reverse book.now.entries) drv result }
+{
+    let need = inputs.graph.need(drv);
+    let machines = inputs.machines.as_slice();
+    let mut loads = [0; MOST_MACHINES];
+    let loads = &mut loads[..machines.len()];
+    fill_loads(inputs, book, loads);
+    let mut ups = [false; MOST_MACHINES];
+    let ups = &mut ups[..machines.len()];
+    fill_ups(inputs, book, ups);
+    let loc_free = is_local_free(inputs, book, need);
+    reply(machines, loads, ups, need, loc_free)
+}
+
+/// The least slot of a machine that no live lease is on.
+pub fn free_slot(book: &Book, machine: u32, jobs: u32) -> u32
+    requires { load machine (reverse book.now.entries) < jobs }
+    ensures within { result < jobs }
+    ensures least { IsLeastFree (reverse book.now.entries) machine result }
+{
+    for slot in 0..jobs {
+        if !book.is_taken(machine, slot) {
+            return slot;
+        }
+    }
+    unreachable!()
+}

@@ -1,0 +1,15 @@
+//! Histories of leases: their entries, what follows from them, and which entry may come next.
+#![tactic(auto)]
+
+pub mod book;
+pub mod deciding;
+pub mod entry;
+mod finding;
+pub mod inputs;
+mod standing;
+pub mod stepping;
+mod tables;
+
+pub use book::Book;
+pub use entry::{Entry, Ticket, Why};
+pub use inputs::{Inputs, Parts};

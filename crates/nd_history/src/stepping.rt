@@ -1,0 +1,68 @@
+//! The next step of a pump.
+
+ghost use Rattle.std.specs.Prelude.{◌≡◌, ℕ, ◌+◌, ◌<◌, ◌≤◌, length, reverse, MatchOption};
+ghost use Rattle.nd_graph.specs.Graphs.{IsSound};
+ghost use Rattle.nd_history.specs.Premises.{premises_of};
+ghost use Rattle.nd_history.specs.Standing.{drvs_in, IsReady};
+ghost use Rattle.nd_history.specs.Choices.{AreSmall};
+ghost use Rattle.nd_history.specs.Legal.{IsLegal};
+ghost use Rattle.nd_history.specs.Pumping.{IsAtRest, AreAtRest, IsStepOf, IsPumpStep};
+ghost use Rattle.nd_history.specs.Fitting.{FitTogether};
+
+use crate::book::Book;
+use crate::deciding::{decide_now, free_slot};
+use crate::entry::Entry;
+use crate::inputs::Inputs;
+use crate::standing::is_ready;
+use nd_hook::Decision;
+
+/// The step of derivation `drv`, which is ready, if its decision isn't to wait.
+fn step_of_ready(inputs: &Inputs, book: &Book, drv: u32) -> Option<Entry>
+    requires fit { FitTogether (premises_of inputs.now) book.now }
+    requires ready { IsReady (premises_of inputs.now) (reverse book.now.entries) drv }
+    ensures { MatchOption result (IsAtRest (premises_of inputs.now) (reverse book.now.entries) drv) (IsStepOf (premises_of inputs.now) (reverse book.now.entries) drv) }
+{
+    match decide_now(inputs, book, drv as usize) {
+        Decision::Local => {
+            let slot = free_slot(book, 0, inputs.local.jobs());
+            Some(Entry::Chosen {
+                drv,
+                machine: 0,
+                slot,
+            })
+        }
+        Decision::Remote(place) => {
+            let jobs = inputs.machines.as_slice()[place].jobs();
+            let machine = place as u32 + 1;
+            let slot = free_slot(book, machine, jobs);
+            Some(Entry::Chosen { drv, machine, slot })
+        }
+        Decision::Wait => None,
+        Decision::NoBuilder => Some(Entry::NoBuilder { drv }),
+    }
+}
+
+/// The step of derivation `drv`, if it is ready and its decision isn't to wait.
+fn step_of(inputs: &Inputs, book: &Book, drv: u32) -> Option<Entry>
+    requires fit { FitTogether (premises_of inputs.now) book.now }
+    requires node { drv < drvs_in (premises_of inputs.now) }
+    ensures { MatchOption result (IsAtRest (premises_of inputs.now) (reverse book.now.entries) drv) (IsStepOf (premises_of inputs.now) (reverse book.now.entries) drv) }
+{
+    if !is_ready(inputs, book, drv) {
+        return None;
+    }
+    step_of_ready(inputs, book, drv)
+}
+
+/// The step of the first derivation that has one.
+pub fn next_step(inputs: &Inputs, book: &Book) -> Option<Entry>
+    requires fit { FitTogether (premises_of inputs.now) book.now }
+    ensures { MatchOption result (AreAtRest (premises_of inputs.now) (reverse book.now.entries)) (IsPumpStep (premises_of inputs.now) (reverse book.now.entries)) }
+{
+    for drv in 0..inputs.graph.len() {
+        if let Some(step) = step_of(inputs, book, drv as u32) {
+            return Some(step);
+        }
+    }
+    None
+}

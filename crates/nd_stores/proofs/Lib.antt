@@ -1,0 +1,4 @@
+pub mod Gains
+pub mod Joined
+pub mod Lookalikes
+pub mod Storing
