@@ -3,3 +3,4 @@ pub mod Parks
 pub mod Asks
 pub mod Paths
 pub mod Asked
+pub mod Statuses

@@ -1,4 +1,6 @@
 //! Why the program ends without its answer, and the line that it then writes on standard error.
+ghost use Rattle.std.specs.Prelude.{◌≡◌};
+ghost use Rattle.nd_cli.specs.Statuses.{exit_status};
 
 use nd_graph::GraphError;
 use nd_machines::MachineError;
@@ -73,7 +75,9 @@ pub enum CliFault {
 
 impl CliFault {
     /// The exit status: 3 where an input is refused, 5 where a device or the memory failed.
-    pub fn status(&self) -> u8 {
+    pub fn status(&self) -> u8
+        ensures { result ≡ exit_status self.now }
+    {
         match self {
             CliFault::Derivation(_)
             | CliFault::Drvs(_)
