@@ -6,6 +6,7 @@ pub mod OneChoice
 pub mod Provisions
 pub mod Readiness
 pub mod Reported
+pub mod Rules
 pub mod Slots
 pub mod Steps
 pub mod Turned

@@ -1,3 +1,4 @@
+pub mod Audit
 pub mod Books
 pub mod BooksKept
 pub mod Choices

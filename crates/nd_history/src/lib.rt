@@ -1,11 +1,14 @@
 //! Histories of leases: their entries, what follows from them, and which entry may come next.
 #![tactic(auto)]
 
+pub mod auditing;
 pub mod book;
 pub mod deciding;
 pub mod entry;
 mod finding;
 pub mod inputs;
+pub mod laws;
+pub mod rule;
 mod standing;
 pub mod stepping;
 mod tables;
@@ -13,3 +16,4 @@ mod tables;
 pub use book::Book;
 pub use entry::{Entry, Ticket, Why};
 pub use inputs::{Inputs, Parts};
+pub use rule::Rule;

@@ -1,0 +1,23 @@
+use Rattle.std.proofs.Common.{◌≤◌, reverse, arith}
+use Rattle.nd_history.specs.Premises.{premises_of}
+use Rattle.nd_history.specs.History.{load}
+use Rattle.nd_history.specs.Choices.{jobs_of}
+use Rattle.nd_history.proofs.Rules.{judged_worse, judged_remote}
+use Rattle.nd_history.proofs.Slots.{load_within}
+use Rattle.nd_history.proofs.auditing.check_ready_choice.Goals as goal
+
+pub decide_now-requires-clause-fits : goal.decide_now-requires-clause-fits
+decide_now-requires-clause-fits c = λ m.
+    let within : load m (reverse c.args.book.now.entries) ≤ jobs_of (premises_of c.args.inputs.now) m = load_within (premises_of c.args.inputs.now) (reverse c.args.book.now.entries) c.requires.fit.legal m in
+    let small : jobs_of (premises_of c.args.inputs.now) m ≤ 65535 = c.requires.fit.small.jobs m in
+    omega (arith, within, small)
+
+pub returns-then-machine-place : goal.returns-then-machine-place
+returns-then-machine-place c =
+    judged_worse (premises_of c.args.inputs.now) (reverse c.args.book.now.entries) c.args.drv c.in-Remote.place c.args.machine c.args.slot
+    c.requires.ranged c.requires.ready c.in-Remote.ensures c.if-machine-eq0.false c.if-machine-place.true
+
+pub returns-else-machine-place : goal.returns-else-machine-place
+returns-else-machine-place c =
+    judged_remote (premises_of c.args.inputs.now) (reverse c.args.book.now.entries) c.args.drv c.in-Remote.place c.args.machine c.args.slot c.check_slot-in-Remote.result
+    c.check_slot-in-Remote.ensures c.requires.ranged c.requires.ready c.in-Remote.ensures c.if-machine-eq0.false c.if-machine-place.false

@@ -1,0 +1,181 @@
+//! Which rule refuses an entry.
+
+ghost use Rattle.std.specs.Prelude.{◌≡◌, ◌+◌, ◌<◌, ◌≤◌, ◌↔◌, IsTrue, length, reverse, MatchResult};
+ghost use Rattle.nd_history.specs.Premises.{premises_of};
+ghost use Rattle.nd_history.specs.History.{is_taken};
+ghost use Rattle.nd_history.specs.Standing.{drvs_in, IsReady};
+ghost use Rattle.nd_history.specs.Choices.{machines_in, jobs_of};
+ghost use Rattle.nd_history.specs.Legal.{IsInRange, IsLeastFree, IsAllowed};
+ghost use Rattle.nd_history.specs.Fitting.{FitTogether};
+ghost use Rattle.nd_history.specs.Audit.{IsFirstRule};
+
+use crate::book::Book;
+use crate::deciding::decide_now;
+use crate::entry::Entry;
+use crate::inputs::Inputs;
+use crate::rule::Rule;
+use crate::standing::is_ready;
+use nd_hook::Decision;
+
+/// Whether there is a derivation with this number.
+fn is_node(inputs: &Inputs, drv: u32) -> bool
+    ensures { IsTrue result ↔ (drv < drvs_in (premises_of inputs.now)) }
+{
+    (drv as usize) < inputs.graph.len()
+}
+
+/// Whether there is a machine with this number.
+fn is_machine(inputs: &Inputs, machine: u32) -> bool
+    ensures { IsTrue result ↔ (machine < machines_in (premises_of inputs.now)) }
+{
+    machine as usize <= inputs.machines.as_slice().len()
+}
+
+/// How many builds may run at once on this machine: none where there is no such machine.
+fn jobs_on(inputs: &Inputs, machine: u32) -> u32
+    ensures { result ≡ jobs_of (premises_of inputs.now) machine }
+{
+    if machine == 0 {
+        return inputs.local.jobs();
+    }
+    match inputs.machines.as_slice().get(machine as usize - 1) {
+        Some(builder) => builder.jobs(),
+        None => 0,
+    }
+}
+
+/// Whether the derivation, the machine and the slot of a choice are there.
+fn is_choice_in_range(inputs: &Inputs, drv: u32, machine: u32, slot: u32) -> bool
+    ensures { IsTrue result ↔ IsInRange (premises_of inputs.now) (Entry.Chosen drv machine slot) }
+{
+    if !is_node(inputs, drv) {
+        return false;
+    }
+    if !is_machine(inputs, machine) {
+        return false;
+    }
+    slot < jobs_on(inputs, machine)
+}
+
+/// Whether all that the entry names is there.
+pub fn is_in_range(inputs: &Inputs, entry: &Entry) -> bool
+    ensures { IsTrue result ↔ IsInRange (premises_of inputs.now) entry.now }
+{
+    match entry {
+        Entry::Chosen { drv, machine, slot } => is_choice_in_range(inputs, *drv, *machine, *slot),
+        Entry::NoBuilder { drv } => is_node(inputs, *drv),
+        Entry::Started { drv, .. } => is_node(inputs, *drv),
+        Entry::Down { drv } => is_node(inputs, *drv),
+        Entry::Built { drv, .. } => is_node(inputs, *drv),
+        Entry::Failed { drv, .. } => is_node(inputs, *drv),
+        Entry::Stop => true,
+        Entry::Drain { machine } => is_machine(inputs, *machine),
+        Entry::Enable { machine } => is_machine(inputs, *machine),
+    }
+}
+
+/// Whether this is the least slot of the machine that no live lease is on.
+fn is_least_free(book: &Book, machine: u32, slot: u32) -> bool
+    ensures { IsTrue result ↔ IsLeastFree (reverse book.now.entries) machine slot }
+{
+    if book.is_taken(machine, slot) {
+        return false;
+    }
+    for earlier in 0..slot {
+        if !book.is_taken(machine, earlier) {
+            return false;
+        }
+    }
+    true
+}
+
+/// Refuses with `Slot` a slot that isn't the machine's least free one.
+fn check_slot(book: &Book, machine: u32, slot: u32) -> Result<(), Rule>
+    ensures { MatchResult result (λ _. IsLeastFree (reverse book.now.entries) machine slot) (λ rule. (rule ≡ Rule.Slot) × (IsLeastFree (reverse book.now.entries) machine slot → ⊥)) }
+{
+    if is_least_free(book, machine, slot) {
+        Ok(())
+    } else {
+        Err(Rule::Slot)
+    }
+}
+
+/// Tests the choice of a slot for a derivation that is ready.
+fn check_ready_choice(
+    inputs: &Inputs,
+    book: &Book,
+    drv: u32,
+    machine: u32,
+    slot: u32,
+) -> Result<(), Rule>
+    requires fit { FitTogether (premises_of inputs.now) book.now }
+    requires ranged { IsInRange (premises_of inputs.now) (Entry.Chosen drv machine slot) }
+    requires ready { IsReady (premises_of inputs.now) (reverse book.now.entries) drv }
+    ensures { MatchResult result (λ _. IsAllowed (premises_of inputs.now) (Entry.Chosen drv machine slot) (reverse book.now.entries)) (IsFirstRule (premises_of inputs.now) (reverse book.now.entries) (Entry.Chosen drv machine slot)) }
+{
+    match decide_now(inputs, book, drv as usize) {
+        Decision::Local => {
+            if machine != 0 {
+                return Err(Rule::Decision);
+            }
+            check_slot(book, machine, slot)
+        }
+        Decision::Remote(place) => {
+            if machine == 0 {
+                return Err(Rule::Decision);
+            }
+            if machine as usize - 1 != place {
+                return Err(Rule::Best);
+            }
+            check_slot(book, machine, slot)
+        }
+        Decision::Wait => Err(Rule::Decision),
+        Decision::NoBuilder => Err(Rule::Decision),
+    }
+}
+
+/// Tests the choice of a slot, all that it names being there: it is refused with the first rule that
+/// it breaks. It takes no memory.
+pub fn check_choice(
+    inputs: &Inputs,
+    book: &Book,
+    drv: u32,
+    machine: u32,
+    slot: u32,
+) -> Result<(), Rule>
+    requires fit { FitTogether (premises_of inputs.now) book.now }
+    requires ranged { IsInRange (premises_of inputs.now) (Entry.Chosen drv machine slot) }
+    ensures { MatchResult result (λ _. IsAllowed (premises_of inputs.now) (Entry.Chosen drv machine slot) (reverse book.now.entries)) (IsFirstRule (premises_of inputs.now) (reverse book.now.entries) (Entry.Chosen drv machine slot)) }
+{
+    if !is_ready(inputs, book, drv) {
+        return Err(Rule::Ready);
+    }
+    check_ready_choice(inputs, book, drv, machine, slot)
+}
+
+/// Tests the word that nothing can build a derivation that is ready.
+fn check_ready_no_builder(inputs: &Inputs, book: &Book, drv: u32) -> Result<(), Rule>
+    requires fit { FitTogether (premises_of inputs.now) book.now }
+    requires ready { IsReady (premises_of inputs.now) (reverse book.now.entries) drv }
+    ensures { MatchResult result (λ _. IsAllowed (premises_of inputs.now) (Entry.NoBuilder drv) (reverse book.now.entries)) (IsFirstRule (premises_of inputs.now) (reverse book.now.entries) (Entry.NoBuilder drv)) }
+{
+    match decide_now(inputs, book, drv as usize) {
+        Decision::NoBuilder => Ok(()),
+        Decision::Local => Err(Rule::Decision),
+        Decision::Remote(_) => Err(Rule::Decision),
+        Decision::Wait => Err(Rule::Decision),
+    }
+}
+
+/// Tests the word that nothing can build a derivation, which is there: it is refused with the first
+/// rule that it breaks. It takes no memory.
+pub fn check_no_builder(inputs: &Inputs, book: &Book, drv: u32) -> Result<(), Rule>
+    requires fit { FitTogether (premises_of inputs.now) book.now }
+    requires ranged { drv < drvs_in (premises_of inputs.now) }
+    ensures { MatchResult result (λ _. IsAllowed (premises_of inputs.now) (Entry.NoBuilder drv) (reverse book.now.entries)) (IsFirstRule (premises_of inputs.now) (reverse book.now.entries) (Entry.NoBuilder drv)) }
+{
+    if !is_ready(inputs, book, drv) {
+        return Err(Rule::Ready);
+    }
+    check_ready_no_builder(inputs, book, drv)
+}
