@@ -1,0 +1,3 @@
+pub mod HistoryTexts
+pub mod Lines
+pub mod Sending
