@@ -6,7 +6,9 @@ pub mod OneChoice
 pub mod Provisions
 pub mod Readiness
 pub mod Reported
+pub mod Resting
 pub mod Rules
 pub mod Slots
+pub mod StartsOnce
 pub mod Steps
 pub mod Turned

@@ -33,7 +33,10 @@ step_ready i past d (Drain m) step = let h = step.about in cc
 step_ready i past d (Enable m) step = let h = step.about in cc
 
 pub rest_unready : (i : Premises) (past : List Entry) (d : ℕ) → (IsReady i past d → ⊥) → IsAtRest i past d
-rest_unready i past d unready = record { rests = λ e step. unready (step_ready i past d e step) }
+rest_unready i past d unready = record {
+  rests = λ e step. unready (step_ready i past d e step);
+  waits = λ (ready : IsReady i past d). absurd (unready ready);
+}
 
 place_no_wait : (i : Premises) (past : List Entry) (d m : ℕ) → IsPlaceFor i past d m → HasDecision i past d Wait → ⊥
 place_no_wait i past d zero place wait = let same = decision_once i past d Local Wait place wait in cc
@@ -57,7 +60,10 @@ step_no_wait i past d (Drain m) step wait = let h = step.about in cc
 step_no_wait i past d (Enable m) step wait = let h = step.about in cc
 
 pub rest_waiting : (i : Premises) (past : List Entry) (d : ℕ) → HasDecision i past d Wait → IsAtRest i past d
-rest_waiting i past d wait = record { rests = λ e step. step_no_wait i past d e step wait }
+rest_waiting i past d wait = record {
+  rests = λ e step. step_no_wait i past d e step wait;
+  waits = λ (ready : IsReady i past d). wait;
+}
 
 -- the step where the local machine is decided on
 pub step_local : (i : Premises) (past : List Entry) (d s : ℕ) → IsReady i past d → HasDecision i past d Local → s < i.local.jobs → IsLeastFree past 0 s → IsStepOf i past d (Chosen d 0 s)

@@ -1,6 +1,6 @@
 -- The claims about every history that a dispatch holds. The histories of these definitions stand newest first.
 -- "At its place" an entry comes after those that stand before it: `past ≡ later ++ e ∷ before`.
-use Rattle.std.specs.Prelude.{◌≡◌, ◌==◌, ℕ, zero, suc, ◌<◌, ◌≤◌, true, List, ◌∷◌, ◌++◌, length, count_by, Some, slice_get}
+use Rattle.std.specs.Prelude.{◌≡◌, ◌==◌, ℕ, zero, suc, ◌<◌, ◌≤◌, Bool, true, false, List, ◌∷◌, ◌++◌, length, count_by, Some, slice_get}
 use Rattle.nd_eligible.specs.declared.need.Need.{Need}
 use Rattle.nd_eligible.specs.Eligibility.{IsEligibleAt, LocalOk}
 use Rattle.nd_hook.specs.declared.kinds.Decision.TheVariants.{Local}
@@ -51,6 +51,15 @@ pub record WasEligible (i : Premises) (before : List Entry) (d : ℕ) : Type 0 w
 -- eligible: each start was that of a lease on an eligible machine
 pub record StartsAreEligible (i : Premises) (past : List Entry) : Type 0 where
   pub starts : (later before : List Entry) (d : ℕ) (paths : List (List ℕ)) → past ≡ later ++ Started d paths ∷ before → WasEligible i before d
+
+-- the entry says that the build of derivation d started
+abbrev pub starts : ℕ → Entry → Bool
+starts d (Started e paths) = d == e
+starts d _ = false
+
+-- no derivation is started twice, whatever became of its first start
+pub record StartsAreOnce (past : List Entry) : Type 0 where
+  pub once : (d : ℕ) → count_by (starts d) past ≤ 1
 
 -- least-loaded choice: each choice of a builder was the best one at its place, and each choice of the local machine was the
 -- decision there, with a free local slot

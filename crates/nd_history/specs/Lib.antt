@@ -11,5 +11,6 @@ pub mod Legal
 pub mod Premises
 pub mod Pumping
 pub mod References
+pub mod Resting
 pub mod Standing
 pub mod Statuses

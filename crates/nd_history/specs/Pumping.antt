@@ -1,10 +1,13 @@
 -- The steps of a pump: choices, and derivations that nothing can build. The histories of these definitions stand newest
 -- first, but for those of `ArePumpSteps`.
 use Rattle.std.specs.Prelude.{◌≡◌, ℕ, ◌<◌, Bool, not, ◌||◌, length, List, [], ◌∷◌, ◌++◌, reverse, Option, Some, None}
+use Rattle.nd_hook.specs.declared.kinds.Decision.TheVariants.{Wait}
 use Rattle.nd_history.specs.declared.entry.Entry.{Entry}
 use Rattle.nd_history.specs.declared.entry.Entry.TheVariants.{Chosen, NoBuilder, Started, Down, Built, Failed, Stop, Drain, Enable}
 use Rattle.nd_history.specs.Premises.{Premises}
 use Rattle.nd_history.specs.History.{is_built, is_failed, is_leased}
+use Rattle.nd_history.specs.Standing.{IsReady}
+use Rattle.nd_history.specs.Choices.{HasDecision}
 use Rattle.nd_history.specs.Legal.{IsAllowed}
 
 -- the derivation that a step is about; other entries are no steps
@@ -27,6 +30,7 @@ pub record IsStepOf (i : Premises) (past : List Entry) (d : ℕ) (e : Entry) : T
 -- there is no step about derivation d: it isn't ready, or it is to wait
 pub record IsAtRest (i : Premises) (past : List Entry) (d : ℕ) : Type 0 where
   pub rests : (e : Entry) → IsStepOf i past d e → ⊥
+  pub waits : IsReady i past d → HasDecision i past d Wait
 
 -- there is no step left
 pub record AreAtRest (i : Premises) (past : List Entry) : Type 0 where

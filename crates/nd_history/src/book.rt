@@ -1,6 +1,6 @@
 //! The entries so far, and what follows from them for leases and machines.
 
-ghost use Rattle.std.specs.Prelude.{◌≡◌, ◌+◌, ◌<◌, ◌≤◌, ◌^◌, ◌++◌, [], ◌∷◌, length, reverse, IfOk, OnOk};
+ghost use Rattle.std.specs.Prelude.{◌≡◌, ◌+◌, ◌<◌, ◌≤◌, ◌^◌, ◌++◌, [], ◌∷◌, length, reverse, vec_capacity, IfOk, OnOk};
 ghost use Rattle.nd_history.specs.History.{live, lease_of, current_of, load, is_taken, is_started, is_up, has_stop, is_leased, is_built, is_failed, is_failure};
 ghost use Rattle.std.specs.List.{list_any};
 
@@ -77,6 +77,29 @@ impl Book {
             failed: vec![in alloc; false; drvs]?,
             failure: false,
             stop: false,
+        })
+    }
+
+    /// A copy with the same entries, with room for the end of each live lease and for one entry more.
+    pub fn try_clone(&self, alloc: Global) -> Result<Book, AllocError>
+        ensures entries { IfOk result (λ copy. copy.entries ≡ self.now.entries) }
+        ensures drvs { IfOk result (λ copy. copy.drvs ≡ self.now.drvs) }
+        ensures machines { IfOk result (λ copy. copy.machines ≡ self.now.machines) }
+        ensures room { IfOk result (λ copy. length (live (reverse self.now.entries)) + 1 ≤ copy.room) }
+    {
+        let more = self.leases.len() + 1;
+        let entries = copy_entries(alloc, self.entries.as_slice(), more)?;
+        let mut leases = Vec::from_slice(alloc, self.leases.as_slice())?;
+        leases.reserve(more)?;
+        Ok(Book {
+            entries,
+            leases,
+            started: Vec::from_slice(alloc, self.started.as_slice())?,
+            ups: Vec::from_slice(alloc, self.ups.as_slice())?,
+            built: Vec::from_slice(alloc, self.built.as_slice())?,
+            failed: Vec::from_slice(alloc, self.failed.as_slice())?,
+            failure: self.failure,
+            stop: self.stop,
         })
     }
 
@@ -190,4 +213,17 @@ impl Book {
     {
         self.ups[machine]
     }
+}
+
+/// Copies of these entries, with room for `more` beside them.
+fn copy_entries(alloc: Global, entries: &[Entry], more: usize) -> Result<Vec<Entry>, AllocError>
+    requires { more ≤ 2 ^ 63 }
+    ensures items { IfOk result (λ copy. copy.items ≡ entries.now) }
+    ensures room { IfOk result (λ copy. length entries.now + more ≤ vec_capacity copy) }
+{
+    let mut copy = Vec::with_capacity(alloc, entries.len() + more)?;
+    for entry in entries {
+        copy.push_reserved(entry.try_clone()?);
+    }
+    Ok(copy)
 }

@@ -1,10 +1,14 @@
 //! What a dispatch is made of: the five inputs, which never change.
 
+ghost use Rattle.std.specs.Prelude.{◌≡◌, IfOk};
+ghost use Rattle.nd_history.specs.Premises.{premises_of};
+
 use nd_bytes::Items;
 use nd_closure::RefTable;
 use nd_eligible::Local;
 use nd_graph::Graph;
 use nd_machines::Machine;
+use std::alloc::{AllocError, Global};
 
 /// The five inputs as [`crate::Dispatch::new`] hands them back where memory was refused.
 #[derive(Drop, Debug)]
@@ -34,4 +38,30 @@ pub struct Inputs {
     pub info: RefTable,
     /// Whether the rest goes on after a failure.
     pub keep_going: bool,
+}
+
+impl Inputs {
+    /// A copy that is equal to the original. Room of a table of references is no part of this.
+    pub fn try_clone(&self, alloc: Global) -> Result<Inputs, AllocError>
+        ensures { IfOk result (λ copy. premises_of copy ≡ premises_of self.now) }
+    {
+        Ok(Inputs {
+            graph: self.graph.try_clone(alloc)?,
+            machines: copy_machines(alloc, self.machines.as_slice())?,
+            local: self.local.try_clone(alloc)?,
+            info: self.info.try_clone()?,
+            keep_going: self.keep_going,
+        })
+    }
+}
+
+/// Copies of these builders.
+fn copy_machines(alloc: Global, machines: &[Machine]) -> Result<Items<Machine>, AllocError>
+    ensures { IfOk result (λ copy. copy ≡ machines.now) }
+{
+    let mut copy = Vec::with_capacity(alloc, machines.len())?;
+    for machine in machines {
+        copy.push(machine.try_clone(alloc)?)?;
+    }
+    Ok(Items::new(copy))
 }

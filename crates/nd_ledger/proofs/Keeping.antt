@@ -1,5 +1,5 @@
 -- What a dispatch holds stays so when an allowed entry is recorded.
-use Rattle.std.proofs.Common.{◌≡◌, ℕ, ◌+◌, ◌<◌, ◌≤◌, Bool, true, false, not, ◌==◌, ◌||◌, cond, if◌then◌else◌, List, [], ◌∷◌, ◌++◌, length, reverse, refl, sym, ◌∙◌, subst, arith, Some}
+use Rattle.std.proofs.Common.{◌≡◌, ℕ, ◌+◌, ◌<◌, ◌≤◌, Bool, true, false, not, ◌==◌, ◌||◌, cond, if◌then◌else◌, List, [], ◌∷◌, ◌++◌, length, reverse, refl, sym, ap, ◌∙◌, subst, arith, Some}
 use Rattle.std.proofs.lemmas.Grind.{common_steps}
 use Rattle.std.specs.List.{list_any, filter, find}
 use Rattle.nd_ledger.specs.declared.dispatch.Dispatch.TheInside.{Inside}
@@ -8,8 +8,11 @@ use Rattle.nd_history.specs.declared.entry.Entry.TheVariants.{Chosen, NoBuilder,
 use Rattle.nd_history.specs.declared.entry.Ticket.{Ticket}
 use Rattle.nd_history.specs.declared.entry.Why.{Why}
 use Rattle.nd_history.specs.Books.{Recorded}
-use Rattle.nd_history.specs.Premises.{premises_of}
+use Rattle.nd_history.specs.Premises.{Premises, premises_of}
 use Rattle.nd_history.specs.History.{live, without, load, is_leased, lease_of, is_started, has_stop}
+use Rattle.nd_graph.specs.Graphs.{IsSound}
+use Rattle.nd_history.specs.Standing.{drvs_in}
+use Rattle.nd_history.specs.Choices.{AreSmall}
 use Rattle.nd_history.specs.Legal.{IsLegal, IsAllowed}
 use Rattle.nd_history.specs.Fitting.{FitTogether}
 use Rattle.nd_stores.specs.Stored.{Stored, AreStored, is_quiet, IsSameStored, HasTaken}
@@ -232,3 +235,38 @@ kept_built d book mid new t refs a e is rec was same ready took =
     kept_with d book new (Built t.drv refs) (subst P is rec) was allowed
     (let less = fewer t.drv (live past) leased in let room = was.room in omega arith)
     (stored_built i past t.drv t refs mid new a (allowed, was.legal) ready.live (stored_same i past d.stores mid same was.stores) ready.adds took)
+
+-- ---- copies
+
+-- the same inputs and entries, with room for the end of each live lease and for a stop
+pub record IsCopy (d copy : Inside) : Type 0 where
+  pub inputs : premises_of copy.inputs ≡ premises_of d.inputs
+  pub entries : copy.book.entries ≡ d.book.entries
+  pub drvs : copy.book.drvs ≡ d.book.drvs
+  pub machines : copy.book.machines ≡ d.book.machines
+  pub room : length (live (reverse d.book.entries)) + 1 ≤ copy.book.room
+  pub stores : IsSameStored d.stores copy.stores
+
+-- a copy holds what the original holds
+pub kept_copy : (d copy : Inside) → IsCopy d copy → IsKept d → IsKept copy
+kept_copy d copy same was =
+    let past = reverse d.book.entries in
+    let stored = stored_same (premises_of d.inputs) past d.stores copy.stores same.stores was.stores in
+    let roomy : room_for past ≤ copy.book.room = (let bit = stop_bit (has_stop past) in let room = same.room in omega arith) in
+    let Legal : Premises → Type 0 = λ i. IsLegal i past in
+    let Sound : Premises → Type 0 = λ i. IsSound i.graph in
+    let Few : Premises → Type 0 = λ i. length i.machines ≤ 1024 in
+    let Stores : Premises → Type 0 = λ i. AreStored i past copy.stores in
+    let LegalAfter : List Entry → Type 0 = λ es. IsLegal (premises_of copy.inputs) (reverse es) in
+    let RoomAfter : List Entry → Type 0 = λ es. room_for (reverse es) ≤ copy.book.room in
+    let StoresAfter : List Entry → Type 0 = λ es. AreStored (premises_of copy.inputs) (reverse es) copy.stores in
+    record {
+      legal = subst LegalAfter (sym same.entries) (subst Legal (sym same.inputs) was.legal);
+      room = subst RoomAfter (sym same.entries) roomy;
+      sound = subst Sound (sym same.inputs) was.sound;
+      drvs = same.drvs ∙ was.drvs ∙ ap drvs_in (sym same.inputs);
+      park = same.machines ∙ was.park ∙ ap (λ (i : Premises). length i.machines + 1) (sym same.inputs);
+      few = subst Few (sym same.inputs) was.few;
+      small = subst AreSmall (sym same.inputs) was.small;
+      stores = subst StoresAfter (sym same.entries) (subst Stores (sym same.inputs) stored);
+    }

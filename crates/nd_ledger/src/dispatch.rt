@@ -5,7 +5,8 @@ ghost use Rattle.nd_history.specs.History.{live, lease_of, current_of, load, is_
 ghost use Rattle.nd_history.specs.Choices.{machines_in, HasReply};
 ghost use Rattle.nd_history.specs.Legal.{IsLegal};
 ghost use Rattle.nd_history.specs.Closing.{StartsAreProvisioned};
-ghost use Rattle.nd_history.specs.Headline.{SlotsAreLeases, LeasesAreInOrder, StartsAreEligible, ChoicesAreBest};
+ghost use Rattle.nd_history.specs.Headline.{SlotsAreLeases, LeasesAreInOrder, StartsAreOnce, StartsAreEligible, ChoicesAreBest};
+ghost use Rattle.nd_history.specs.Resting.{WaitsForLeases};
 ghost use Rattle.nd_history.specs.Pumping.{HasPumped, HasPumpedBy, AreAtRest};
 ghost use Rattle.nd_choose.specs.Best.{jobs_at};
 ghost use Rattle.nd_ledger.specs.Moves.{IsStartRefused, IsEndRefused, IsJobRefused};
@@ -58,11 +59,13 @@ impl Dispatch {
 
     /// Again and again the first derivation, in the order of the bundle, that is ready and whose
     /// decision is not to wait gets its choice or the word that nothing can build it, until there is
-    /// none. The answer is the number of these steps; those made before a refusal stand.
+    /// none. The answer is the number of these steps; those made before a refusal stand. Where no lease
+    /// is live after an answer, nothing waits.
     pub fn pump(&mut self) -> Result<usize, AllocError>
         ensures inputs { self.new.inputs ≡ self.old.inputs }
         ensures steps { IfOk result (HasPumpedBy self.old.inputs self.old.history self.new.history) }
         ensures rest { OnOk result (AreAtRest self.new.inputs (reverse self.new.history)) }
+        ensures idle { OnOk result (WaitsForLeases self.new.inputs (reverse self.new.history)) }
         ensures err { OnErr result (HasPumped self.old.inputs self.old.history self.new.history) }
     {
         let before = self.book.entries().len();
@@ -71,6 +74,7 @@ impl Dispatch {
             self.book.make_room(room)?;
             self.book.record(step);
         }
+        let _order = self.inputs.graph.order();
         Ok(self.book.entries().len() - before)
     }
 
@@ -315,6 +319,18 @@ impl Dispatch {
         })
     }
 
+    /// A copy that is equal to the original. It keeps room of its own for the end of each live lease and
+    /// for a stop.
+    pub fn try_clone(&self, alloc: Global) -> Result<Dispatch, AllocError>
+        ensures { IfOk result (λ copy. copy ≡ self.now) }
+    {
+        Ok(Dispatch {
+            inputs: self.inputs.try_clone(alloc)?,
+            book: self.book.try_clone(alloc)?,
+            stores: self.stores.try_clone()?,
+        })
+    }
+
     /// The hook's reply about derivation `i`, as the machines are now. It doesn't ask how `i` stands,
     /// and takes no memory.
     pub fn ask(&self, i: usize) -> Reply
@@ -359,17 +375,18 @@ impl Dispatch {
     /// - slots are leases: each slot of a machine is taken by at most one live lease, and no machine
     ///   has more of them than it may build at once;
     /// - one lease, inputs first: no derivation has two live leases, and none was leased before its
-    ///   inputs were built;
+    ///   inputs were built; and none was started twice;
     /// - eligible and provisioned: each start was that of a lease on a machine that was eligible, and
     ///   that machine holds the derivation's input closure;
     /// - least-loaded choice: each choice of a builder was the least loaded of the eligible machines
     ///   that were up and free at its place in the history.
-    #[tactic(auto, using(nd_history::proofs::Headline::slots_are_leases, nd_history::proofs::Headline::leases_are_in_order, nd_history::proofs::Headline::starts_are_eligible, nd_history::proofs::Headline::choices_are_best, nd_history::proofs::Provisions::starts_are_provisioned))]
+    #[tactic(auto, using(nd_history::proofs::Headline::slots_are_leases, nd_history::proofs::Headline::leases_are_in_order, nd_history::proofs::StartsOnce::starts_are_once, nd_history::proofs::Headline::starts_are_eligible, nd_history::proofs::Headline::choices_are_best, nd_history::proofs::Provisions::starts_are_provisioned))]
     pub fn history(&self) -> &[Entry]
         ensures value { result.now ≡ self.now.history }
         ensures legal { IsLegal self.now.inputs (reverse self.now.history) }
         ensures slots { SlotsAreLeases self.now.inputs (reverse self.now.history) }
         ensures leases { LeasesAreInOrder self.now.inputs (reverse self.now.history) }
+        ensures once { StartsAreOnce (reverse self.now.history) }
         ensures starts { StartsAreEligible self.now.inputs (reverse self.now.history) }
         ensures provisioned { StartsAreProvisioned self.now.inputs (reverse self.now.history) }
         ensures choices { ChoicesAreBest self.now.inputs (reverse self.now.history) }

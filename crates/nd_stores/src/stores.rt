@@ -57,6 +57,16 @@ impl Stores {
         Ok(Stores { table, holdings })
     }
 
+    /// A copy with the same references and the same holdings. Reserved room is no part of this.
+    pub fn try_clone(&self) -> Result<Stores, AllocError>
+        ensures { IfOk result (IsSameStored self.now) }
+    {
+        Ok(Stores {
+            table: self.table.try_clone()?,
+            holdings: self.holdings.try_clone()?,
+        })
+    }
+
     /// The input closure of derivation `drv`.
     pub fn closure(&self, alloc: Global, inputs: &Inputs, drv: usize) -> Result<PathSet, AllocError>
         requires { drv < length inputs.now.graph.paths }

@@ -6,6 +6,7 @@ use Rattle.nd_history.specs.Premises.{Premises, premises_of}
 use Rattle.nd_history.specs.Pumping.{IsPumpStep}
 use Rattle.nd_history.proofs.Following.{newest_first}
 use Rattle.nd_ledger.proofs.Keeping.{kept_more, live_grows, step_quiet}
+use Rattle.nd_history.proofs.Resting.{waits_for_leases}
 use Rattle.nd_history.proofs.Steps.{pumped_more, pump_smaller, pump_counted}
 use Rattle.nd_ledger.proofs.dispatch.Dispatch.pump.Goals as goal
 
@@ -44,3 +45,8 @@ returns-clause-steps c =
           pump_counted c.args.self.now.history c.loop-step.self-inside.book.entries c.entries-before.result.now c.entries.result.now pumped.steps
           c.entries.ensures (c.entries-before.ensures ∙ ap (λ (w : World). w.history) c.self.view_is) pumped.grown;
     }
+
+pub returns-clause-idle : goal.returns-clause-idle
+returns-clause-idle c =
+    let d = c.loop-step.self-inside in
+    waits_for_leases (premises_of d.inputs) (reverse d.book.entries) c.order-order.result.now c.loop-step.invariant.kept.sound.ranged c.order-order.ensures.fall c.in_default.ensures
