@@ -11,4 +11,5 @@ pub mod Rules
 pub mod Slots
 pub mod StartsOnce
 pub mod Steps
+pub mod Tallies
 pub mod Turned

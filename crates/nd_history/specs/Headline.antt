@@ -3,13 +3,17 @@
 use Rattle.std.specs.Prelude.{◌≡◌, ◌==◌, ℕ, zero, suc, ◌<◌, ◌≤◌, Bool, true, false, List, ◌∷◌, ◌++◌, length, count_by, Some, slice_get}
 use Rattle.nd_eligible.specs.declared.need.Need.{Need}
 use Rattle.nd_eligible.specs.Eligibility.{IsEligibleAt, LocalOk}
+use Rattle.nd_failure.specs.Statuses.{total_of}
+use Rattle.nd_failure.specs.declared.status.Counts.{Counts}
+use Rattle.nd_failure.specs.declared.status.Status.{Status}
 use Rattle.nd_hook.specs.declared.kinds.Decision.TheVariants.{Local}
 use Rattle.nd_history.specs.declared.entry.Entry.{Entry}
 use Rattle.nd_history.specs.declared.entry.Entry.TheVariants.{Chosen, Started}
 use Rattle.nd_history.specs.declared.entry.Ticket.{Ticket}
 use Rattle.nd_history.specs.Premises.{Premises}
 use Rattle.nd_history.specs.History.{live, load, is_on, is_taken, lease_of}
-use Rattle.nd_history.specs.Standing.{AreInputsBuilt}
+use Rattle.nd_history.specs.Standing.{drvs_in, AreInputsBuilt}
+use Rattle.nd_history.specs.Statuses.{HasStatusIn, AreCountsIn}
 use Rattle.nd_history.specs.Choices.{jobs_of, HasDecision, IsBestFor}
 
 -- slots are leases: a slot is taken by one live lease only, it is one of its machine's, and no machine has more live leases
@@ -60,6 +64,11 @@ starts d _ = false
 -- no derivation is started twice, whatever became of its first start
 pub record StartsAreOnce (past : List Entry) : Type 0 where
   pub once : (d : ℕ) → count_by (starts d) past ≤ 1
+
+-- counts sum: no derivation has two statuses, and the numbers of derivations with each status sum to the number of derivations
+pub record CountsSum (i : Premises) (past : List Entry) : Type 0 where
+  pub once : (d : ℕ) (s t : Status) → HasStatusIn i past d s → HasStatusIn i past d t → s ≡ t
+  pub sum : (counts : Counts) → AreCountsIn i past counts → total_of counts ≡ drvs_in i
 
 -- least-loaded choice: each choice of a builder was the best one at its place, and each choice of the local machine was the
 -- decision there, with a free local slot

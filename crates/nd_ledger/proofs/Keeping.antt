@@ -9,6 +9,7 @@ use Rattle.nd_history.specs.declared.entry.Ticket.{Ticket}
 use Rattle.nd_history.specs.declared.entry.Why.{Why}
 use Rattle.nd_history.specs.Books.{Recorded}
 use Rattle.nd_history.specs.Premises.{Premises, premises_of}
+use Rattle.nd_failure.specs.Progress.{Progress, IsLeased}
 use Rattle.nd_history.specs.History.{live, without, load, is_leased, lease_of, is_started, has_stop}
 use Rattle.nd_graph.specs.Graphs.{IsSound}
 use Rattle.nd_history.specs.Standing.{drvs_in}
@@ -20,26 +21,32 @@ use Rattle.nd_stores.specs.declared.copying.Additions.{Additions}
 use Rattle.nd_history.specs.Pumping.{step_drv}
 use Rattle.nd_ledger.specs.Moves.{IsRoomier, IsReadyToStart, IsReadyToEnd}
 use Rattle.nd_ledger.specs.Inner.{IsKept, room_for}
+use Rattle.nd_ledger.specs.Marks.{AreMarked, board_after}
 use Rattle.nd_history.proofs.Following.{newest_first}
 use Rattle.nd_history.proofs.Legality.{leased_ranged}
 use Rattle.nd_history.proofs.Slots.{load_within}
+use Rattle.nd_ledger.proofs.Boards.{leased_marked}
+use Rattle.nd_ledger.proofs.Marking.{followed}
 use Rattle.nd_stores.proofs.Storing.{stored_quiet, stored_same, stored_start, stored_built}
 
--- one more entry in the book
-pub record IsRecorded (old new : Recorded) (e : Entry) : Type 0 where
+-- one more entry in the book and on the board
+pub record IsRecorded (old new : Recorded) (was now : Progress) (e : Entry) : Type 0 where
   pub entries : new.entries ≡ old.entries ++ e ∷ []
   pub room : old.room ≤ new.room + 1
   pub drvs : new.drvs ≡ old.drvs
   pub machines : new.machines ≡ old.machines
+  pub board : now ≡ board_after was e
 
 -- .. with what is kept of references and holdings after it
-pub kept_with : (d : Inside) (book : Recorded) (stores : Stored) (e : Entry) → IsRecorded d.book book e → IsKept d → IsAllowed (premises_of d.inputs) e (reverse d.book.entries) → room_for (e ∷ reverse d.book.entries) + 1 ≤ d.book.room
-    → AreStored (premises_of d.inputs) (e ∷ reverse d.book.entries) stores → IsKept (record d { book = book; stores = stores })
-kept_with d book stores e rec was allowed room stored =
+pub kept_with : (d : Inside) (book : Recorded) (board : Progress) (stores : Stored) (e : Entry) → IsRecorded d.book book d.board board e → IsKept d → IsAllowed (premises_of d.inputs) e (reverse d.book.entries) → room_for (e ∷ reverse d.book.entries) + 1 ≤ d.book.room
+    → AreStored (premises_of d.inputs) (e ∷ reverse d.book.entries) stores → IsKept (record d { book = book; board = board; stores = stores })
+kept_with d book board stores e rec was allowed room stored =
     let turned : reverse book.entries ≡ e ∷ reverse d.book.entries = newest_first d.book.entries book.entries e rec.entries in
     let P : List Entry → Type 0 = λ past. IsLegal (premises_of d.inputs) past in
     let Q : List Entry → Type 0 = λ past. room_for past ≤ book.room in
     let R : List Entry → Type 0 = λ past. AreStored (premises_of d.inputs) past stores in
+    let S : List Entry → Type 0 = λ past. AreMarked (premises_of d.inputs) past board in
+    let T : Progress → Type 0 = λ p. AreMarked (premises_of d.inputs) (e ∷ reverse d.book.entries) p in
     record {
       legal = subst P (sym turned) (allowed, was.legal);
       room = subst Q (sym turned) (let more = rec.room in omega arith);
@@ -49,11 +56,12 @@ kept_with d book stores e rec was allowed room stored =
       few = was.few;
       small = was.small;
       stores = subst R (sym turned) stored;
+      marked = subst S (sym turned) (subst T (sym rec.board) (followed (premises_of d.inputs) (reverse d.book.entries) d.board e was.legal was.marked allowed));
     }
 
 -- .. which an entry that is no start and no build leaves as it was
-pub kept : (d : Inside) (book : Recorded) (e : Entry) → IsRecorded d.book book e → IsKept d → IsAllowed (premises_of d.inputs) e (reverse d.book.entries) → room_for (e ∷ reverse d.book.entries) + 1 ≤ d.book.room → is_quiet e ≡ true → IsKept (record d { book = book })
-kept d book e rec was allowed room quiet = kept_with d book d.stores e rec was allowed room (stored_quiet (premises_of d.inputs) (reverse d.book.entries) e d.stores quiet was.stores)
+pub kept : (d : Inside) (book : Recorded) (board : Progress) (e : Entry) → IsRecorded d.book book d.board board e → IsKept d → IsAllowed (premises_of d.inputs) e (reverse d.book.entries) → room_for (e ∷ reverse d.book.entries) + 1 ≤ d.book.room → is_quiet e ≡ true → IsKept (record d { book = book; board = board })
+kept d book board e rec was allowed room quiet = kept_with d book board d.stores e rec was allowed room (stored_quiet (premises_of d.inputs) (reverse d.book.entries) e d.stores quiet was.stores)
 
 -- ---- leases that are found
 
@@ -85,30 +93,30 @@ fewer d (t ∷ leases) h = fewer_step d t leases (d == t.drv) h (fewer d leases)
 
 -- ---- the entries that end leases, and a stop
 
-pub kept_failed : (d : Inside) (book : Recorded) (t : Ticket) (e : Entry) (why : Why) → e ≡ Failed t.drv why → IsRecorded d.book book e → IsKept d → lease_of t.drv (reverse d.book.entries) ≡ Some t → IsKept (record d { book = book })
-kept_failed d book t e why is rec was found =
+pub kept_failed : (d : Inside) (book : Recorded) (board : Progress) (t : Ticket) (e : Entry) (why : Why) → e ≡ Failed t.drv why → IsRecorded d.book book d.board board e → IsKept d → lease_of t.drv (reverse d.book.entries) ≡ Some t → IsKept (record d { book = book; board = board })
+kept_failed d book board t e why is rec was found =
     let past = reverse d.book.entries in
     let leased = found_leased t.drv past t found in
-    let P : Entry → Type 0 = λ e. IsRecorded d.book book e in
-    kept d book (Failed t.drv why) (subst P is rec) was
+    let P : Entry → Type 0 = λ e. IsRecorded d.book book d.board board e in
+    kept d book board (Failed t.drv why) (subst P is rec) was
     (record { ranged = leased_ranged (premises_of d.inputs) past was.legal t.drv leased; may = leased })
     (let less = fewer t.drv (live past) leased in let room = was.room in omega arith) refl
 
-pub kept_down : (d : Inside) (book : Recorded) (t : Ticket) (e : Entry) → e ≡ Down t.drv → IsRecorded d.book book e → IsKept d → lease_of t.drv (reverse d.book.entries) ≡ Some t → is_started t.drv (reverse d.book.entries) ≡ false → IsKept (record d { book = book })
-kept_down d book t e is rec was found fresh =
+pub kept_down : (d : Inside) (book : Recorded) (board : Progress) (t : Ticket) (e : Entry) → e ≡ Down t.drv → IsRecorded d.book book d.board board e → IsKept d → lease_of t.drv (reverse d.book.entries) ≡ Some t → is_started t.drv (reverse d.book.entries) ≡ false → IsKept (record d { book = book; board = board })
+kept_down d book board t e is rec was found fresh =
     let past = reverse d.book.entries in
     let leased = found_leased t.drv past t found in
-    let P : Entry → Type 0 = λ e. IsRecorded d.book book e in
-    kept d book (Down t.drv) (subst P is rec) was
+    let P : Entry → Type 0 = λ e. IsRecorded d.book book d.board board e in
+    kept d book board (Down t.drv) (subst P is rec) was
     (record { ranged = leased_ranged (premises_of d.inputs) past was.legal t.drv leased; may = record { live = leased; fresh = fresh } })
     (let less = fewer t.drv (live past) leased in let room = was.room in omega arith) refl
 
 stop_room : (past : List Entry) (n : ℕ) → has_stop past ≡ false → room_for past ≤ n → room_for (Stop ∷ past) + 1 ≤ n
 stop_room past n none room = let at = rw none at room in omega arith
 
-pub kept_stop : (d : Inside) (book : Recorded) → IsRecorded d.book book Stop → IsKept d → has_stop (reverse d.book.entries) ≡ false → IsKept (record d { book = book })
-kept_stop d book rec was none =
-    kept d book Stop rec was (record { ranged = tt; may = none }) (stop_room (reverse d.book.entries) d.book.room none was.room) refl
+pub kept_stop : (d : Inside) (book : Recorded) (board : Progress) → IsRecorded d.book book d.board board Stop → IsKept d → has_stop (reverse d.book.entries) ≡ false → IsKept (record d { book = book; board = board })
+kept_stop d book board rec was none =
+    kept d book board Stop rec was (record { ranged = tt; may = none }) (stop_room (reverse d.book.entries) d.book.room none was.room) refl
 
 -- ---- entries that end no lease, for which room was made
 
@@ -138,27 +146,28 @@ kept_room d book n more was =
       few = was.few;
       small = was.small;
       stores = (let R : List Entry → Type 0 = λ es. AreStored (premises_of d.inputs) (reverse es) d.stores in subst R (sym more.entries) was.stores);
+      marked = (let S : List Entry → Type 0 = λ es. AreMarked (premises_of d.inputs) (reverse es) d.board in subst S (sym more.entries) was.marked);
     }
 
 -- an entry is recorded where room was made for it, a stop and all leases
-pub kept_more_with : (d : Inside) (roomy book : Recorded) (stores : Stored) (e : Entry) (n : ℕ) → HasRoom d.book roomy (length (live (reverse d.book.entries)) + n + 2) → IsRecorded roomy book e → IsKept d → IsAllowed (premises_of d.inputs) e (reverse d.book.entries)
-    → length (live (e ∷ reverse d.book.entries)) ≤ length (live (reverse d.book.entries)) + n → AreStored (premises_of d.inputs) (e ∷ reverse d.book.entries) stores → IsKept (record d { book = book; stores = stores })
-kept_more_with d roomy book stores e n more rec was allowed few stored =
+pub kept_more_with : (d : Inside) (roomy book : Recorded) (board : Progress) (stores : Stored) (e : Entry) (n : ℕ) → HasRoom d.book roomy (length (live (reverse d.book.entries)) + n + 2) → IsRecorded roomy book d.board board e → IsKept d → IsAllowed (premises_of d.inputs) e (reverse d.book.entries)
+    → length (live (e ∷ reverse d.book.entries)) ≤ length (live (reverse d.book.entries)) + n → AreStored (premises_of d.inputs) (e ∷ reverse d.book.entries) stores → IsKept (record d { book = book; board = board; stores = stores })
+kept_more_with d roomy book board stores e n more rec was allowed few stored =
     let P : List Entry → Type 0 = λ es. IsAllowed (premises_of d.inputs) e (reverse es) in
     let Q : List Entry → Type 0 = λ es. room_for (e ∷ reverse es) + 1 ≤ roomy.room in
     let R : List Entry → Type 0 = λ es. AreStored (premises_of d.inputs) (e ∷ reverse es) stores in
     let bit = stop_bit (has_stop (e ∷ reverse d.book.entries)) in
     let had = more.more in
-    kept_with (record d { book = roomy }) book stores e rec (kept_room d roomy (length (live (reverse d.book.entries)) + n + 2) more was)
+    kept_with (record d { book = roomy }) book board stores e rec (kept_room d roomy (length (live (reverse d.book.entries)) + n + 2) more was)
     (subst P (sym more.entries) allowed)
     (subst Q (sym more.entries) (omega arith))
     (subst R (sym more.entries) stored)
 
 -- an entry that is no start and no build, and makes no more than one lease
-pub kept_more : (d : Inside) (roomy book : Recorded) (e : Entry) (n : ℕ) → HasRoom d.book roomy (length (live (reverse d.book.entries)) + n + 2) → IsRecorded roomy book e → IsKept d → IsAllowed (premises_of d.inputs) e (reverse d.book.entries)
-    → length (live (e ∷ reverse d.book.entries)) ≤ length (live (reverse d.book.entries)) + n → is_quiet e ≡ true → IsKept (record d { book = book })
-kept_more d roomy book e n more rec was allowed few quiet =
-    kept_more_with d roomy book d.stores e n more rec was allowed few (stored_quiet (premises_of d.inputs) (reverse d.book.entries) e d.stores quiet was.stores)
+pub kept_more : (d : Inside) (roomy book : Recorded) (board : Progress) (e : Entry) (n : ℕ) → HasRoom d.book roomy (length (live (reverse d.book.entries)) + n + 2) → IsRecorded roomy book d.board board e → IsKept d → IsAllowed (premises_of d.inputs) e (reverse d.book.entries)
+    → length (live (e ∷ reverse d.book.entries)) ≤ length (live (reverse d.book.entries)) + n → is_quiet e ≡ true → IsKept (record d { book = book; board = board })
+kept_more d roomy book board e n more rec was allowed few quiet =
+    kept_more_with d roomy book board d.stores e n more rec was allowed few (stored_quiet (premises_of d.inputs) (reverse d.book.entries) e d.stores quiet was.stores)
 
 -- the load of a machine is a small number
 pub small_load : (d : Inside) → IsKept d → (m : ℕ) → load m (reverse d.book.entries) ≤ 65535
@@ -205,34 +214,35 @@ kept_stores d stores same was = record {
   few = was.few;
   small = was.small;
   stores = stored_same (premises_of d.inputs) (reverse d.book.entries) d.stores stores same was.stores;
+  marked = was.marked;
 }
 
 -- ---- starts, and builds that end
 
-pub kept_started : (d : Inside) (roomy book : Recorded) (mid new : Stored) (t : Ticket) (paths : List (List ℕ)) (a : Additions) (e : Entry) → e ≡ Started t.drv paths → IsRoomier d.book roomy → IsRecorded roomy book e → IsKept d → IsSameStored d.stores mid
-    → IsReadyToStart (premises_of d.inputs) (reverse d.book.entries) t paths roomy mid a → HasTaken mid new a → IsKept (record d { book = book; stores = new })
-kept_started d roomy book mid new t paths a e is more rec was same ready took =
+pub kept_started : (d : Inside) (roomy book : Recorded) (board : Progress) (mid new : Stored) (t : Ticket) (paths : List (List ℕ)) (a : Additions) (e : Entry) → e ≡ Started t.drv paths → IsRoomier d.book roomy → IsRecorded roomy book d.board board e → IsKept d → IsSameStored d.stores mid
+    → IsReadyToStart (premises_of d.inputs) (reverse d.book.entries) t paths roomy mid a → HasTaken mid new a → IsKept (record d { book = book; board = board; stores = new })
+kept_started d roomy book board mid new t paths a e is more rec was same ready took =
     let i = premises_of d.inputs in
     let past = reverse d.book.entries in
-    let P : Entry → Type 0 = λ e. IsRecorded roomy book e in
+    let P : Entry → Type 0 = λ e. IsRecorded roomy book d.board board e in
     let leased = found_leased t.drv past t ready.live in
     let had = ready.room in
-    kept_more_with d roomy book new (Started t.drv paths) 0
+    kept_more_with d roomy book board new (Started t.drv paths) 0
     (record { entries = more.entries; drvs = more.drvs; machines = more.machines; room = more.room; more = omega arith })
     (subst P is rec) was
     (record { ranged = leased_ranged i past was.legal t.drv leased; may = record { ticket = t; live = ready.live; fresh = ready.fresh; right = ready.right } })
     (omega arith)
     (stored_start i past t.drv t paths mid new a was.legal ready.live (stored_same i past d.stores mid same was.stores) ready.adds took)
 
-pub kept_built : (d : Inside) (book : Recorded) (mid new : Stored) (t : Ticket) (refs : List (List (List ℕ))) (a : Additions) (e : Entry) → e ≡ Built t.drv refs → IsRecorded d.book book e → IsKept d → IsSameStored d.stores mid
-    → IsReadyToEnd (premises_of d.inputs) (reverse d.book.entries) t refs mid a → HasTaken mid new a → IsKept (record d { book = book; stores = new })
-kept_built d book mid new t refs a e is rec was same ready took =
+pub kept_built : (d : Inside) (book : Recorded) (board : Progress) (mid new : Stored) (t : Ticket) (refs : List (List (List ℕ))) (a : Additions) (e : Entry) → e ≡ Built t.drv refs → IsRecorded d.book book d.board board e → IsKept d → IsSameStored d.stores mid
+    → IsReadyToEnd (premises_of d.inputs) (reverse d.book.entries) t refs mid a → HasTaken mid new a → IsKept (record d { book = book; board = board; stores = new })
+kept_built d book board mid new t refs a e is rec was same ready took =
     let i = premises_of d.inputs in
     let past = reverse d.book.entries in
-    let P : Entry → Type 0 = λ e. IsRecorded d.book book e in
+    let P : Entry → Type 0 = λ e. IsRecorded d.book book d.board board e in
     let leased = found_leased t.drv past t ready.live in
     let allowed : IsAllowed i (Built t.drv refs) past = record { ranged = leased_ranged i past was.legal t.drv leased; may = record { live = leased; started = ready.started; right = ready.right } } in
-    kept_with d book new (Built t.drv refs) (subst P is rec) was allowed
+    kept_with d book board new (Built t.drv refs) (subst P is rec) was allowed
     (let less = fewer t.drv (live past) leased in let room = was.room in omega arith)
     (stored_built i past t.drv t refs mid new a (allowed, was.legal) ready.live (stored_same i past d.stores mid same was.stores) ready.adds took)
 
@@ -246,6 +256,7 @@ pub record IsCopy (d copy : Inside) : Type 0 where
   pub machines : copy.book.machines ≡ d.book.machines
   pub room : length (live (reverse d.book.entries)) + 1 ≤ copy.book.room
   pub stores : IsSameStored d.stores copy.stores
+  pub board : copy.board ≡ d.board
 
 -- a copy holds what the original holds
 pub kept_copy : (d copy : Inside) → IsCopy d copy → IsKept d → IsKept copy
@@ -260,6 +271,9 @@ kept_copy d copy same was =
     let LegalAfter : List Entry → Type 0 = λ es. IsLegal (premises_of copy.inputs) (reverse es) in
     let RoomAfter : List Entry → Type 0 = λ es. room_for (reverse es) ≤ copy.book.room in
     let StoresAfter : List Entry → Type 0 = λ es. AreStored (premises_of copy.inputs) (reverse es) copy.stores in
+    let Marked : Premises → Type 0 = λ i. AreMarked i past d.board in
+    let BoardAfter : Progress → Type 0 = λ p. AreMarked (premises_of copy.inputs) past p in
+    let MarkedAfter : List Entry → Type 0 = λ es. AreMarked (premises_of copy.inputs) (reverse es) copy.board in
     record {
       legal = subst LegalAfter (sym same.entries) (subst Legal (sym same.inputs) was.legal);
       room = subst RoomAfter (sym same.entries) roomy;
@@ -269,4 +283,10 @@ kept_copy d copy same was =
       few = subst Few (sym same.inputs) was.few;
       small = subst AreSmall (sym same.inputs) was.small;
       stores = subst StoresAfter (sym same.entries) (subst Stores (sym same.inputs) stored);
+      marked = subst MarkedAfter (sym same.entries) (subst BoardAfter (sym same.board) (subst Marked (sym same.inputs) was.marked));
     }
+
+-- a derivation whose lease is found is leased on the board
+pub found_marked : (d : Inside) → IsKept d → (t : Ticket) → lease_of t.drv (reverse d.book.entries) ≡ Some t → IsLeased d.board t.drv
+found_marked d was t found =
+    leased_marked (premises_of d.inputs) (reverse d.book.entries) d.board was.legal was.marked t.drv (found_leased t.drv (reverse d.book.entries) t found)

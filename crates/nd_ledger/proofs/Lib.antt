@@ -1,3 +1,4 @@
+pub mod Boards
 pub mod Keeping
 pub mod Marking
 pub mod Tickets

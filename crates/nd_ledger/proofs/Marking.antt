@@ -1,17 +1,20 @@
 -- A board follows a history: after one more entry it says of the longer history what it said of the one before.
-use Rattle.std.proofs.Common.{◌≡◌, ℕ, ◌<◌, Bool, true, false, not, ◌==◌, ◌&&◌, ◌||◌, if◌then◌else◌, List, ◌∷◌, length, get_or, set, refl, sym, ap, ◌∙◌, subst, arith, inl, inr, eq-eqb, get_or-set_other, get_or-set_same, length-set}
+use Rattle.std.proofs.Common.{◌≡◌, ℕ, ◌<◌, Bool, true, false, not, ◌==◌, ◌&&◌, ◌||◌, if◌then◌else◌, List, [], ◌∷◌, length, get_or, set, refl, sym, ap, ◌∙◌, subst, arith, inl, inr, eq-eqb, get_or-set_other, get_or-set_same, length-set}
 use Rattle.std.proofs.lemmas.Bool.{cases_eq, ne_eqb}
+use Rattle.std.proofs.lemmas.List.{length-replicate}
+use Rattle.nd_graph.specs.Graphs.{rows_of}
 use Rattle.nd_failure.specs.declared.status.Mark.{Mark}
 use Rattle.nd_failure.specs.declared.status.Mark.TheVariants.{Free, Leased, Built as BuiltMark, Failed as FailedMark}
-use Rattle.nd_failure.specs.Progress.{Progress}
+use Rattle.nd_failure.specs.Progress.{Progress, untouched}
+use Rattle.nd_failure.proofs.BoardFacts.{mark_of-fresh}
 use Rattle.nd_history.specs.declared.entry.Entry.{Entry}
 use Rattle.nd_history.specs.declared.entry.Why.{Why}
-use Rattle.nd_history.specs.declared.entry.Entry.TheVariants.{Chosen, NoBuilder, Down, Failed, Stop}
+use Rattle.nd_history.specs.declared.entry.Entry.TheVariants.{Chosen, NoBuilder, Started, Down, Built, Failed, Stop, Drain, Enable}
 use Rattle.nd_history.specs.Premises.{Premises}
 use Rattle.nd_history.specs.History.{live, is_built, is_failed, is_leased, has_stop}
 use Rattle.nd_history.specs.Standing.{drvs_in, IsReady}
-use Rattle.nd_history.specs.Legal.{IsLegal}
-use Rattle.nd_ledger.specs.Marks.{mark_in, AreMarked}
+use Rattle.nd_history.specs.Legal.{IsLegal, IsAllowed}
+use Rattle.nd_ledger.specs.Marks.{mark_in, AreMarked, board_after}
 use Rattle.nd_history.proofs.Legality.{gone, leased_fresh}
 
 -- one mark was set
@@ -96,3 +99,38 @@ marked_failed i past p d why was legal leased lt =
     (λ k other.
     ap (λ (b : Bool). of_flags (is_built k past) (b || is_failed k past) (is_leased k (Failed d why ∷ past))) (ne_eqb k d other)
     ∙ ap (λ (b : Bool). of_flags (is_built k past) (is_failed k past) b) (kept_lease k d past other))
+
+built_now : (o b f l : Bool) → o ≡ true → of_flags (o || b) f l ≡ BuiltMark
+unfolding of_flags
+built_now o b f l x = rw x refl
+
+pub marked_built : (i : Premises) (past : List Entry) (p : Progress) (d : ℕ) (refs : List (List (List ℕ))) → AreMarked i past p → d < drvs_in i → AreMarked i (Built d refs ∷ past) (record p { marks = set p.marks d BuiltMark })
+unfolding of_flags
+marked_built i past p d refs was lt =
+    marked_set i past p (Built d refs) d BuiltMark was lt refl
+    (built_now (d == d) (is_built d past) (is_failed d past) (is_leased d (Built d refs ∷ past)) (eq-eqb d d refl))
+    (λ k other.
+    ap (λ (b : Bool). of_flags (b || is_built k past) (is_failed k past) (is_leased k (Built d refs ∷ past))) (ne_eqb k d other)
+    ∙ ap (λ (b : Bool). of_flags (is_built k past) (is_failed k past) b) (kept_lease k d past other))
+
+-- nothing has happened yet
+pub marked_first : (i : Premises) → AreMarked i [] (untouched (rows_of i.graph) i.keep_going)
+marked_first i = record {
+  inputs = refl;
+  keep_going = refl;
+  stop = refl;
+  sized = length-replicate (drvs_in i) Free;
+  marks = λ d lt. mark_of-fresh (drvs_in i) d;
+}
+
+-- after one more entry
+pub followed : (i : Premises) (past : List Entry) (p : Progress) (e : Entry) → IsLegal i past → AreMarked i past p → IsAllowed i e past → AreMarked i (e ∷ past) (board_after p e)
+followed i past p (Chosen d m s) legal was allowed = marked_chosen i past p d m s was allowed.may.ready
+followed i past p (NoBuilder d) legal was allowed = marked_nobody i past p d was allowed.may.ready
+followed i past p (Started d paths) legal was allowed = marked_same i past p (Started d paths) was refl (λ k. refl)
+followed i past p (Down d) legal was allowed = marked_down i past p d was legal allowed.may.live allowed.ranged
+followed i past p (Built d refs) legal was allowed = marked_built i past p d refs was allowed.ranged
+followed i past p (Failed d why) legal was allowed = marked_failed i past p d why was legal allowed.may allowed.ranged
+followed i past p Stop legal was allowed = marked_stop i past p was
+followed i past p (Drain m) legal was allowed = marked_same i past p (Drain m) was refl (λ k. refl)
+followed i past p (Enable m) legal was allowed = marked_same i past p (Enable m) was refl (λ k. refl)

@@ -10,6 +10,7 @@ use Rattle.nd_history.specs.Standing.{drvs_in}
 use Rattle.nd_history.specs.Choices.{AreSmall}
 use Rattle.nd_history.specs.Legal.{IsLegal}
 use Rattle.nd_stores.specs.Stored.{AreStored}
+use Rattle.nd_ledger.specs.Marks.{AreMarked}
 
 abbrev pub seen : Inside → World
 seen d = record { inputs = premises_of d.inputs; history = d.book.entries }
@@ -31,3 +32,5 @@ pub record IsKept (d : Inside) : Type 0 where
   pub small : AreSmall (premises_of d.inputs)
   -- what is kept of references and holdings follows the history
   pub stores : AreStored (premises_of d.inputs) (reverse d.book.entries) d.stores
+  -- the board follows the history
+  pub marked : AreMarked (premises_of d.inputs) (reverse d.book.entries) d.board

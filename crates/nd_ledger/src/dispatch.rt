@@ -1,12 +1,15 @@
 //! The dispatch: leases and their history.
 
-ghost use Rattle.std.specs.Prelude.{◌≡◌, ℕ, ◌+◌, ◌<◌, ◌≤◌, ◌++◌, [], ◌∷◌, List, false, length, slice_index_or, reverse, IfOk, OnOk, IfErr, OnErr, IsOk};
+ghost use Rattle.std.specs.Prelude.{◌≡◌, ℕ, ◌+◌, ◌<◌, ◌≤◌, ◌++◌, [], ◌∷◌, List, false, length, slice_index_or, reverse, IfOk, OnOk, IfErr, OnErr, IsOk, IsTrue, ◌↔◌};
 ghost use Rattle.nd_history.specs.History.{live, lease_of, current_of, load, is_started, is_up, has_stop};
+ghost use Rattle.nd_failure.specs.Statuses.{total_of};
 ghost use Rattle.nd_history.specs.Choices.{machines_in, HasReply};
 ghost use Rattle.nd_history.specs.Legal.{IsLegal};
 ghost use Rattle.nd_history.specs.Closing.{StartsAreProvisioned};
-ghost use Rattle.nd_history.specs.Headline.{SlotsAreLeases, LeasesAreInOrder, StartsAreOnce, StartsAreEligible, ChoicesAreBest};
+ghost use Rattle.nd_history.specs.Headline.{SlotsAreLeases, LeasesAreInOrder, StartsAreOnce, StartsAreEligible, CountsSum, ChoicesAreBest};
 ghost use Rattle.nd_history.specs.Resting.{WaitsForLeases};
+ghost use Rattle.nd_history.specs.Standing.{drvs_in};
+ghost use Rattle.nd_history.specs.Statuses.{HasStatusIn, AreCountsIn, IsFinished};
 ghost use Rattle.nd_history.specs.Pumping.{HasPumped, HasPumpedBy, AreAtRest};
 ghost use Rattle.nd_choose.specs.Best.{jobs_at};
 ghost use Rattle.nd_ledger.specs.Moves.{IsStartRefused, IsEndRefused, IsJobRefused};
@@ -14,12 +17,14 @@ ghost use Rattle.nd_history.specs.References.{outputs_of};
 ghost use Rattle.nd_stores.specs.Stored.{IsMissing};
 ghost use Rattle.nd_ledger.specs.Refusals.{IsLive, IsFailRefused, IsDownRefused, IsStopRefused};
 
+use crate::following::enter;
 use crate::job::Job;
 use crate::moving::{is_live, prepare_end, prepare_start};
 use crate::refusal::{Refusal, Refused};
 use nd_bytes::Items;
 use nd_closure::{RefTable, Refs};
 use nd_eligible::Local;
+use nd_failure::{Board, Counts, Status};
 use nd_graph::Graph;
 use nd_history::book::Book;
 use nd_history::deciding::reply_now;
@@ -39,6 +44,7 @@ use std::marker::Model;
 pub struct Dispatch {
     inputs: Inputs,
     book: Book,
+    board: Board,
     stores: Stores,
 }
 
@@ -72,7 +78,7 @@ impl Dispatch {
         while let Some(step) = next_step(&self.inputs, &self.book) {
             let room = self.book.live_len() + 3;
             self.book.make_room(room)?;
-            self.book.record(step);
+            enter(&mut self.book, &mut self.board, step);
         }
         let _order = self.inputs.graph.order();
         Ok(self.book.entries().len() - before)
@@ -104,10 +110,14 @@ impl Dispatch {
             &paths,
         ) {
             Ok(additions) => {
-                self.book.record(Entry::Started {
-                    drv: ticket.drv,
-                    paths,
-                });
+                enter(
+                    &mut self.book,
+                    &mut self.board,
+                    Entry::Started {
+                        drv: ticket.drv,
+                        paths,
+                    },
+                );
                 self.stores.take_in(additions);
                 Ok(())
             }
@@ -136,10 +146,14 @@ impl Dispatch {
             &refs,
         ) {
             Ok(additions) => {
-                self.book.record(Entry::Built {
-                    drv: ticket.drv,
-                    refs,
-                });
+                enter(
+                    &mut self.book,
+                    &mut self.board,
+                    Entry::Built {
+                        drv: ticket.drv,
+                        refs,
+                    },
+                );
                 self.stores.take_in(additions);
                 Ok(())
             }
@@ -203,10 +217,14 @@ impl Dispatch {
         if !is_live(&self.book, ticket) {
             return Err(Refusal::NotLive);
         }
-        self.book.record(Entry::Failed {
-            drv: ticket.drv,
-            why,
-        });
+        enter(
+            &mut self.book,
+            &mut self.board,
+            Entry::Failed {
+                drv: ticket.drv,
+                why,
+            },
+        );
         Ok(())
     }
 
@@ -227,7 +245,11 @@ impl Dispatch {
         if self.book.is_started(ticket.drv as usize) {
             return Err(Refusal::AlreadyStarted);
         }
-        self.book.record(Entry::Down { drv: ticket.drv });
+        enter(
+            &mut self.book,
+            &mut self.board,
+            Entry::Down { drv: ticket.drv },
+        );
         Ok(())
     }
 
@@ -243,7 +265,7 @@ impl Dispatch {
         if self.book.has_stop() {
             return Err(Refusal::AlreadyStopped);
         }
-        self.book.record(Entry::Stop);
+        enter(&mut self.book, &mut self.board, Entry::Stop);
         Ok(())
     }
 
@@ -255,7 +277,7 @@ impl Dispatch {
     {
         let room = self.book.live_len() + 2;
         self.book.make_room(room)?;
-        self.book.record(Entry::Drain { machine });
+        enter(&mut self.book, &mut self.board, Entry::Drain { machine });
         Ok(())
     }
 
@@ -267,7 +289,7 @@ impl Dispatch {
     {
         let room = self.book.live_len() + 2;
         self.book.make_room(room)?;
-        self.book.record(Entry::Enable { machine });
+        enter(&mut self.book, &mut self.board, Entry::Enable { machine });
         Ok(())
     }
 
@@ -287,34 +309,34 @@ impl Dispatch {
         ensures empty { IfOk result (λ d. d.history ≡ []) }
         ensures back { IfErr result (λ p. p ≡ record { graph = graph; machines = machines; local = local; info = info; keep_going = keep_going }) }
     {
-        let Ok(book) = Book::new(alloc, graph.len(), machines.len() + 1) else {
-            return Err(Parts {
-                graph,
-                machines,
-                local,
-                info,
-                keep_going,
-            });
+        let parts = Parts {
+            graph,
+            machines,
+            local,
+            info,
+            keep_going,
         };
-        let Ok(stores) = Stores::new(alloc, &graph, machines.len(), &info) else {
-            return Err(Parts {
-                graph,
-                machines,
-                local,
-                info,
-                keep_going,
-            });
+        let builders = parts.machines.len();
+        let Ok(book) = Book::new(alloc, parts.graph.len(), builders + 1) else {
+            return Err(parts);
         };
-        learn_jobs(machines.as_slice(), &local);
+        let Ok(board) = Board::new(alloc, &parts.graph, keep_going) else {
+            return Err(parts);
+        };
+        let Ok(stores) = Stores::new(alloc, &parts.graph, builders, &parts.info) else {
+            return Err(parts);
+        };
+        learn_jobs(parts.machines.as_slice(), &parts.local);
         Ok(Dispatch {
             inputs: Inputs {
-                graph,
-                machines: Items::new(machines),
-                local,
-                info,
+                graph: parts.graph,
+                machines: Items::new(parts.machines),
+                local: parts.local,
+                info: parts.info,
                 keep_going,
             },
             book,
+            board,
             stores,
         })
     }
@@ -328,6 +350,7 @@ impl Dispatch {
             inputs: self.inputs.try_clone(alloc)?,
             book: self.book.try_clone(alloc)?,
             stores: self.stores.try_clone()?,
+            board: self.board.try_clone(alloc)?,
         })
     }
 
@@ -354,6 +377,34 @@ impl Dispatch {
         self.book.lease(i)
     }
 
+    /// The status of derivation `i`.
+    pub fn status(&self, i: usize) -> Status
+        requires { i < drvs_in self.now.inputs }
+        ensures { HasStatusIn self.now.inputs (reverse self.now.history) i result }
+    {
+        self.board.status(i)
+    }
+
+    /// How many derivations have each status. The five numbers sum to the number of derivations.
+    pub fn counts(&self) -> Counts
+        ensures drvs { AreCountsIn self.now.inputs (reverse self.now.history) result }
+        ensures sum { total_of result ≡ drvs_in self.now.inputs }
+    {
+        self.board.counts()
+    }
+
+    /// Whether the run is over: no derivation waits, and none is leased.
+    pub fn finished(&self) -> bool
+        ensures { IsTrue result ↔ IsFinished self.now.inputs (reverse self.now.history) }
+    {
+        let board = &self.board;
+        let counts = board.counts();
+        if counts.waiting > 0 {
+            return false;
+        }
+        counts.leased == 0
+    }
+
     /// The number of taken slots of this machine.
     pub fn taken(&self, machine: u32) -> u32
         requires { machine < machines_in self.now.inputs }
@@ -378,9 +429,11 @@ impl Dispatch {
     ///   inputs were built; and none was started twice;
     /// - eligible and provisioned: each start was that of a lease on a machine that was eligible, and
     ///   that machine holds the derivation's input closure;
+    /// - counts sum: no derivation has two statuses, and the numbers of derivations with each status
+    ///   sum to the number of derivations;
     /// - least-loaded choice: each choice of a builder was the least loaded of the eligible machines
     ///   that were up and free at its place in the history.
-    #[tactic(auto, using(nd_history::proofs::Headline::slots_are_leases, nd_history::proofs::Headline::leases_are_in_order, nd_history::proofs::StartsOnce::starts_are_once, nd_history::proofs::Headline::starts_are_eligible, nd_history::proofs::Headline::choices_are_best, nd_history::proofs::Provisions::starts_are_provisioned))]
+    #[tactic(auto, using(nd_history::proofs::Headline::slots_are_leases, nd_history::proofs::Headline::leases_are_in_order, nd_history::proofs::StartsOnce::starts_are_once, nd_history::proofs::Headline::starts_are_eligible, nd_history::proofs::Tallies::counts_sum, nd_history::proofs::Headline::choices_are_best, nd_history::proofs::Provisions::starts_are_provisioned))]
     pub fn history(&self) -> &[Entry]
         ensures value { result.now ≡ self.now.history }
         ensures legal { IsLegal self.now.inputs (reverse self.now.history) }
@@ -389,6 +442,7 @@ impl Dispatch {
         ensures once { StartsAreOnce (reverse self.now.history) }
         ensures starts { StartsAreEligible self.now.inputs (reverse self.now.history) }
         ensures provisioned { StartsAreProvisioned self.now.inputs (reverse self.now.history) }
+        ensures counts { CountsSum self.now.inputs (reverse self.now.history) }
         ensures choices { ChoicesAreBest self.now.inputs (reverse self.now.history) }
     {
         self.book.entries()

@@ -2,6 +2,7 @@
 #![tactic(auto)]
 
 mod dispatch;
+mod following;
 pub mod job;
 pub mod laws;
 mod moving;
@@ -10,5 +11,6 @@ pub mod refusal;
 pub use dispatch::Dispatch;
 pub use job::Job;
 pub use nd_closure::Refs;
+pub use nd_failure::{Counts, Status};
 pub use nd_history::{Entry, Inputs, Parts, Ticket, Why};
 pub use refusal::{Refusal, Refused};

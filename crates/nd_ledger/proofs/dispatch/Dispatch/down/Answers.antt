@@ -1,17 +1,22 @@
 use Rattle.std.proofs.Common.{rules, ◌≡◌, refl, reverse, false}
 use Rattle.nd_ledger.specs.Refusals.{IsLive}
 use Rattle.nd_history.specs.History.{is_started}
-use Rattle.nd_ledger.proofs.Keeping.{kept_down, in_book}
+use Rattle.nd_ledger.proofs.Keeping.{kept_down, in_book, found_marked}
 use Rattle.nd_ledger.proofs.dispatch.Dispatch.down.Goals as goal
 
 pub invariant_of-self : goal.invariant_of-self
 invariant_of-self c =
     let found : IsLive (reverse c.self.inside.book.entries) c.args.ticket = search rules in
     let fresh : is_started c.args.ticket.drv (reverse c.self.inside.book.entries) ≡ false = search rules in
-    let r = c.record.ensures in
-    kept_down c.self.inside c.record.new.self c.args.ticket _ refl (record { entries = r.entries; room = r.room; drvs = r.drvs; machines = r.machines }) c.self.invariant found fresh
+    let r = c.enter.ensures in
+    kept_down c.self.inside c.enter.new.book c.enter.new.board c.args.ticket _ refl (record { entries = r.entries; room = r.room; drvs = r.drvs; machines = r.machines; board = r.board }) c.self.invariant found fresh
 
 pub is_started-requires : goal.is_started-requires
 is_started-requires c =
     let found : IsLive (reverse c.self.inside.book.entries) c.args.ticket = search rules in
     in_book c.self.inside c.self.invariant c.args.ticket found
+
+pub enter-requires-clause-can : goal.enter-requires-clause-can
+enter-requires-clause-can c =
+    let found : IsLive (reverse c.self.inside.book.entries) c.args.ticket = search rules in
+    found_marked c.self.inside c.self.invariant c.args.ticket found

@@ -11,11 +11,11 @@ pub invariant_of-self-2 : goal.invariant_of-self-2
 invariant_of-self-2 c =
     let d = c.self.inside in
     let m = c.in_ok-make_room.ensures in
-    let r = c.record.ensures in
+    let r = c.enter.ensures in
     let many : length (live (reverse d.book.entries)) + 0 + 2 ≤ c.make_room.new.self.room = (let made = m.made in let is = c.live_len-room.ensures.live in omega arith) in
     let P = λ (w : World). c.args.machine < machines_in w.inputs in
     let ranged : c.args.machine < machines_in (premises_of d.inputs) = subst P (sym c.self.view_is) c.requires in
-    kept_more d c.make_room.new.self c.record.new.self (Drain c.args.machine) 0
+    kept_more d c.make_room.new.self c.enter.new.book c.enter.new.board (Drain c.args.machine) 0
     (record { entries = m.entries; drvs = m.drvs; machines = m.machines; room = m.kept; more = many })
-    (record { entries = r.entries; room = r.room; drvs = r.drvs; machines = r.machines })
+    (record { entries = r.entries; room = r.room; drvs = r.drvs; machines = r.machines; board = r.board })
     c.self.invariant (record { ranged = ranged; may = tt }) (omega arith) refl

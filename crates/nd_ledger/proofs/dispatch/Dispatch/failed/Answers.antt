@@ -1,10 +1,15 @@
 use Rattle.std.proofs.Common.{rules, refl, reverse}
 use Rattle.nd_ledger.specs.Refusals.{IsLive}
-use Rattle.nd_ledger.proofs.Keeping.{kept_failed}
+use Rattle.nd_ledger.proofs.Keeping.{kept_failed, found_marked}
 use Rattle.nd_ledger.proofs.dispatch.Dispatch.failed.Goals as goal
 
 pub invariant_of-self : goal.invariant_of-self
 invariant_of-self c =
     let found : IsLive (reverse c.self.inside.book.entries) c.args.ticket = search rules in
-    let r = c.record.ensures in
-    kept_failed c.self.inside c.record.new.self c.args.ticket _ c.args.why refl (record { entries = r.entries; room = r.room; drvs = r.drvs; machines = r.machines }) c.self.invariant found
+    let r = c.enter.ensures in
+    kept_failed c.self.inside c.enter.new.book c.enter.new.board c.args.ticket _ c.args.why refl (record { entries = r.entries; room = r.room; drvs = r.drvs; machines = r.machines; board = r.board }) c.self.invariant found
+
+pub enter-requires-clause-can : goal.enter-requires-clause-can
+enter-requires-clause-can c =
+    let found : IsLive (reverse c.self.inside.book.entries) c.args.ticket = search rules in
+    found_marked c.self.inside c.self.invariant c.args.ticket found

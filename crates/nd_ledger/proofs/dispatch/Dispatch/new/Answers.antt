@@ -6,22 +6,26 @@ use Rattle.nd_history.specs.Premises.{Premises, premises_of}
 use Rattle.nd_history.specs.Legal.{IsLegal}
 use Rattle.nd_ledger.specs.Inner.{room_for}
 use Rattle.nd_stores.specs.Stored.{AreStored}
+use Rattle.nd_failure.specs.Progress.{Progress}
+use Rattle.nd_ledger.specs.Marks.{AreMarked}
+use Rattle.nd_ledger.proofs.Marking.{marked_first}
 use Rattle.nd_ledger.proofs.Tickets.{small_park}
 use Rattle.nd_ledger.proofs.dispatch.Dispatch.new.Goals as goal
 
 pub invariant_of-result : goal.invariant_of-result
 invariant_of-result c =
-    let i : Premises = premises_of (record { graph = c.args.graph; machines = c.new-3.result; local = c.args.local; info = c.args.info; keep_going = c.args.keep_going }) in
+    let i : Premises = premises_of (record { graph = c.args.graph; machines = c.new-4.result; local = c.args.local; info = c.args.info; keep_going = c.args.keep_going }) in
     let empty : c.in-Ok.book.entries ≡ [] = c.in-Ok.ensures.entries in
-    let same : length c.new-3.result ≡ length c.args.machines.items = ap (λ (xs : List Builder). length xs) c.new-3.ensures in
+    let same : length c.new-4.result ≡ length c.args.machines.items = ap (λ (xs : List Builder). length xs) c.new-4.ensures in
     let sized = c.args.machines.ok.0 in
     let P : List Entry → Type 0 = λ es. IsLegal i (reverse es) in
     let Q : List Entry → Type 0 = λ es. room_for (reverse es) ≤ c.in-Ok.book.room in
-    let R : List Entry → Type 0 = λ es. AreStored i (reverse es) c.in-Ok-new.stores in
+    let S : List Entry → Type 0 = λ es. AreMarked i (reverse es) c.in-Ok-new.board in
+    let T : Progress → Type 0 = λ p. AreMarked i [] p in
+    let R : List Entry → Type 0 = λ es. AreStored i (reverse es) c.in-Ok-new-2.stores in
     let J : List Builder → Type 0 = λ ms. (p : ℕ) → jobs_at ms p ≤ 65535 in
     let park = c.in-Ok.ensures.machines in
-    let counted = c.len-2.ensures in
-    let counted_again = c.len-3.ensures in
+    let counted = c.len-builders.ensures in
     let few = c.requires in
     record {
       legal = subst P (sym empty) tt;
@@ -30,6 +34,7 @@ invariant_of-result c =
       drvs = c.in-Ok.ensures.drvs ∙ c.len.ensures.rows;
       park = omega arith;
       few = omega arith;
-      small = small_park i (subst J (c.as_slice.ensures.value ∙ sym c.new-3.ensures) c.learn_jobs.ensures.builders) c.learn_jobs.ensures.local;
-      stores = subst R (sym empty) (c.in-Ok-new.ensures.tells i refl (omega arith) refl);
+      small = small_park i (subst J (c.as_slice.ensures.value ∙ sym c.new-4.ensures) c.learn_jobs.ensures.builders) c.learn_jobs.ensures.local;
+      stores = subst R (sym empty) (c.in-Ok-new-2.ensures.tells i refl (omega arith) refl);
+      marked = subst S (sym empty) (subst T (sym c.in-Ok-new.ensures) (marked_first i));
     }

@@ -1,0 +1,122 @@
+-- Each derivation has one status, and the numbers of derivations with each status sum to all.
+use Rattle.std.proofs.Common.{◌≡◌, ◌↔◌, IsTrue, ◌==◌, ℕ, ◌<◌, true, false, List, length, get_or, Contains, refl, sym, ◌∙◌, subst, arith, inl, inr, eq-eqb}
+use Rattle.std.proofs.lemmas.Bool.{cases_lt, eqb-true}
+use Rattle.std.proofs.lemmas.List.{get_or_default}
+use Rattle.nd_failure.specs.Statuses.{same_status, count_of, total_of}
+use Rattle.nd_failure.specs.declared.status.Counts.{Counts}
+use Rattle.nd_failure.specs.declared.status.Status.{Status}
+use Rattle.nd_failure.specs.declared.status.Status.TheVariants.{Waiting, Leased, Built, Failed, Cancelled}
+use Rattle.nd_failure.proofs.CountFacts.{count-from_Contains}
+use Rattle.nd_failure.proofs.TallyFacts.{total_of-tally, same_itself, passes_somewhere}
+use Rattle.nd_history.specs.declared.entry.Entry.{Entry}
+use Rattle.nd_history.specs.Premises.{Premises}
+use Rattle.nd_history.specs.Headline.{CountsSum}
+use Rattle.nd_history.specs.Legal.{IsLegal}
+use Rattle.nd_history.specs.Standing.{drvs_in}
+use Rattle.nd_history.specs.Statuses.{HasStatusIn, AreCountsIn, IsFinished}
+use Rattle.nd_history.proofs.Legality.{leased_fresh, built_settled}
+
+-- no derivation has two statuses
+pub status_once : (i : Premises) (past : List Entry) → IsLegal i past → (d : ℕ) (s t : Status) → HasStatusIn i past d s → HasStatusIn i past d t → s ≡ t
+status_once i past legal d Built Built h k = refl
+status_once i past legal d Built Failed h k = let fine = (built_settled i past legal d h).unfailed in cc
+status_once i past legal d Built Leased h k = let fine = (leased_fresh i past legal d k).unbuilt in cc
+status_once i past legal d Built Cancelled h k = let fine = k.0.unbuilt in cc
+status_once i past legal d Built Waiting h k = let fine = k.free.unbuilt in cc
+status_once i past legal d Failed Built h k = let fine = (built_settled i past legal d k).unfailed in cc
+status_once i past legal d Failed Failed h k = refl
+status_once i past legal d Failed Leased h k = let fine = (leased_fresh i past legal d k).unfailed in cc
+status_once i past legal d Failed Cancelled h k = let fine = k.0.unfailed in cc
+status_once i past legal d Failed Waiting h k = let fine = k.free.unfailed in cc
+status_once i past legal d Leased Built h k = let fine = (leased_fresh i past legal d h).unbuilt in cc
+status_once i past legal d Leased Failed h k = let fine = (leased_fresh i past legal d h).unfailed in cc
+status_once i past legal d Leased Leased h k = refl
+status_once i past legal d Leased Cancelled h k = let fine = k.0.unleased in cc
+status_once i past legal d Leased Waiting h k = let fine = k.free.unleased in cc
+status_once i past legal d Cancelled Built h k = let fine = h.0.unbuilt in cc
+status_once i past legal d Cancelled Failed h k = let fine = h.0.unfailed in cc
+status_once i past legal d Cancelled Leased h k = let fine = h.0.unleased in cc
+status_once i past legal d Cancelled Cancelled h k = refl
+status_once i past legal d Cancelled Waiting h k = absurd (k.spared h.1)
+status_once i past legal d Waiting Built h k = let fine = h.free.unbuilt in cc
+status_once i past legal d Waiting Failed h k = let fine = h.free.unfailed in cc
+status_once i past legal d Waiting Leased h k = let fine = h.free.unleased in cc
+status_once i past legal d Waiting Cancelled h k = absurd (h.spared k.1)
+status_once i past legal d Waiting Waiting h k = refl
+
+pub counts_sum : (i : Premises) (past : List Entry) → IsLegal i past → CountsSum i past
+counts_sum i past legal = record {
+  once = status_once i past legal;
+  sum = λ counts are. total_of-tally are.statuses counts are.tally ∙ are.of_drvs.one_each;
+}
+
+-- ---- what the numbers say
+
+-- a status that no place of the list has
+none_there : (statuses : List Status) (s : Status) (k : ℕ) → k < length statuses → count_of s statuses ≡ 0 → get_or statuses k Waiting ≡ s → ⊥
+none_there statuses s k lt none is =
+    let there : Contains statuses s = (k, lt, get_or_default statuses k s Waiting lt ∙ is) in
+    let some = count-from_Contains (same_status s) statuses s there (same_itself s) in
+    omega arith
+
+-- where none is counted, no derivation has the status
+none_counted : (i : Premises) (past : List Entry) (counts : Counts) → IsLegal i past → (are : AreCountsIn i past counts) → (s : Status) → count_of s are.statuses ≡ 0 → (d : ℕ) → d < drvs_in i → HasStatusIn i past d s → ⊥
+none_counted i past counts legal are s none d lt h =
+    let long = are.of_drvs.one_each in
+    none_there are.statuses s d (omega arith) none (status_once i past legal d (get_or are.statuses d Waiting) s (are.of_drvs.right d lt) h)
+
+-- nothing is counted as waiting, nor as leased
+finished_by : (i : Premises) (past : List Entry) (counts : Counts) → IsLegal i past → AreCountsIn i past counts → counts.waiting ≡ 0 → counts.leased ≡ 0 → IsFinished i past
+finished_by i past counts legal are waiting leased = record {
+  none_waits = none_counted i past counts legal are Waiting (sym are.tally.waiting ∙ waiting);
+  none_leased = none_counted i past counts legal are Leased (sym are.tally.leased ∙ leased);
+}
+
+same_waiting : (s : Status) → same_status Waiting s ≡ true → s ≡ Waiting
+same_waiting Waiting h = refl
+same_waiting Leased h = cc
+same_waiting Built h = cc
+same_waiting Failed h = cc
+same_waiting Cancelled h = cc
+
+same_leased : (s : Status) → same_status Leased s ≡ true → s ≡ Leased
+same_leased Waiting h = cc
+same_leased Leased h = refl
+same_leased Built h = cc
+same_leased Failed h = cc
+same_leased Cancelled h = cc
+
+-- something waits
+unfinished_waiting : (i : Premises) (past : List Entry) (counts : Counts) → AreCountsIn i past counts → 0 < counts.waiting → IsFinished i past → ⊥
+unfinished_waiting i past counts are some finished =
+    let tally = are.tally.waiting in
+    let long = are.of_drvs.one_each in
+    let at = passes_somewhere (same_status Waiting) are.statuses (omega arith) in
+    let lt : at.0 < drvs_in i = omega (arith, at.1) in
+    let P : Status → Type 0 = λ s. HasStatusIn i past at.0 s in
+    finished.none_waits at.0 lt (subst P (same_waiting (get_or are.statuses at.0 Waiting) (at.2 Waiting)) (are.of_drvs.right at.0 lt))
+
+-- something is leased
+unfinished_leased : (i : Premises) (past : List Entry) (counts : Counts) → AreCountsIn i past counts → 0 < counts.leased → IsFinished i past → ⊥
+unfinished_leased i past counts are some finished =
+    let tally = are.tally.leased in
+    let long = are.of_drvs.one_each in
+    let at = passes_somewhere (same_status Leased) are.statuses (omega arith) in
+    let lt : at.0 < drvs_in i = omega (arith, at.1) in
+    let P : Status → Type 0 = λ s. HasStatusIn i past at.0 s in
+    finished.none_leased at.0 lt (subst P (same_leased (get_or are.statuses at.0 Waiting) (at.2 Waiting)) (are.of_drvs.right at.0 lt))
+
+-- ---- whether the run is over
+
+pub told_waiting : (i : Premises) (past : List Entry) (counts : Counts) → AreCountsIn i past counts → 0 < counts.waiting → IsTrue false ↔ IsFinished i past
+told_waiting i past counts are some = (λ h. absurd (let no_way : ⊥ = cc in no_way), λ finished. absurd (unfinished_waiting i past counts are some finished))
+
+pub told_leased : (i : Premises) (past : List Entry) (counts : Counts) → IsLegal i past → AreCountsIn i past counts → counts.waiting ≡ 0 → IsTrue (counts.leased == 0) ↔ IsFinished i past
+told_leased i past counts legal are none = (
+  λ h. finished_by i past counts legal are none (eqb-true counts.leased 0 h),
+  λ finished.
+      elim (cases_lt 0 counts.leased) [
+        | inl some ↦ absurd (unfinished_leased i past counts are some finished)
+        | inr no_more ↦ eq-eqb counts.leased 0 (omega arith)
+      ],
+)

@@ -1,0 +1,37 @@
+//! One more entry: in the book, and on the board.
+
+ghost use Rattle.std.specs.Prelude.{◌≡◌, ◌+◌, ◌<◌, ◌≤◌, ◌++◌, [], ◌∷◌};
+ghost use Rattle.nd_ledger.specs.Marks.{board_after, CanFollow};
+
+use nd_failure::Board;
+use nd_history::book::Book;
+use nd_history::entry::Entry;
+
+/// Records an entry, and the board follows it. It takes no memory.
+pub(crate) fn enter(book: &mut Book, board: &mut Board, entry: Entry)
+    requires room { 0 < book.old.room }
+    requires can { CanFollow board.old entry }
+    ensures entries { book.new.entries ≡ book.old.entries ++ entry ∷ [] }
+    ensures room { book.old.room ≤ book.new.room + 1 }
+    ensures drvs { book.new.drvs ≡ book.old.drvs }
+    ensures machines { book.new.machines ≡ book.old.machines }
+    ensures board { board.new ≡ board_after board.old entry }
+{
+    follow(board, &entry);
+    book.record(entry);
+}
+
+/// The board follows one more entry.
+fn follow(board: &mut Board, entry: &Entry)
+    requires { CanFollow board.old entry.now }
+    ensures { board.new ≡ board_after board.old entry.now }
+{
+    match entry {
+        Entry::Chosen { drv, .. } => board.leased(*drv as usize),
+        Entry::NoBuilder { drv } | Entry::Failed { drv, .. } => board.failed(*drv as usize),
+        Entry::Down { drv } => board.back(*drv as usize),
+        Entry::Built { drv, .. } => board.built(*drv as usize),
+        Entry::Stop => board.stop(),
+        Entry::Started { .. } | Entry::Drain { .. } | Entry::Enable { .. } => {}
+    }
+}
