@@ -455,9 +455,10 @@ impl Dispatch {
         &self.inputs.graph
     }
 
-    /// The builders: the one at place p is machine p + 1.
+    /// The builders, at most 1,024: the one at place p is machine p + 1.
     pub fn machines(&self) -> &[Machine]
-        ensures { result.now ≡ self.now.inputs.machines }
+        ensures value { result.now ≡ self.now.inputs.machines }
+        ensures few { length result.now ≤ 1024 }
     {
         self.inputs.machines.as_slice()
     }

@@ -1,0 +1,7 @@
+pub mod Abandoned
+pub mod Answers
+pub mod Calls
+pub mod Logs
+pub mod Services
+pub mod StandIns
+pub mod Standing
