@@ -1,0 +1,4 @@
+pub mod Operands
+pub mod Lists
+pub mod Texts
+pub mod Once

@@ -1,0 +1,64 @@
+//! Reading a script.
+
+ghost use Rattle.std.specs.Prelude.{◌≡◌, List, IfOk, IfErr, MatchResult};
+ghost use Rattle.nd_closure.specs.Info.{lines_of};
+ghost use Rattle.nd_script.specs.declared.command.Command.{Command};
+ghost use Rattle.nd_script.specs.declared.script_error.ScriptError.{ScriptError};
+ghost use Rattle.nd_script.specs.Script.{AreCommands, IsRefused};
+ghost use Rattle.nd_script.specs.Faults.{refusal_of};
+
+use crate::command::Command;
+use crate::line_fault::LineFault;
+use crate::lines::read_line;
+use crate::script_error::ScriptError;
+use nd_bytes::cut;
+use std::alloc::Global;
+
+/// The commands of a script, one for each line, for a graph of `drvs` derivations and a park of
+/// `machines` machines, the local one among them. Lines are separated by newlines, one may end the last, and a text of no bytes
+/// has none. The words of a line are separated by single spaces:
+///
+/// `start D`, `startwith D PATH ..`, `built D`, `built D o PATH .. o ..`, `fail D C`, `lose D`,
+/// `down D`, `stop`, `drain M`, `enable M`, `ask D`
+///
+/// with a derivation D below `drvs`, a machine M below `machines` and a status C of 0 to 255, written
+/// without needless zeros. Paths may come in any order and may repeat: they are made sets. The form is
+/// this project's own.
+///
+/// Refuses with `BadLine` (1) and the number of the first line that is none of these, counted from 1,
+/// and with `Memory` (2) where an allocation is refused.
+pub fn parse_script(
+    alloc: Global,
+    text: &[u8],
+    drvs: usize,
+    machines: usize,
+) -> Result<Vec<Command>, ScriptError>
+    ensures found { IfOk result (λ commands. AreCommands drvs machines (lines_of text.now) commands.items) }
+    ensures refused { IfErr result (IsRefused drvs machines text.now) }
+    ensures exactly { (commands : List Command) → AreCommands drvs machines (lines_of text.now) commands → MatchResult result (λ read. read.items ≡ commands) (λ e. e ≡ ScriptError.Memory) }
+{
+    let mut commands = Vec::new(alloc);
+    let mut left = text;
+    let mut number = 0;
+    while !left.is_empty() {
+        let (line, rest) = cut(left, b'\n');
+        number += 1;
+        let command = match read_line(alloc, line, drvs, machines) {
+            Ok(command) => command,
+            Err(fault) => return Err(refusal(fault, number)),
+        };
+        commands.push(command)?;
+        left = rest.unwrap_or(&[]);
+    }
+    Ok(commands)
+}
+
+/// The refusal of the line with this number.
+fn refusal(fault: LineFault, number: usize) -> ScriptError
+    ensures { result ≡ refusal_of fault number }
+{
+    match fault {
+        LineFault::Bad => ScriptError::BadLine(number),
+        LineFault::Memory => ScriptError::Memory,
+    }
+}
