@@ -1,19 +1,45 @@
--- The park that the options describe: the local machine and the builders.
-use Rattle.std.specs.Prelude.{◌≡◌, ◌<◌, ◌≤◌, List, length, Ok, Err}
+-- What the options and the bundle describe: the graph, the park with its local machine and its builders, and the references
+-- of paths.
+use Rattle.std.specs.Prelude.{◌≡◌, ◌⊎◌, ℕ, ◌<◌, ◌≤◌, List, length, Ok, Err}
 use Rattle.nd_machines.specs.Builders.{Builder}
 use Rattle.nd_machines.specs.BuildersList.{builders}
 use Rattle.nd_machines.specs.FeatureSets.{listed}
 use Rattle.nd_eligible.specs.Settings.{Settings}
+use Rattle.nd_graph.specs.Graphs.{Nodes}
+use Rattle.nd_graph.specs.Bundles.{IsBundle, IsFirstFault}
+use Rattle.nd_closure.specs.Info.{AreListed, IsRefused, lines_of}
 use Rattle.nd_cli.specs.Inputs.{limit}
 use Rattle.nd_cli.specs.declared.options.ParkOptions.{ParkOptions}
 use Rattle.nd_cli.specs.declared.fault.Place.{Place}
 use Rattle.nd_cli.specs.declared.fault.CliFault.{CliFault}
-use Rattle.nd_cli.specs.declared.fault.CliFault.TheVariants.{Builders, TooLarge, Memory}
+use Rattle.nd_cli.specs.declared.fault.CliFault.TheVariants.{Drvs, Builders, Info, TooLarge, Memory}
+
+-- the text is within the limit, and is the bundle of this graph
+pub record HasGraph (options : ParkOptions) (text : List ℕ) (graph : Nodes) : Type 0 where
+  pub within : length text ≤ limit
+  pub bundle : IsBundle options.check_paths text graph
+
+-- the text is a bundle
+pub record IsAccepted (options : ParkOptions) (text : List ℕ) : Type 0 where
+  pub graph : Nodes
+  pub has : HasGraph options text graph
+
+-- why the bundle is refused: it is too large, or this is its first refusal
+abbrev pub IsBundleFault : ParkOptions → List ℕ → CliFault → Type 0
+IsBundleFault options text (Drvs e) = (length text ≤ limit) × IsFirstFault options.check_paths text e
+IsBundleFault options text (TooLarge place) = (place ≡ Place.Drvs) × (limit < length text)
+IsBundleFault options text Memory = Unit {0}
+IsBundleFault options text _ = ⊥
 
 -- the text of the builders list is within the limit, and these are its machines
 pub record HasBuilders (options : ParkOptions) (machines : List Builder) : Type 0 where
   pub within : length options.builders ≤ limit
   pub read : builders options.system options.builders ≡ Ok machines
+
+-- the text is a builders list
+pub record AreBuildersAccepted (options : ParkOptions) : Type 0 where
+  pub machines : List Builder
+  pub has : HasBuilders options machines
 
 -- why the builders list is refused: it is too large, or this is its first refusal
 abbrev pub IsBuildersFault : ParkOptions → CliFault → Type 0
@@ -21,6 +47,31 @@ IsBuildersFault options (TooLarge place) = (place ≡ Place.Builders) × (limit 
 IsBuildersFault options (Builders refusal) = (length options.builders ≤ limit) × (builders options.system options.builders ≡ Err refusal)
 IsBuildersFault options Memory = Unit {0}
 IsBuildersFault options _ = ⊥
+
+-- the info text is within the limit, and lists these paths with their references
+pub record HasInfo (options : ParkOptions) (info : List (List ℕ × List (List ℕ))) : Type 0 where
+  pub within : length options.info ≤ limit
+  pub listed : AreListed (lines_of options.info) info
+
+-- why the info text is refused: it is too large, or this is its first bad line
+abbrev pub IsInfoFault : ParkOptions → CliFault → Type 0
+IsInfoFault options (TooLarge place) = (place ≡ Place.Info) × (limit < length options.info)
+IsInfoFault options (Info refusal) = (length options.info ≤ limit) × IsRefused options.info refusal
+IsInfoFault options Memory = Unit {0}
+IsInfoFault options _ = ⊥
+
+-- a bundle, a builders list and an info text: each is accepted
+pub record HasPark (options : ParkOptions) (text : List ℕ) (graph : Nodes) (machines : List Builder) (info : List (List ℕ × List (List ℕ))) : Type 0 where
+  pub bundle : HasGraph options text graph
+  pub builders : HasBuilders options machines
+  pub references : HasInfo options info
+
+-- the bundle is refused, or else the builders list, or else the info text
+abbrev pub IsParkFault : ParkOptions → List ℕ → CliFault → Type 0
+IsParkFault options text e =
+    IsBundleFault options text e
+    ⊎ ((IsAccepted options text × IsBuildersFault options e)
+    ⊎ (IsAccepted options text × AreBuildersAccepted options × IsInfoFault options e))
 
 -- the local machine: its lists are cut at commas alone
 abbrev pub local_of : ParkOptions → Settings

@@ -8,7 +8,7 @@ use Rattle.nd_cli.specs.declared.fault.Place.{Place}
 use Rattle.nd_cli.specs.declared.fault.DerivationRefusal.{DerivationRefusal}
 use Rattle.nd_cli.specs.declared.fault.DerivationRefusal.TheVariants.{BadPath, BadDerivation}
 use Rattle.nd_cli.specs.declared.fault.CliFault.{CliFault}
-use Rattle.nd_cli.specs.declared.fault.CliFault.TheVariants.{Derivation, Drvs, Builders, TooLarge, Read, Write, Memory}
+use Rattle.nd_cli.specs.declared.fault.CliFault.TheVariants.{Derivation, Drvs, Builders, Info, TooLarge, Read, Write, Memory}
 
 -- the path and a newline were written, of a whole input within the limit
 pub record AnswersPath (name : List ℕ) (unread left written_before written : Option (List ℕ)) : Type 0 where
@@ -29,6 +29,7 @@ abbrev pub IsTextFault : List ℕ → List ℕ → CliFault → Type 0
 IsTextFault name text (Derivation refusal) = (length text ≤ limit) × HasNoDrvPath name text (as_graph_error refusal)
 IsTextFault name text (Drvs e) = ⊥
 IsTextFault name text (Builders e) = ⊥
+IsTextFault name text (Info e) = ⊥
 IsTextFault name text (TooLarge place) = (place ≡ Place.Derivation) × (limit < length text)
 IsTextFault name text Read = ⊥
 IsTextFault name text Write = ⊥
@@ -45,6 +46,7 @@ abbrev pub IsPathFault : List ℕ → Option (List ℕ) → Option (List ℕ) �
 IsPathFault name unread left reader_marked writer_marked (Derivation refusal) = RefusesText name unread left (Derivation refusal)
 IsPathFault name unread left reader_marked writer_marked (Drvs e) = ⊥
 IsPathFault name unread left reader_marked writer_marked (Builders e) = ⊥
+IsPathFault name unread left reader_marked writer_marked (Info e) = ⊥
 IsPathFault name unread left reader_marked writer_marked (TooLarge place) = RefusesText name unread left (TooLarge place)
 IsPathFault name unread left reader_marked writer_marked Read = reader_marked ≡ true
 IsPathFault name unread left reader_marked writer_marked Write = writer_marked ≡ true

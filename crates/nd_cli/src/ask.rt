@@ -1,17 +1,16 @@
 //! The command `ask`.
 
 ghost use Rattle.std.specs.Prelude.{◌≡◌, true, false, IfOk, IfErr, OnOk};
-ghost use Rattle.nd_cli.specs.Asked.{AnswersAsk, AnswersAskInPart, HasGraph, IsAskFault, IsBundleFault};
+ghost use Rattle.nd_cli.specs.Asked.{AnswersAsk, AnswersAskInPart, IsAskFault};
 ghost use Rattle.nd_cli.specs.Inputs.{is_write_fault};
 
 use crate::asks::write_replies;
-use crate::fault::{CliFault, Place};
-use crate::input::{LIMIT, read_input};
+use crate::fault::CliFault;
+use crate::input::read_input;
 use crate::options::ParkOptions;
-use crate::park::{read_builders, read_local};
-use nd_graph::{Graph, GraphError, read_bundle};
+use crate::park::read_park;
 use nd_hook::Told;
-use std::alloc::{AllocError, Global};
+use std::alloc::Global;
 use std::io::{Read, Write};
 use std::thread::Threads;
 
@@ -19,8 +18,9 @@ use std::thread::Threads;
 /// no slot is taken and every machine is up. The status is 0.
 ///
 /// The first refusal in this order is answered, and nothing is written then: `Read`; `TooLarge` or
-/// `Drvs` for the bundle; `TooLarge` or `Builders` for the builders list. `Write` leaves a part of the
-/// replies, from their beginning. `Memory` may come at any point before the replies are written.
+/// `Drvs` for the bundle; `TooLarge` or `Builders` for the builders list; `TooLarge` or `Info` for the
+/// info text. `Write` leaves a part of the replies, from their beginning. `Memory` may come at any
+/// point before the replies are written.
 pub fn ask_engine<R: Read, W: Write>(
     rt: &(impl Threads + Sync),
     alloc: Global,
@@ -40,40 +40,18 @@ pub fn ask_engine<R: Read, W: Write>(
         Ok(text) => text,
         Err(fault) => return Err(fault),
     };
-    let graph = match read_graph(rt, alloc, options, text.as_slice()) {
-        Ok(graph) => graph,
+    let park = match read_park(rt, alloc, options, text.as_slice()) {
+        Ok(park) => park,
         Err(fault) => return Err(fault),
     };
-    let machines = match read_builders(alloc, options) {
-        Ok(machines) => machines,
-        Err(fault) => return Err(fault),
-    };
-    let local = match read_local(alloc, options) {
-        Ok(local) => local,
-        Err(AllocError) => return Err(CliFault::Memory),
-    };
-    match write_replies(alloc, &machines, &local, graph.needs(), output) {
+    match write_replies(
+        alloc,
+        &park.machines,
+        &park.local,
+        park.graph.needs(),
+        output,
+    ) {
         Ok(()) => Ok(0),
         Err(fault) => Err(fault),
-    }
-}
-
-/// The graph of the bundle with this text.
-fn read_graph(
-    rt: &(impl Threads + Sync),
-    alloc: Global,
-    options: &ParkOptions,
-    text: &[u8],
-) -> Result<Graph, CliFault>
-    ensures read { IfOk result (HasGraph options.now text.now) }
-    ensures refused { IfErr result (IsBundleFault options.now text.now) }
-{
-    if text.len() > LIMIT {
-        return Err(CliFault::TooLarge(Place::Drvs));
-    }
-    match read_bundle(rt, alloc, text, options.check_paths) {
-        Ok(graph) => Ok(graph),
-        Err(GraphError::Memory) => Err(CliFault::Memory),
-        Err(refusal) => Err(CliFault::Drvs(refusal)),
     }
 }

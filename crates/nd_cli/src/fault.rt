@@ -2,6 +2,7 @@
 ghost use Rattle.std.specs.Prelude.{◌≡◌};
 ghost use Rattle.nd_cli.specs.Statuses.{exit_status};
 
+use nd_closure::InfoError;
 use nd_graph::GraphError;
 use nd_machines::MachineError;
 use std::alloc::AllocError;
@@ -17,6 +18,8 @@ pub enum Place {
     Drvs,
     /// The builders list.
     Builders,
+    /// The info text.
+    Info,
 }
 
 impl fmt::Display for Place {
@@ -25,6 +28,7 @@ impl fmt::Display for Place {
             Place::Derivation => write!(f, "derivation"),
             Place::Drvs => write!(f, "drvs"),
             Place::Builders => write!(f, "builders"),
+            Place::Info => write!(f, "info"),
         }
     }
 }
@@ -59,6 +63,9 @@ pub enum CliFault {
     /// The builders list is refused. Status 3.
     #[error("nix-dispatch: builders: {0}")]
     Builders(MachineError),
+    /// The info text is refused. Status 3.
+    #[error("nix-dispatch: info: {0}")]
+    Info(InfoError),
     /// An input has more than 67,108,864 bytes. Status 3.
     #[error("nix-dispatch: {0}: TooLarge")]
     TooLarge(Place),
@@ -82,6 +89,7 @@ impl CliFault {
             CliFault::Derivation(_)
             | CliFault::Drvs(_)
             | CliFault::Builders(_)
+            | CliFault::Info(_)
             | CliFault::TooLarge(_) => 3,
             CliFault::Read | CliFault::Write | CliFault::Memory => 5,
         }

@@ -13,4 +13,5 @@ pub use ask::ask_engine;
 pub use fault::{CliFault, DerivationRefusal, Place};
 pub use input::{LIMIT, read_input};
 pub use options::ParkOptions;
+pub use park::{Park, read_park};
 pub use path::path_engine;

@@ -2,7 +2,8 @@
 
 use nd_bytes::ByteString;
 
-/// What the command line of a command over a bundle says, with the bytes of the file that it names.
+/// What the command line of a command over a bundle says, with the bytes of the files that it
+/// names.
 #[derive(Drop)]
 pub struct ParkOptions {
     /// The builders list: the text of `--builders TEXT`, or the bytes of the file of
@@ -16,6 +17,10 @@ pub struct ParkOptions {
     pub features: ByteString,
     /// The local jobs: `--jobs N`.
     pub jobs: u16,
+    /// Whether the rest goes on after a failure: `--keep-going`.
+    pub keep_going: bool,
     /// Whether each line's path is compared with the one that its text has: `--check-paths`.
     pub check_paths: bool,
+    /// The info text: the bytes of the file of `--info FILE`, and none without that option.
+    pub info: ByteString,
 }

@@ -1,19 +1,96 @@
-//! The park that the command line describes: the local machine and the builders.
+//! What the command line and the bundle describe: the graph, the local machine and the builders, and
+//! the references of paths.
 
 ghost use Rattle.std.specs.Prelude.{◌≡◌, IfOk, IfErr};
-ghost use Rattle.nd_cli.specs.Parks.{HasBuilders, IsBuildersFault, local_of};
+ghost use Rattle.nd_cli.specs.Parks.{HasGraph, HasBuilders, HasInfo, HasPark, IsBundleFault, IsBuildersFault, IsInfoFault, IsParkFault, local_of};
 
 use crate::fault::{CliFault, Place};
 use crate::input::LIMIT;
 use crate::options::ParkOptions;
+use nd_closure::{InfoError, RefTable, parse_info};
 use nd_eligible::Local;
+use nd_graph::{Graph, GraphError, read_bundle};
 use nd_machines::{FeatureSet, Machine, MachineError, parse_builders};
 use std::alloc::{AllocError, Global};
+use std::thread::Threads;
+
+/// What a command over a bundle was given, once all of it is accepted.
+#[derive(Drop)]
+pub struct Park {
+    /// The derivations.
+    pub graph: Graph,
+    /// The builders, in the order of their list.
+    pub machines: Vec<Machine>,
+    /// The local machine.
+    pub local: Local,
+    /// The paths that the info text lists, with their references.
+    pub info: RefTable,
+}
+
+/// What this text, a bundle, and the options describe.
+///
+/// The first refusal in this order is answered: `TooLarge` or `Drvs` for the bundle, `TooLarge` or
+/// `Builders` for the builders list, `TooLarge` or `Info` for the info text. `Memory` may come at any
+/// point.
+pub fn read_park(
+    rt: &(impl Threads + Sync),
+    alloc: Global,
+    options: &ParkOptions,
+    text: &[u8],
+) -> Result<Park, CliFault>
+    ensures read { IfOk result (λ park. HasPark options.now text.now park.graph park.machines.items park.info.entries) }
+    ensures local { IfOk result (λ park. park.local ≡ local_of options.now) }
+    ensures refused { IfErr result (IsParkFault options.now text.now) }
+{
+    let graph = match read_graph(rt, alloc, options, text) {
+        Ok(graph) => graph,
+        Err(fault) => return Err(fault),
+    };
+    let machines = match read_builders(alloc, options) {
+        Ok(machines) => machines,
+        Err(fault) => return Err(fault),
+    };
+    let info = match read_info(alloc, options) {
+        Ok(info) => info,
+        Err(fault) => return Err(fault),
+    };
+    match read_local(alloc, options) {
+        Ok(local) => Ok(Park {
+            graph,
+            machines,
+            local,
+            info,
+        }),
+        Err(AllocError) => Err(CliFault::Memory),
+    }
+}
+
+/// The graph of the bundle with this text.
+///
+/// `TooLarge`: it has more than [`LIMIT`] bytes. `Drvs`: it is refused. `Memory`.
+fn read_graph(
+    rt: &(impl Threads + Sync),
+    alloc: Global,
+    options: &ParkOptions,
+    text: &[u8],
+) -> Result<Graph, CliFault>
+    ensures read { IfOk result (HasGraph options.now text.now) }
+    ensures refused { IfErr result (IsBundleFault options.now text.now) }
+{
+    if text.len() > LIMIT {
+        return Err(CliFault::TooLarge(Place::Drvs));
+    }
+    match read_bundle(rt, alloc, text, options.check_paths) {
+        Ok(graph) => Ok(graph),
+        Err(GraphError::Memory) => Err(CliFault::Memory),
+        Err(refusal) => Err(CliFault::Drvs(refusal)),
+    }
+}
 
 /// The builders that the options name.
 ///
 /// `TooLarge`: their text has more than [`LIMIT`] bytes. `Builders`: it is refused. `Memory`.
-pub fn read_builders(alloc: Global, options: &ParkOptions) -> Result<Vec<Machine>, CliFault>
+fn read_builders(alloc: Global, options: &ParkOptions) -> Result<Vec<Machine>, CliFault>
     ensures read { IfOk result (λ machines. HasBuilders options.now machines.items) }
     ensures refused { IfErr result (IsBuildersFault options.now) }
 {
@@ -31,8 +108,25 @@ pub fn read_builders(alloc: Global, options: &ParkOptions) -> Result<Vec<Machine
     }
 }
 
+/// The references that the options name.
+///
+/// `TooLarge`: their text has more than [`LIMIT`] bytes. `Info`: it is refused. `Memory`.
+fn read_info(alloc: Global, options: &ParkOptions) -> Result<RefTable, CliFault>
+    ensures read { IfOk result (λ info. HasInfo options.now info.entries) }
+    ensures refused { IfErr result (IsInfoFault options.now) }
+{
+    if options.info.len() > LIMIT {
+        return Err(CliFault::TooLarge(Place::Info));
+    }
+    match parse_info(alloc, options.info.as_slice()) {
+        Ok(info) => Ok(info),
+        Err(InfoError::Memory) => Err(CliFault::Memory),
+        Err(refusal) => Err(CliFault::Info(refusal)),
+    }
+}
+
 /// The settings of the local machine that the options name.
-pub fn read_local(alloc: Global, options: &ParkOptions) -> Result<Local, AllocError>
+fn read_local(alloc: Global, options: &ParkOptions) -> Result<Local, AllocError>
     ensures { IfOk result (λ local. local ≡ local_of options.now) }
 {
     let jobs = options.jobs;

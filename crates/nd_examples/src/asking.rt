@@ -29,7 +29,9 @@ pub fn options(alloc: Global, builders: &str, jobs: u16) -> Result<ParkOptions, 
         extra: ByteString::from_slice(alloc, b"")?,
         features: ByteString::from_slice(alloc, b"")?,
         jobs,
+        keep_going: false,
         check_paths: false,
+        info: ByteString::from_slice(alloc, b"")?,
     })
 }
 

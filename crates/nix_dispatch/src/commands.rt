@@ -1,6 +1,6 @@
 //! What each command does with its words.
 
-use crate::files::text_or_file;
+use crate::files::{read_file, text_or_file};
 use crate::words;
 use clap::ArgMatches;
 use clap::error::ErrorKind;
@@ -83,19 +83,27 @@ fn ask<R: Files + Input + Print + AllocGlobal + Threads + Sync>(
     )
 }
 
-/// The options of a command over a bundle. The files that they name are read here.
+/// The options of a command over a bundle. The files that they name are read here, the builders list
+/// before the info text.
 fn park_options<R: Files>(
     rt: &R,
     alloc: Global,
     options: &ArgMatches,
 ) -> Result<ParkOptions, CliFault> {
+    let builders = text_or_file(rt, alloc, options.get_str("builders").unwrap_or(""))?;
+    let info = match options.get_str("info") {
+        Some(name) => read_file(rt, alloc, name)?,
+        None => ByteString::new(Vec::new(alloc)),
+    };
     Ok(ParkOptions {
-        builders: text_or_file(rt, alloc, options.get_str("builders").unwrap_or(""))?,
+        builders,
         system: text_of(alloc, options, "system")?,
         extra: text_of(alloc, options, "extra")?,
         features: text_of(alloc, options, "features")?,
         jobs: options.get_one::<u16>("jobs").unwrap_or(1),
+        keep_going: options.get_flag("keep-going"),
         check_paths: options.get_flag("check-paths"),
+        info,
     })
 }
 

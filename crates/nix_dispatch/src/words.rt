@@ -51,17 +51,26 @@ fn with_park_options<'a>(alloc: Global, command: Command<'a>) -> Result<Command<
         .default_value("1")
         .value_parser(value_parser!(u16))
         .help("The local jobs, 0 to 65535");
+    let keep_going = Arg::new(alloc, "keep-going")
+        .long("keep-going")
+        .action(ArgAction::SetTrue)
+        .help("After a failure goes on with what doesn't depend on it");
     let check_paths = Arg::new(alloc, "check-paths")
         .long("check-paths")
         .action(ArgAction::SetTrue)
         .help("Refuses a derivation whose path isn't that of its text");
+    let info = text_option(alloc, "info", "FILE").help(
+        "The references of paths: a line for each path, with the paths that it refers to",
+    );
     command
         .arg(builders)?
         .arg(system)?
         .arg(extra)?
         .arg(features)?
         .arg(jobs)?
-        .arg(check_paths)
+        .arg(keep_going)?
+        .arg(check_paths)?
+        .arg(info)
 }
 
 /// An option with a value, which may be any word.
