@@ -19,7 +19,7 @@ use Rattle.nd_history.specs.Fitting.{FitTogether}
 use Rattle.nd_stores.specs.Stored.{Stored, AreStored, is_quiet, IsSameStored, HasTaken}
 use Rattle.nd_stores.specs.declared.copying.Additions.{Additions}
 use Rattle.nd_history.specs.Pumping.{step_drv}
-use Rattle.nd_ledger.specs.Moves.{IsRoomier, IsReadyToStart, IsReadyToEnd}
+use Rattle.nd_ledger.specs.Moves.{IsRoomier, IsStepRecorded, IsReadyToStart, IsReadyToEnd}
 use Rattle.nd_ledger.specs.Inner.{IsKept, room_for}
 use Rattle.nd_ledger.specs.Marks.{AreMarked, board_after}
 use Rattle.nd_history.proofs.Following.{newest_first}
@@ -202,6 +202,16 @@ pub step_quiet : (e : Entry) (d : ℕ) → step_drv e ≡ Some d → is_quiet e 
 step_quiet (Started c paths) d h = cc
 step_quiet (Built c refs) d h = cc
 step_quiet e d h = refl
+
+-- a step is recorded
+pub kept_step : (d : Inside) (book : Recorded) (board : Progress) (e : Entry) → IsStepRecorded d.book book d.board board e → IsKept d → IsAllowed (premises_of d.inputs) e (reverse d.book.entries) → is_quiet e ≡ true → IsKept (record d { book = book; board = board })
+kept_step d book board e rec was allowed quiet =
+    let had = rec.room in
+    let roomy : Recorded = record { entries = d.book.entries; room = book.room + 1; drvs = book.drvs; machines = book.machines } in
+    kept_more d roomy book board e 1
+    (record { entries = refl; drvs = rec.drvs; machines = rec.machines; room = rec.kept; more = omega arith })
+    (record { entries = rec.entries; room = omega arith; drvs = refl; machines = refl; board = rec.board })
+    was allowed (live_grows (reverse d.book.entries) e) quiet
 
 -- what was kept with other room for references and holdings is kept
 pub kept_stores : (d : Inside) (stores : Stored) → IsSameStored d.stores stores → IsKept d → IsKept (record d { stores = stores })

@@ -1,6 +1,6 @@
 -- When starts, ends of builds and questions about copies are refused, and what they need before they are recorded.
 -- The histories of these definitions stand newest first.
-use Rattle.std.specs.Prelude.{◌≡◌, ℕ, ◌+◌, ◌≤◌, true, false, List, length}
+use Rattle.std.specs.Prelude.{◌≡◌, ℕ, ◌+◌, ◌≤◌, true, false, List, [], ◌∷◌, ◌++◌, length, reverse}
 use Rattle.nd_ledger.specs.declared.refusal.Refusal.{Refusal}
 use Rattle.nd_ledger.specs.declared.refusal.Refusal.TheVariants.{NotLive, AlreadyStarted, NotStarted, Uncovered, Extra, BadReferences, AlreadyStopped, Memory}
 use Rattle.nd_stores.specs.declared.copying.Additions.{Additions}
@@ -8,10 +8,12 @@ use Rattle.nd_stores.specs.declared.copying.PathsFault.{PathsFault}
 use Rattle.nd_stores.specs.declared.copying.PathsFault.TheVariants.{Uncovered as Bare, Extra as Beside, Memory as NoMemory}
 use Rattle.nd_history.specs.declared.entry.Entry.{Entry}
 use Rattle.nd_history.specs.declared.entry.Ticket.{Ticket}
+use Rattle.nd_failure.specs.Progress.{Progress}
 use Rattle.nd_history.specs.Books.{Recorded}
 use Rattle.nd_history.specs.Premises.{Premises}
 use Rattle.nd_history.specs.History.{live as leases, is_started}
 use Rattle.nd_ledger.specs.Refusals.{IsLive}
+use Rattle.nd_ledger.specs.Marks.{board_after}
 use Rattle.nd_history.specs.References.{ArePathsRight, AreReferencesRight}
 use Rattle.nd_stores.specs.Stored.{Stored, Fits, AreStartAdditions, AreBuiltAdditions, IsUncovered, IsExtra}
 
@@ -62,6 +64,15 @@ pub record IsRoomier (old new : Recorded) : Type 0 where
   pub drvs : new.drvs ≡ old.drvs
   pub machines : new.machines ≡ old.machines
   pub room : old.room ≤ new.room
+
+-- a step is recorded, the board follows it, and there is room for the end of each lease, that of a choice among them, and for a stop
+pub record IsStepRecorded (old new : Recorded) (was now : Progress) (step : Entry) : Type 0 where
+  pub entries : new.entries ≡ old.entries ++ step ∷ []
+  pub drvs : new.drvs ≡ old.drvs
+  pub machines : new.machines ≡ old.machines
+  pub room : length (leases (reverse old.entries)) + 2 ≤ new.room
+  pub kept : old.room ≤ new.room + 1
+  pub board : now ≡ board_after was step
 
 -- a start that may be recorded, with all the memory that it takes
 pub record IsReadyToStart (i : Premises) (past : List Entry) (t : Ticket) (paths : List (List ℕ)) (book : Recorded) (stores : Stored) (a : Additions) : Type 0 where

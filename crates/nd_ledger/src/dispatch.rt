@@ -17,7 +17,7 @@ ghost use Rattle.nd_history.specs.References.{outputs_of};
 ghost use Rattle.nd_stores.specs.Stored.{IsMissing};
 ghost use Rattle.nd_ledger.specs.Refusals.{IsLive, IsFailRefused, IsDownRefused, IsStopRefused};
 
-use crate::following::enter;
+use crate::following::{enter, record_step};
 use crate::job::Job;
 use crate::moving::{is_live, prepare_end, prepare_start};
 use crate::refusal::{Refusal, Refused};
@@ -76,9 +76,7 @@ impl Dispatch {
     {
         let before = self.book.entries().len();
         while let Some(step) = next_step(&self.inputs, &self.book) {
-            let room = self.book.live_len() + 3;
-            self.book.make_room(room)?;
-            enter(&mut self.book, &mut self.board, step);
+            record_step(&mut self.book, &mut self.board, step)?;
         }
         let _order = self.inputs.graph.order();
         Ok(self.book.entries().len() - before)

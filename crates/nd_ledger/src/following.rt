@@ -1,11 +1,13 @@
 //! One more entry: in the book, and on the board.
 
-ghost use Rattle.std.specs.Prelude.{◌≡◌, ◌+◌, ◌<◌, ◌≤◌, ◌++◌, [], ◌∷◌};
+ghost use Rattle.std.specs.Prelude.{◌≡◌, ◌+◌, ◌<◌, ◌≤◌, ◌++◌, [], ◌∷◌, OnOk, OnErr};
 ghost use Rattle.nd_ledger.specs.Marks.{board_after, CanFollow};
+ghost use Rattle.nd_ledger.specs.Moves.{IsRoomier, IsStepRecorded};
 
 use nd_failure::Board;
 use nd_history::book::Book;
 use nd_history::entry::Entry;
+use std::alloc::AllocError;
 
 /// Records an entry, and the board follows it. It takes no memory.
 pub(crate) fn enter(book: &mut Book, board: &mut Board, entry: Entry)
@@ -19,6 +21,20 @@ pub(crate) fn enter(book: &mut Book, board: &mut Board, entry: Entry)
 {
     follow(board, &entry);
     book.record(entry);
+}
+
+/// Records a step: a choice, or the word that nothing can build a derivation. Where memory is refused
+/// nothing is recorded.
+pub(crate) fn record_step(book: &mut Book, board: &mut Board, step: Entry) -> Result<(), AllocError>
+    requires { CanFollow board.old step }
+    ensures ok { OnOk result (IsStepRecorded book.old book.new board.old board.new step) }
+    ensures err { OnErr result (IsRoomier book.old book.new) }
+    ensures same { OnErr result (board.new ≡ board.old) }
+{
+    let room = book.live_len() + 3;
+    book.make_room(room)?;
+    enter(book, board, step);
+    Ok(())
 }
 
 /// The board follows one more entry.

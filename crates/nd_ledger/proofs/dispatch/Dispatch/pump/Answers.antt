@@ -1,11 +1,9 @@
-use Rattle.std.proofs.Common.{◌+◌, ◌≤◌, ◌++◌, List, [], ◌∷◌, length, reverse, arith, ap, ◌∙◌, subst}
-use Rattle.nd_history.specs.declared.entry.Entry.{Entry}
-use Rattle.nd_history.specs.History.{live}
+use Rattle.std.proofs.Common.{reverse, ap, ◌∙◌, subst}
 use Rattle.nd_ledger.specs.Worlds.{World}
 use Rattle.nd_history.specs.Premises.{Premises, premises_of}
 use Rattle.nd_history.specs.Pumping.{IsPumpStep}
 use Rattle.nd_history.proofs.Following.{newest_first}
-use Rattle.nd_ledger.proofs.Keeping.{kept_more, live_grows, step_quiet}
+use Rattle.nd_ledger.proofs.Keeping.{kept_step, step_quiet}
 use Rattle.nd_history.proofs.Resting.{waits_for_leases}
 use Rattle.nd_history.proofs.Steps.{pumped_more, pump_smaller, pump_counted}
 use Rattle.nd_ledger.proofs.Boards.{can_follow}
@@ -16,26 +14,20 @@ loop-step-preserved c =
     let d = c.loop-step.self-inside in
     let inv = c.loop-step.invariant in
     let e = c.in-Some.step in
-    let r = c.enter.ensures in
-    let m = c.in_ok-make_room.ensures in
-    let many : length (live (reverse d.book.entries)) + 1 + 2 ≤ c.make_room.new.self.room = (let made = m.made in let is = c.live_len-room.ensures.live in omega arith) in
+    let rec = c.in_ok-record_step.ensures.ok in
     let P : Premises → Type 0 = λ i. IsPumpStep i (reverse d.book.entries) e in
     record {
-      kept =
-          kept_more d c.make_room.new.self c.enter.new.book c.enter.new.board e 1
-          (record { entries = m.entries; drvs = m.drvs; machines = m.machines; room = m.kept; more = many })
-          (record { entries = r.entries; room = r.room; drvs = r.drvs; machines = r.machines; board = r.board })
-          inv.kept c.in-Some.ensures.step.allowed (live_grows (reverse d.book.entries) e) (step_quiet e c.in-Some.ensures.drv c.in-Some.ensures.step.about);
+      kept = kept_step d c.record_step.new.book c.record_step.new.board e rec inv.kept c.in-Some.ensures.step.allowed (step_quiet e c.in-Some.ensures.drv c.in-Some.ensures.step.about);
       same = inv.same;
-      pumped = pumped_more _ _ d.book.entries c.enter.new.book.entries e inv.pumped (r.entries ∙ ap (λ (es : List Entry). es ++ e ∷ []) m.entries) (subst P inv.same c.in-Some.ensures);
+      pumped = pumped_more _ _ d.book.entries c.record_step.new.book.entries e inv.pumped rec.entries (subst P inv.same c.in-Some.ensures);
     }
 
 pub loop-step-smaller : goal.loop-step-smaller
 loop-step-smaller c =
     let d = c.loop-step.self-inside in
     let e = c.in-Some.step in
-    let longer = c.enter.ensures.entries ∙ ap (λ (es : List Entry). es ++ e ∷ []) c.in_ok-make_room.ensures.entries in
-    pump_smaller (premises_of d.inputs) (reverse d.book.entries) e (reverse c.enter.new.book.entries) (newest_first d.book.entries c.enter.new.book.entries e longer) c.in-Some.ensures
+    let longer = c.in_ok-record_step.ensures.ok.entries in
+    pump_smaller (premises_of d.inputs) (reverse d.book.entries) e (reverse c.record_step.new.book.entries) (newest_first d.book.entries c.record_step.new.book.entries e longer) c.in-Some.ensures
 
 pub returns-clause-steps : goal.returns-clause-steps
 returns-clause-steps c =
@@ -52,8 +44,8 @@ returns-clause-idle c =
     let d = c.loop-step.self-inside in
     waits_for_leases (premises_of d.inputs) (reverse d.book.entries) c.order-order.result.now c.loop-step.invariant.kept.sound.ranged c.order-order.ensures.fall c.in_default.ensures
 
-pub enter-requires-clause-can : goal.enter-requires-clause-can
-enter-requires-clause-can c =
+pub record_step-requires : goal.record_step-requires
+record_step-requires c =
     let d = c.loop-step.self-inside in
     let kept = c.loop-step.invariant.kept in
     can_follow (premises_of d.inputs) (reverse d.book.entries) d.board c.in-Some.step kept.legal kept.marked c.in-Some.ensures.step.allowed
