@@ -1,3 +1,4 @@
+pub mod Admitting
 pub mod Boards
 pub mod Keeping
 pub mod Marking

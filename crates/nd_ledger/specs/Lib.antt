@@ -1,3 +1,4 @@
+pub mod Admitting
 pub mod Inner
 pub mod Marks
 pub mod Moves

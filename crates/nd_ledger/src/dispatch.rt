@@ -1,10 +1,11 @@
 //! The dispatch: leases and their history.
 
-ghost use Rattle.std.specs.Prelude.{◌≡◌, ℕ, ◌+◌, ◌<◌, ◌≤◌, ◌++◌, [], ◌∷◌, List, false, length, slice_index_or, reverse, IfOk, OnOk, IfErr, OnErr, IsOk, IsTrue, ◌↔◌};
-ghost use Rattle.nd_history.specs.History.{live, lease_of, current_of, load, is_started, is_up, has_stop};
+ghost use Rattle.std.specs.Prelude.{◌≡◌, ℕ, ◌+◌, ◌<◌, ◌≤◌, ◌++◌, [], ◌∷◌, List, true, false, length, slice_index_or, reverse, IfOk, OnOk, IfErr, OnErr, IsOk, IsOkUnless, MatchOption, IsTrue, ◌↔◌};
+ghost use Rattle.nd_history.specs.History.{live, is_leased, lease_of, current_of, load, is_started, is_up, has_stop};
 ghost use Rattle.nd_failure.specs.Statuses.{total_of};
 ghost use Rattle.nd_history.specs.Choices.{machines_in, HasReply};
-ghost use Rattle.nd_history.specs.Legal.{IsLegal};
+ghost use Rattle.nd_history.specs.Legal.{IsInRange, IsAllowed, IsLegal};
+ghost use Rattle.nd_ledger.specs.Admitting.{IsAdmitRefused};
 ghost use Rattle.nd_history.specs.Closing.{StartsAreProvisioned};
 ghost use Rattle.nd_history.specs.Headline.{SlotsAreLeases, LeasesAreInOrder, StartsAreOnce, StartsAreEligible, CountsSum, ChoicesAreBest};
 ghost use Rattle.nd_history.specs.Resting.{WaitsForLeases};
@@ -20,16 +21,18 @@ ghost use Rattle.nd_ledger.specs.Refusals.{IsLive, IsFailRefused, IsDownRefused,
 use crate::following::{enter, record_step};
 use crate::job::Job;
 use crate::moving::{is_live, prepare_end, prepare_start};
-use crate::refusal::{Refusal, Refused};
+use crate::refusal::{AdmitError, Refusal, Refused, admit_error};
 use nd_bytes::Items;
 use nd_closure::{RefTable, Refs};
 use nd_eligible::Local;
 use nd_failure::{Board, Counts, Status};
 use nd_graph::Graph;
+use nd_history::auditing::{check_choice, check_no_builder, is_in_range};
 use nd_history::book::Book;
 use nd_history::deciding::reply_now;
 use nd_history::entry::{Entry, Ticket, Why};
 use nd_history::inputs::{Inputs, Parts};
+use nd_history::rule::Rule;
 use nd_history::stepping::next_step;
 use nd_hook::Reply;
 use nd_machines::Machine;
@@ -289,6 +292,169 @@ impl Dispatch {
         self.book.make_room(room)?;
         enter(&mut self.book, &mut self.board, Entry::Enable { machine });
         Ok(())
+    }
+
+    /// Appends an entry if it is legal there.
+    ///
+    /// Refuses with `Illegal` (1) where it isn't, naming the first rule that refuses it, and with
+    /// `Memory` (2) where an allocation is refused.
+    pub fn admit(&mut self, alloc: Global, entry: &Entry) -> Result<(), AdmitError>
+        ensures ok { OnOk result (self.new ≡ record self.old { history = self.old.history ++ entry.now ∷ [] }) }
+        ensures allowed { OnOk result (IsAllowed self.old.inputs entry.now (reverse self.old.history)) }
+        ensures refused { IfErr result (IsAdmitRefused self.old.inputs (reverse self.old.history) entry.now) }
+        ensures err { OnErr result (self.new ≡ self.old) }
+        ensures legal { IsAllowed self.old.inputs entry.now (reverse self.old.history) → IsOkUnless result AdmitError.Memory }
+    {
+        if !is_in_range(&self.inputs, entry) {
+            return Err(AdmitError::Illegal(Rule::Range));
+        }
+        match self.admit_in_range(alloc, entry) {
+            Ok(()) => {
+                self.learn_legal();
+                Ok(())
+            }
+            Err(error) => Err(error),
+        }
+    }
+
+    /// Appends an entry if it is legal there, all that it names being there.
+    fn admit_in_range(&mut self, alloc: Global, entry: &Entry) -> Result<(), AdmitError>
+        requires { IsInRange self.old.inputs entry.now }
+        ensures ok { OnOk result (self.new ≡ record self.old { history = self.old.history ++ entry.now ∷ [] }) }
+        ensures refused { IfErr result (IsAdmitRefused self.old.inputs (reverse self.old.history) entry.now) }
+        ensures err { OnErr result (self.new ≡ self.old) }
+    {
+        match entry {
+            Entry::Chosen { drv, machine, slot } => self.admit_choice(*drv, *machine, *slot),
+            Entry::NoBuilder { drv } => self.admit_no_builder(*drv),
+            Entry::Started { drv, paths } => self.admit_start(alloc, *drv, paths),
+            Entry::Down { drv } => self.admit_down(*drv),
+            Entry::Built { drv, refs } => self.admit_end(alloc, *drv, refs),
+            Entry::Failed { drv, why } => self.admit_failure(*drv, *why),
+            Entry::Stop => self.admit_stop(),
+            Entry::Drain { machine } => Ok(self.drain(*machine)?),
+            Entry::Enable { machine } => Ok(self.enable(*machine)?),
+        }
+    }
+
+    /// Records the choice of a slot if it is legal.
+    fn admit_choice(&mut self, drv: u32, machine: u32, slot: u32) -> Result<(), AdmitError>
+        requires { IsInRange self.old.inputs (Entry.Chosen drv machine slot) }
+        ensures ok { OnOk result (self.new ≡ record self.old { history = self.old.history ++ Entry.Chosen drv machine slot ∷ [] }) }
+        ensures refused { IfErr result (IsAdmitRefused self.old.inputs (reverse self.old.history) (Entry.Chosen drv machine slot)) }
+        ensures err { OnErr result (self.new ≡ self.old) }
+    {
+        if let Err(rule) = check_choice(&self.inputs, &self.book, drv, machine, slot) {
+            return Err(AdmitError::Illegal(rule));
+        }
+        record_step(&mut self.book, &mut self.board, Entry::Chosen { drv, machine, slot })?;
+        Ok(())
+    }
+
+    /// Records the word that nothing can build a derivation if it is legal.
+    fn admit_no_builder(&mut self, drv: u32) -> Result<(), AdmitError>
+        requires { drv < drvs_in self.old.inputs }
+        ensures ok { OnOk result (self.new ≡ record self.old { history = self.old.history ++ Entry.NoBuilder drv ∷ [] }) }
+        ensures refused { IfErr result (IsAdmitRefused self.old.inputs (reverse self.old.history) (Entry.NoBuilder drv)) }
+        ensures err { OnErr result (self.new ≡ self.old) }
+    {
+        if let Err(rule) = check_no_builder(&self.inputs, &self.book, drv) {
+            return Err(AdmitError::Illegal(rule));
+        }
+        record_step(&mut self.book, &mut self.board, Entry::NoBuilder { drv })?;
+        Ok(())
+    }
+
+    /// The ticket of a live lease of derivation `drv`.
+    fn live_ticket(&self, drv: u32) -> Option<Ticket>
+        ensures { MatchOption result (is_leased drv (reverse self.now.history) ≡ true → ⊥) (λ ticket. (ticket.drv ≡ drv) × IsLive (reverse self.now.history) ticket) }
+    {
+        self.lease(drv)
+    }
+
+    /// Records a start if it is legal.
+    fn admit_start(&mut self, alloc: Global, drv: u32, paths: &PathSet) -> Result<(), AdmitError>
+        requires { drv < drvs_in self.old.inputs }
+        ensures ok { OnOk result (self.new ≡ record self.old { history = self.old.history ++ Entry.Started drv paths.now ∷ [] }) }
+        ensures refused { IfErr result (IsAdmitRefused self.old.inputs (reverse self.old.history) (Entry.Started drv paths.now)) }
+        ensures err { OnErr result (self.new ≡ self.old) }
+    {
+        let Some(ticket) = self.live_ticket(drv) else {
+            return Err(AdmitError::Illegal(Rule::Live));
+        };
+        let copied = paths.try_clone()?;
+        match self.started(alloc, ticket, copied) {
+            Ok(()) => Ok(()),
+            Err(refused) => Err(admit_error(refused.why)),
+        }
+    }
+
+    /// Records that a lease is given back if it is legal.
+    fn admit_down(&mut self, drv: u32) -> Result<(), AdmitError>
+        requires { drv < drvs_in self.old.inputs }
+        ensures ok { OnOk result (self.new ≡ record self.old { history = self.old.history ++ Entry.Down drv ∷ [] }) }
+        ensures refused { IfErr result (IsAdmitRefused self.old.inputs (reverse self.old.history) (Entry.Down drv)) }
+        ensures err { OnErr result (self.new ≡ self.old) }
+    {
+        let Some(ticket) = self.live_ticket(drv) else {
+            return Err(AdmitError::Illegal(Rule::Live));
+        };
+        match self.down(ticket) {
+            Ok(()) => Ok(()),
+            Err(why) => Err(admit_error(why)),
+        }
+    }
+
+    /// Records the end of a build if it is legal.
+    fn admit_end(&mut self, alloc: Global, drv: u32, refs: &Refs) -> Result<(), AdmitError>
+        requires { drv < drvs_in self.old.inputs }
+        ensures ok { OnOk result (self.new ≡ record self.old { history = self.old.history ++ Entry.Built drv refs.now ∷ [] }) }
+        ensures refused { IfErr result (IsAdmitRefused self.old.inputs (reverse self.old.history) (Entry.Built drv refs.now)) }
+        ensures err { OnErr result (self.new ≡ self.old) }
+    {
+        let Some(ticket) = self.live_ticket(drv) else {
+            return Err(AdmitError::Illegal(Rule::Live));
+        };
+        let reported = refs.try_clone()?;
+        match self.built(alloc, ticket, reported) {
+            Ok(()) => Ok(()),
+            Err(refused) => Err(admit_error(refused.why)),
+        }
+    }
+
+    /// Records a failure if it is legal.
+    fn admit_failure(&mut self, drv: u32, why: Why) -> Result<(), AdmitError>
+        requires { drv < drvs_in self.old.inputs }
+        ensures ok { OnOk result (self.new ≡ record self.old { history = self.old.history ++ Entry.Failed drv why ∷ [] }) }
+        ensures refused { IfErr result (IsAdmitRefused self.old.inputs (reverse self.old.history) (Entry.Failed drv why)) }
+        ensures err { OnErr result (self.new ≡ self.old) }
+    {
+        let Some(ticket) = self.live_ticket(drv) else {
+            return Err(AdmitError::Illegal(Rule::Live));
+        };
+        let Ok(()) = self.failed(ticket, why) else {
+            unreachable!()
+        };
+        Ok(())
+    }
+
+    /// Records a stop if it is legal.
+    fn admit_stop(&mut self) -> Result<(), AdmitError>
+        ensures ok { OnOk result (self.new ≡ record self.old { history = self.old.history ++ Entry.Stop ∷ [] }) }
+        ensures refused { IfErr result (IsAdmitRefused self.old.inputs (reverse self.old.history) Entry.Stop) }
+        ensures err { OnErr result (self.new ≡ self.old) }
+    {
+        match self.stop() {
+            Ok(()) => Ok(()),
+            Err(why) => Err(admit_error(why)),
+        }
+    }
+
+    /// The entries are a legal history.
+    fn learn_legal(&self)
+        ensures { IsLegal self.now.inputs (reverse self.now.history) }
+    {
+        let _entries = self.book.entries();
     }
 
     /// A dispatch over these inputs, with the empty history. There are at most 1,024 builders.

@@ -2,7 +2,10 @@
 
 ghost use Rattle.std.specs.Prelude.{◌≡◌};
 ghost use Rattle.nd_ledger.specs.declared.refusal.Refusal.TheVariants.{Memory};
+ghost use Rattle.nd_ledger.specs.declared.refusal.AdmitError.TheVariants.{Memory as NoMemory};
+ghost use Rattle.nd_ledger.specs.Admitting.{admit_error_for};
 
+use nd_history::rule::Rule;
 use std::alloc::AllocError;
 use std::error::Error;
 use std::fmt;
@@ -61,4 +64,48 @@ pub struct Refused<T> {
     pub why: Refusal,
     /// What was handed in.
     pub value: T,
+}
+
+/// Why an entry was not admitted.
+#[derive(Clone, Copy, Debug, PartialEq, Eq)]
+pub enum AdmitError {
+    /// 1: the entry is not legal there, and this is the first rule that refuses it.
+    Illegal(Rule),
+    /// 2: an allocation was refused.
+    Memory,
+}
+
+impl fmt::Display for AdmitError {
+    fn fmt<W: fmt::Write>(&self, f: &mut fmt::Formatter<W>) -> fmt::Result {
+        match self {
+            AdmitError::Illegal(rule) => write!(f, "Illegal {rule}"),
+            AdmitError::Memory => f.write_str("Memory"),
+        }
+    }
+}
+
+impl Error for AdmitError {}
+
+impl From<AllocError> for AdmitError {
+    ghost from_gives = { λ _ e. e ≡ NoMemory };
+
+    fn from(_error: AllocError) -> AdmitError {
+        AdmitError::Memory
+    }
+}
+
+/// The answer to an entry that is legal but for a call's refusal.
+pub(crate) fn admit_error(refusal: Refusal) -> AdmitError
+    ensures { result ≡ admit_error_for refusal }
+{
+    match refusal {
+        Refusal::NotLive => AdmitError::Illegal(Rule::Live),
+        Refusal::AlreadyStarted => AdmitError::Illegal(Rule::Started),
+        Refusal::NotStarted => AdmitError::Illegal(Rule::Started),
+        Refusal::Uncovered => AdmitError::Illegal(Rule::Paths),
+        Refusal::Extra => AdmitError::Illegal(Rule::Paths),
+        Refusal::BadReferences => AdmitError::Illegal(Rule::References),
+        Refusal::AlreadyStopped => AdmitError::Illegal(Rule::Stopped),
+        Refusal::Memory => AdmitError::Memory,
+    }
 }

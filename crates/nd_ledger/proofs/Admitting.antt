@@ -1,0 +1,136 @@
+-- What the refusals of calls say of the rules by which entries are audited.
+use Rattle.std.proofs.Common.{◌≡◌, ◌==◌, ℕ, ◌<◌, Bool, true, false, ◌||◌, cond, List, [], ◌∷◌, ◌++◌, reverse, refl, sym, subst, ap, ◌∙◌, inl, inr, Option, Some, None, MatchOption}
+use Rattle.std.specs.List.{find}
+use Rattle.nd_history.specs.declared.entry.Entry.{Entry}
+use Rattle.nd_history.specs.declared.entry.Entry.TheVariants.{Started as Starting, Down, Built, Failed, Stop}
+use Rattle.nd_history.specs.declared.entry.Ticket.{Ticket}
+use Rattle.nd_history.specs.declared.entry.Why.{Why}
+use Rattle.nd_history.specs.Premises.{Premises}
+use Rattle.nd_history.specs.History.{live, is_leased, lease_of, has_stop}
+use Rattle.nd_history.specs.Standing.{drvs_in}
+use Rattle.nd_history.specs.References.{ArePathsRight}
+use Rattle.nd_history.specs.Legal.{IsAllowed, IsLegal}
+use Rattle.nd_history.specs.Audit.{IsSupplied}
+use Rattle.nd_history.proofs.Following.{newest_first}
+use Rattle.nd_history.proofs.Provisions.{leased_by}
+use Rattle.nd_history.proofs.Rules.{rules_decide, found_lease, started_unleased, started_twice, started_wrongly, down_unleased, down_late, built_unleased, built_early, built_wrongly, failed_unleased, stopped_twice}
+use Rattle.nd_history.proofs.Slots.{same_of}
+use Rattle.nd_stores.specs.Stored.{IsUncovered, IsExtra}
+use Rattle.nd_ledger.specs.declared.refusal.AdmitError.{AdmitError}
+use Rattle.nd_ledger.specs.declared.refusal.AdmitError.TheVariants.{Illegal, Memory}
+use Rattle.nd_ledger.specs.declared.refusal.Refusal.{Refusal}
+use Rattle.nd_ledger.specs.declared.refusal.Refusal.TheVariants.{NotLive, AlreadyStarted, NotStarted, Uncovered, Extra, BadReferences, AlreadyStopped, Memory as NoMemory}
+use Rattle.nd_ledger.specs.Refusals.{IsLive, IsFailRefused, IsDownRefused, IsStopRefused}
+use Rattle.nd_ledger.specs.Moves.{IsStartRefused, IsEndRefused}
+use Rattle.nd_ledger.specs.Worlds.{World}
+use Rattle.nd_ledger.specs.Admitting.{IsAdmitRefused, admit_error_for}
+
+-- ---- the lease of a derivation
+
+own_step : (d : ℕ) (x t : Ticket) (leases : List Ticket) (b : Bool) → d == x.drv ≡ b → cond b (Some x) (find (λ t. d == t.drv) leases) ≡ Some t → (find (λ t. d == t.drv) leases ≡ Some t → t.drv ≡ d) → t.drv ≡ d
+own_step d x t leases true is h rest = let same : x ≡ t = cc in sym (same_of d t.drv (ap (λ (u : Ticket). d == u.drv) (sym same) ∙ is))
+own_step d x t leases false is h rest = rest h
+
+own_in : (d : ℕ) (leases : List Ticket) (t : Ticket) → find (λ t. d == t.drv) leases ≡ Some t → t.drv ≡ d
+own_in d [] t h = cc
+own_in d (x ∷ leases) t h = own_step d x t leases (d == x.drv) refl h (own_in d leases t)
+
+-- the lease that is found for a derivation is its own
+pub own_lease : (d : ℕ) (past : List Entry) (t : Ticket) → lease_of d past ≡ Some t → t.drv ≡ d
+own_lease d past t found = own_in d (live past) t found
+
+pub own_live : (d : ℕ) (past : List Entry) (t : Ticket) → lease_of d past ≡ Some t → IsLive past t
+own_live d past t found = let P : ℕ → Type 0 = λ x. lease_of x past ≡ Some t in subst P (sym (own_lease d past t found)) found
+
+-- what has no lease that is found isn't leased
+pub unleased : (d : ℕ) (past : List Entry) → lease_of d past ≡ None → is_leased d past ≡ true → ⊥
+unleased d past none leased = let found = found_lease d past leased in let is = found.1 in cc
+
+-- what a look-up of a lease says
+pub ticket_of : (d : ℕ) (past : List Entry) (found : Option Ticket) → found ≡ lease_of d past → MatchOption found (is_leased d past ≡ true → ⊥) (λ t. (t.drv ≡ d) × IsLive past t)
+ticket_of d past None is = unleased d past (sym is)
+ticket_of d past (Some t) is = (own_lease d past t (sym is), own_live d past t (sym is))
+
+-- ---- refusals of calls with a live ticket
+
+uncovered : (i : Premises) (past : List Entry) (t : Ticket) (paths : List (List ℕ)) → IsLive past t → IsUncovered i past t.drv t.machine paths → IsSupplied i past t.drv paths → ⊥
+uncovered i past t paths is bare supplied =
+    let found = supplied.live in
+    let same : supplied.ticket ≡ t = cc in
+    let P : Ticket → Type 0 = λ u. ArePathsRight i past t.drv u.machine paths in
+    let right = subst P same supplied.right in
+    elim (right.covered bare.path bare.needed) [ inl copied ↦ bare.uncopied copied | inr held ↦ bare.lacked held ]
+
+beside : (i : Premises) (past : List Entry) (t : Ticket) (paths : List (List ℕ)) → IsExtra i past t.drv t.machine paths → IsSupplied i past t.drv paths → ⊥
+beside i past t paths extra supplied = extra.unneeded (supplied.right.needed extra.path extra.copied)
+
+start_at : (i : Premises) (past : List Entry) (t : Ticket) (paths : List (List ℕ)) (why : Refusal) → t.drv < drvs_in i → IsLive past t → IsStartRefused i past t paths why → IsAdmitRefused i past (Starting t.drv paths) (admit_error_for why)
+start_at i past t paths NotLive ranged is h = absurd (h is)
+start_at i past t paths AlreadyStarted ranged is h = started_twice i past t.drv paths ranged (leased_by t.drv past t is) (λ fresh. let was = h.1 in cc)
+start_at i past t paths Uncovered ranged is h = started_wrongly i past t.drv paths ranged (leased_by t.drv past t is) h.1 (uncovered i past t paths is h.2)
+start_at i past t paths Extra ranged is h = started_wrongly i past t.drv paths ranged (leased_by t.drv past t is) h.1 (beside i past t paths h.2)
+start_at i past t paths NoMemory ranged is h = tt
+start_at i past t paths NotStarted ranged is h = absurd h
+start_at i past t paths BadReferences ranged is h = absurd h
+start_at i past t paths AlreadyStopped ranged is h = absurd h
+
+pub start_illegal : (i : Premises) (past : List Entry) (d : ℕ) (t : Ticket) (paths : List (List ℕ)) (why : Refusal) → d < drvs_in i → t.drv ≡ d → IsLive past t → IsStartRefused i past t paths why → IsAdmitRefused i past (Starting d paths) (admit_error_for why)
+start_illegal i past d t paths why ranged own is h =
+    let P : ℕ → Type 0 = λ x. IsAdmitRefused i past (Starting x paths) (admit_error_for why) in
+    let Q : ℕ → Type 0 = λ x. x < drvs_in i in
+    subst P own (start_at i past t paths why (subst Q (sym own) ranged) is h)
+
+end_at : (i : Premises) (past : List Entry) (t : Ticket) (refs : List (List (List ℕ))) (why : Refusal) → t.drv < drvs_in i → IsLive past t → IsEndRefused i past t refs why → IsAdmitRefused i past (Built t.drv refs) (admit_error_for why)
+end_at i past t refs NotLive ranged is h = absurd (h is)
+end_at i past t refs NotStarted ranged is h = built_early i past t.drv refs ranged (leased_by t.drv past t is) (λ started. let was = h.1 in cc)
+end_at i past t refs BadReferences ranged is h = built_wrongly i past t.drv refs ranged (leased_by t.drv past t is) h.1 h.2
+end_at i past t refs NoMemory ranged is h = tt
+end_at i past t refs AlreadyStarted ranged is h = absurd h
+end_at i past t refs Uncovered ranged is h = absurd h
+end_at i past t refs Extra ranged is h = absurd h
+end_at i past t refs AlreadyStopped ranged is h = absurd h
+
+pub end_illegal : (i : Premises) (past : List Entry) (d : ℕ) (t : Ticket) (refs : List (List (List ℕ))) (why : Refusal) → d < drvs_in i → t.drv ≡ d → IsLive past t → IsEndRefused i past t refs why → IsAdmitRefused i past (Built d refs) (admit_error_for why)
+end_illegal i past d t refs why ranged own is h =
+    let P : ℕ → Type 0 = λ x. IsAdmitRefused i past (Built x refs) (admit_error_for why) in
+    let Q : ℕ → Type 0 = λ x. x < drvs_in i in
+    subst P own (end_at i past t refs why (subst Q (sym own) ranged) is h)
+
+down_at : (i : Premises) (past : List Entry) (t : Ticket) (why : Refusal) → t.drv < drvs_in i → IsLive past t → IsDownRefused past t why → IsAdmitRefused i past (Down t.drv) (admit_error_for why)
+down_at i past t NotLive ranged is h = absurd (h is)
+down_at i past t AlreadyStarted ranged is h = down_late i past t.drv ranged (leased_by t.drv past t is) (λ fresh. let was = h.1 in cc)
+down_at i past t NotStarted ranged is h = absurd h
+down_at i past t Uncovered ranged is h = absurd h
+down_at i past t Extra ranged is h = absurd h
+down_at i past t BadReferences ranged is h = absurd h
+down_at i past t AlreadyStopped ranged is h = absurd h
+down_at i past t NoMemory ranged is h = absurd h
+
+pub down_illegal : (i : Premises) (past : List Entry) (d : ℕ) (t : Ticket) (why : Refusal) → d < drvs_in i → t.drv ≡ d → IsLive past t → IsDownRefused past t why → IsAdmitRefused i past (Down d) (admit_error_for why)
+down_illegal i past d t why ranged own is h =
+    let P : ℕ → Type 0 = λ x. IsAdmitRefused i past (Down x) (admit_error_for why) in
+    let Q : ℕ → Type 0 = λ x. x < drvs_in i in
+    subst P own (down_at i past t why (subst Q (sym own) ranged) is h)
+
+pub stop_illegal : (i : Premises) (past : List Entry) (why : Refusal) → IsStopRefused past why → IsAdmitRefused i past Stop (admit_error_for why)
+stop_illegal i past AlreadyStopped h = stopped_twice i past (λ none. let was : has_stop past ≡ true = h in cc)
+stop_illegal i past NotLive h = absurd h
+stop_illegal i past AlreadyStarted h = absurd h
+stop_illegal i past NotStarted h = absurd h
+stop_illegal i past Uncovered h = absurd h
+stop_illegal i past Extra h = absurd h
+stop_illegal i past BadReferences h = absurd h
+stop_illegal i past NoMemory h = absurd h
+
+-- ---- what an answer says
+
+-- an entry that was appended to a legal history that is legal was allowed
+pub appended_allowed : (i : Premises) (old new : List Entry) (e : Entry) → new ≡ old ++ e ∷ [] → IsLegal i (reverse new) → IsAllowed i e (reverse old)
+appended_allowed i old new e is legal =
+    let P : List Entry → Type 0 = λ es. IsLegal i es in
+    (subst P (newest_first old new e is) legal).0
+
+-- an entry that is allowed is refused for want of memory alone
+pub memory_alone : (i : Premises) (past : List Entry) (e : Entry) (error : AdmitError) → IsAdmitRefused i past e error → IsAllowed i e past → error ≡ Memory
+memory_alone i past e (Illegal rule) h allowed = absurd (rules_decide.refused i past e rule h allowed)
+memory_alone i past e Memory h allowed = refl

@@ -1,0 +1,15 @@
+use Rattle.std.proofs.Common.{reverse, refl}
+use Rattle.nd_history.specs.declared.entry.Entry.TheVariants.{NoBuilder}
+use Rattle.nd_history.specs.Premises.{premises_of}
+use Rattle.nd_ledger.proofs.Boards.{can_follow}
+use Rattle.nd_ledger.proofs.Keeping.{kept_step}
+use Rattle.nd_ledger.proofs.dispatch.Dispatch.admit_no_builder.Goals as goal
+
+pub record_step-requires : goal.record_step-requires
+record_step-requires c =
+    let d = c.self.inside in
+    can_follow (premises_of d.inputs) (reverse d.book.entries) d.board (NoBuilder c.args.drv) c.self.invariant.legal c.self.invariant.marked c.in_default.ensures
+
+pub invariant_of-self-2 : goal.invariant_of-self-2
+invariant_of-self-2 c =
+    kept_step c.self.inside c.record_step.new.book c.record_step.new.board (NoBuilder c.args.drv) c.in_ok-record_step.ensures.ok c.self.invariant c.in_default.ensures refl
