@@ -6,3 +6,4 @@ pub mod Stocks
 pub mod Words
 pub mod Texts
 pub mod Once
+pub mod SameLines

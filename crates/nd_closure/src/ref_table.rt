@@ -1,6 +1,6 @@
 //! A table of references.
 
-ghost use Rattle.std.specs.Prelude.{◌≡◌, ◌+◌, ◌<◌, ◌≤◌, ◌∷◌, ◌++◌, [], not, if◌then◌else◌, IfOk, OnOk, OnErr, IsOk};
+ghost use Rattle.std.specs.Prelude.{◌≡◌, ◌+◌, ◌<◌, ◌≤◌, ◌∷◌, ◌++◌, [], not, if◌then◌else◌, ◌↔◌, IsTrue, IfOk, OnOk, OnErr, IsOk};
 ghost use Rattle.nd_path.specs.PathSets.{IsRising};
 ghost use Rattle.nd_closure.specs.Tables.{is_listed, refs_of};
 
@@ -68,6 +68,13 @@ impl RefTable {
             Some(refs) => refs.as_slice(),
             None => &[],
         }
+    }
+
+    /// Whether both tables have the same entries in the same order. It takes no memory.
+    pub fn is_same(&self, other: &RefTable) -> bool
+        ensures { IsTrue result ↔ (self.now.entries ≡ other.now.entries) }
+    {
+        self.lines.as_slice() == other.lines.as_slice()
     }
 
     /// A copy with the same entries.

@@ -1,14 +1,14 @@
 -- Where no step is left and no lease is live, nothing waits: with all slots free, what is ready can be begun or given up, and what
 -- waits without being ready has an input that waits.
-use Rattle.std.proofs.Common.{◌≡◌, ◌⊎◌, ℕ, zero, suc, ◌+◌, ◌<◌, ◌≤◌, ◌↔◌, Bool, true, false, ◌==◌, ◌&&◌, if◌then◌else◌, List, [], length, Contains, count_by, refl, sym, ap, ◌∙◌, subst, arith, inl, inr, Option, Some, slice_get}
-use Rattle.std.specs.Bool.{MatchBool, IsTrue}
+use Rattle.std.proofs.Common.{◌≡◌, ◌⊎◌, ℕ, zero, suc, ◌+◌, ◌<◌, ◌≤◌, Bool, true, false, ◌==◌, ◌&&◌, if◌then◌else◌, List, [], length, Contains, count_by, refl, sym, ◌∙◌, subst, arith, inl, inr, Option}
+use Rattle.std.specs.Bool.{MatchBool}
 use Rattle.std.specs.Option.{IsSomeAnd, option_map_or}
 use Rattle.std.specs.List.{list_any}
 use Rattle.std.proofs.lemmas.Option.{slice_get_cases}
 use Rattle.nd_machines.specs.Builders.{Builder}
 use Rattle.nd_eligible.specs.declared.need.Need.{Need}
 use Rattle.nd_eligible.specs.Eligibility.{Eligible, IsEligibleAt}
-use Rattle.nd_choose.specs.Best.{jobs_at, load_at, is_up_at, IsCandidate}
+use Rattle.nd_choose.specs.Best.{jobs_at, is_up_at, IsCandidate}
 use Rattle.nd_graph.specs.Graphs.{rows_of}
 use Rattle.nd_graph.specs.Walks.{AreInRange, PlacesFall, place_of}
 use Rattle.nd_graph.proofs.Walked.{input_below, below_input}
@@ -16,13 +16,12 @@ use Rattle.nd_hook.specs.Replies.{IsReply}
 use Rattle.nd_hook.specs.Decisions.{decision_after, decision_at_home}
 use Rattle.nd_hook.specs.declared.kinds.Reply.{Reply}
 use Rattle.nd_hook.specs.declared.kinds.Reply.TheVariants.{Accept, Postpone, Decline, DeclinePermanently}
-use Rattle.nd_hook.specs.declared.kinds.Decision.{Decision}
-use Rattle.nd_hook.specs.declared.kinds.Decision.TheVariants.{Local, Remote, Wait}
+use Rattle.nd_hook.specs.declared.kinds.Decision.TheVariants.{Local, Wait}
 use Rattle.nd_history.specs.declared.entry.Entry.{Entry}
 use Rattle.nd_history.specs.declared.entry.Ticket.{Ticket}
 use Rattle.nd_history.specs.Premises.{Premises}
 use Rattle.nd_history.specs.History.{live, load, is_leased, is_built, is_failed}
-use Rattle.nd_history.specs.Standing.{drvs_in, needed_by, IsDoomed, IsWaiting, AreInputsBuilt, HasFailedBelow}
+use Rattle.nd_history.specs.Standing.{drvs_in, needed_by, IsWaiting}
 use Rattle.nd_history.specs.Choices.{loads_of, ups_of, HasDecision, IsLocal, IsLocalFree}
 use Rattle.nd_history.specs.Pumping.{AreAtRest}
 use Rattle.nd_history.specs.Resting.{WaitsForLeases}

@@ -12,5 +12,6 @@ pub mod Premises
 pub mod Pumping
 pub mod References
 pub mod Resting
+pub mod Sameness
 pub mod Standing
 pub mod Statuses

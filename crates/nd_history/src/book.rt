@@ -1,11 +1,13 @@
 //! The entries so far, and what follows from them for leases and machines.
 
-ghost use Rattle.std.specs.Prelude.{◌≡◌, ◌+◌, ◌<◌, ◌≤◌, ◌^◌, ◌++◌, [], ◌∷◌, length, reverse, vec_capacity, IfOk, OnOk};
+ghost use Rattle.std.specs.Prelude.{◌≡◌, ◌+◌, ◌<◌, ◌≤◌, ◌^◌, ◌++◌, [], ◌∷◌, length, reverse, vec_capacity, ◌↔◌, IsTrue, IfOk, OnOk};
 ghost use Rattle.nd_history.specs.History.{live, lease_of, current_of, load, is_taken, is_started, is_up, has_stop, is_leased, is_built, is_failed, is_failure};
+ghost use Rattle.nd_history.specs.Sameness.{BeginsWith};
 ghost use Rattle.std.specs.List.{list_any};
 
 use crate::entry::{Entry, Ticket};
 use crate::finding::{count_on, is_any_of, is_any_on, newest_of, newest_on};
+use crate::sameness::begins_with;
 use crate::tables::{
     follow_built, follow_failed, follow_failure, follow_leases, follow_started, follow_stop,
     follow_ups,
@@ -101,6 +103,13 @@ impl Book {
             failure: self.failure,
             stop: self.stop,
         })
+    }
+
+    /// Whether the entries begin with those of the other book. It takes no memory.
+    pub fn extends(&self, other: &Book) -> bool
+        ensures { IsTrue result ↔ BeginsWith self.now.entries other.now.entries }
+    {
+        begins_with(self.entries.as_slice(), other.entries.as_slice())
     }
 
     /// Makes room for `more` entries.

@@ -1,8 +1,9 @@
 //! What a dispatch is made of: the five inputs, which never change.
 
-ghost use Rattle.std.specs.Prelude.{◌≡◌, IfOk};
+ghost use Rattle.std.specs.Prelude.{◌≡◌, ◌↔◌, IsTrue, IfOk};
 ghost use Rattle.nd_history.specs.Premises.{premises_of};
 
+use crate::sameness::{Same, are_same, is_same_graph};
 use nd_bytes::Items;
 use nd_closure::RefTable;
 use nd_eligible::Local;
@@ -52,6 +53,25 @@ impl Inputs {
             info: self.info.try_clone()?,
             keep_going: self.keep_going,
         })
+    }
+
+    /// Whether these are the same inputs. It takes no memory.
+    pub fn is_same(&self, other: &Inputs) -> bool
+        ensures { IsTrue result ↔ (premises_of self.now ≡ premises_of other.now) }
+    {
+        if self.keep_going != other.keep_going {
+            return false;
+        }
+        if !self.local.is_same(&other.local) {
+            return false;
+        }
+        if !are_same(self.machines.as_slice(), other.machines.as_slice()) {
+            return false;
+        }
+        if !self.info.is_same(&other.info) {
+            return false;
+        }
+        is_same_graph(&self.graph, &other.graph)
     }
 }
 

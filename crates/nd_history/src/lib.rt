@@ -9,6 +9,7 @@ mod finding;
 pub mod inputs;
 pub mod laws;
 pub mod rule;
+mod sameness;
 mod standing;
 pub mod stepping;
 mod tables;
