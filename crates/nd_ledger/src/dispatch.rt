@@ -16,6 +16,7 @@ ghost use Rattle.nd_choose.specs.Best.{jobs_at};
 ghost use Rattle.nd_ledger.specs.Moves.{IsStartRefused, IsEndRefused, IsJobRefused};
 ghost use Rattle.nd_history.specs.References.{outputs_of};
 ghost use Rattle.nd_stores.specs.Stored.{IsMissing};
+ghost use Rattle.nd_ledger.specs.Worlds.{GoesOnFrom};
 ghost use Rattle.nd_ledger.specs.Refusals.{IsLive, IsFailRefused, IsDownRefused, IsStopRefused};
 
 use crate::following::{enter, record_step};
@@ -347,7 +348,11 @@ impl Dispatch {
         if let Err(rule) = check_choice(&self.inputs, &self.book, drv, machine, slot) {
             return Err(AdmitError::Illegal(rule));
         }
-        record_step(&mut self.book, &mut self.board, Entry::Chosen { drv, machine, slot })?;
+        record_step(
+            &mut self.book,
+            &mut self.board,
+            Entry::Chosen { drv, machine, slot },
+        )?;
         Ok(())
     }
 
@@ -516,6 +521,17 @@ impl Dispatch {
             stores: self.stores.try_clone()?,
             board: self.board.try_clone(alloc)?,
         })
+    }
+
+    /// Whether this dispatch goes on from the other one: it has the same five inputs, and its history
+    /// begins with the other's. It takes no memory.
+    pub fn extends(&self, other: &Dispatch) -> bool
+        ensures { IsTrue result ↔ GoesOnFrom self.now other.now }
+    {
+        if !self.inputs.is_same(&other.inputs) {
+            return false;
+        }
+        self.book.extends(&other.book)
     }
 
     /// The hook's reply about derivation `i`, as the machines are now. It doesn't ask how `i` stands,
