@@ -311,7 +311,8 @@ impl Dispatch {
         }
         match self.admit_in_range(alloc, entry) {
             Ok(()) => {
-                self.learn_legal();
+                // What was appended is legal, since all of the history is.
+                let _entries = self.history();
                 Ok(())
             }
             Err(error) => Err(error),
@@ -453,13 +454,6 @@ impl Dispatch {
             Ok(()) => Ok(()),
             Err(why) => Err(admit_error(why)),
         }
-    }
-
-    /// The entries are a legal history.
-    fn learn_legal(&self)
-        ensures { IsLegal self.now.inputs (reverse self.now.history) }
-    {
-        let _entries = self.book.entries();
     }
 
     /// A dispatch over these inputs, with the empty history. There are at most 1,024 builders.
