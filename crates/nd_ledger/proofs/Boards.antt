@@ -3,7 +3,6 @@ use Rattle.std.proofs.Common.{◌≡◌, ◌⊎◌, ℕ, ◌<◌, ◌≤◌, Boo
 use Rattle.std.proofs.lemmas.Bool.{cases_lt, cases_eq, ne_eqb, false_from_ne_true}
 use Rattle.std.proofs.lemmas.List.{get_or_past}
 use Rattle.std.specs.List.{list_any}
-use Rattle.nd_graph.specs.Graphs.{rows_of}
 use Rattle.nd_graph.specs.Walks.{inputs_of, IsBelow}
 use Rattle.nd_failure.specs.declared.status.Counts.{Counts}
 use Rattle.nd_failure.specs.declared.status.Mark.{Mark}
@@ -11,13 +10,13 @@ use Rattle.nd_failure.specs.declared.status.Mark.TheVariants as mark
 use Rattle.nd_failure.specs.declared.status.Status.{Status}
 use Rattle.nd_failure.specs.declared.status.Status.TheVariants as status
 use Rattle.nd_failure.specs.Progress as board
-use Rattle.nd_failure.specs.Progress.{Progress, mark_of, HasInputsBuilt, HasFailure, IsStopped, IsFree, IsLeased}
+use Rattle.nd_failure.specs.Progress.{Progress, mark_of, IsStopped, IsFree, IsLeased}
 use Rattle.nd_failure.specs.Statuses.{HasStatus, AreCounts}
 use Rattle.nd_history.specs.declared.entry.Entry.{Entry}
 use Rattle.nd_history.specs.declared.entry.Entry.TheVariants.{Chosen, NoBuilder, Started, Down, Built, Failed, Stop, Drain, Enable}
 use Rattle.nd_history.specs.Premises.{Premises}
 use Rattle.nd_history.specs.History.{is_built, is_failed, is_leased, is_stopped, has_stop, fails, is_failure}
-use Rattle.nd_history.specs.Standing.{drvs_in, AreInputsBuilt, HasFailedBelow, IsOpen, IsDoomed, IsReady}
+use Rattle.nd_history.specs.Standing.{drvs_in, HasFailedBelow, IsOpen, IsReady}
 use Rattle.nd_history.specs.Statuses.{HasStatusIn, AreCountsIn}
 use Rattle.nd_history.specs.Legal.{IsLegal, IsAllowed}
 use Rattle.nd_history.proofs.Legality.{leased_fresh, leased_ranged, built_settled}

@@ -551,7 +551,9 @@ impl Dispatch {
         self.book.lease(i)
     }
 
-    /// The status of derivation `i`.
+    /// The status of derivation `i`: built, failed or leased as its entries say; else cancelled where
+    /// nothing more is begun or a derivation that it depends on failed; and else waiting. What a failure
+    /// cancels is the rule of Nix (Nix Reference Manual, the option `--keep-going`). It takes no memory.
     pub fn status(&self, i: usize) -> Status
         requires { i < drvs_in self.now.inputs }
         ensures { HasStatusIn self.now.inputs (reverse self.now.history) i result }
@@ -559,7 +561,8 @@ impl Dispatch {
         self.board.status(i)
     }
 
-    /// How many derivations have each status. The five numbers sum to the number of derivations.
+    /// How many derivations have each status. The five numbers sum to the number of derivations. It takes
+    /// no memory.
     pub fn counts(&self) -> Counts
         ensures drvs { AreCountsIn self.now.inputs (reverse self.now.history) result }
         ensures sum { total_of result ≡ drvs_in self.now.inputs }
@@ -567,7 +570,7 @@ impl Dispatch {
         self.board.counts()
     }
 
-    /// Whether the run is over: no derivation waits, and none is leased.
+    /// Whether the run is over: no derivation waits, and none is leased. It takes no memory.
     pub fn finished(&self) -> bool
         ensures { IsTrue result ↔ IsFinished self.now.inputs (reverse self.now.history) }
     {
