@@ -17,3 +17,6 @@ pub use rule::Rule;
 pub use serving::{Fetch, Outcome, serve_build, serve_copy};
 pub use stand_in::StandIn;
 pub use transport::Transport;
+
+#[cfg(test)]
+mod tests;

@@ -152,6 +152,7 @@ impl Transport for StandIn {
     fn prepare(&mut self, job: &Job) -> Result<(), AllocError>
         ensures ok { OnOk result (self.new ≡ record self.old { outputs = job.now.outputs; state = prepared self.old.state job.now.ticket.drv job.now.paths }) }
         ensures err { OnErr result (IsIdleAgain self.old.state self.new.state) }
+        ensures kept { OnErr result (self.new ≡ record self.old { state = self.new.state }) }
     {
         self.log.prepare(job)?;
         self.outputs = job.outputs;
