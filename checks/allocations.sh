@@ -1,7 +1,9 @@
 #!/bin/sh
 # Refuses the first, second, third allocation of the built program and so on, until a run meets none,
 # for `ask` and for `path`. Each run must end with the ample output and status 0, or with status 5, the
-# line "nix-dispatch: out of memory" and no output. It needs a C compiler.
+# line "nix-dispatch: out of memory" and no output. Then it does so to the built test
+# `allocations_refused` of `nd_lease_examples`, which looks at what a refused call on a dispatch leaves: each
+# run of it must pass. It needs a C compiler, the program, and the tests that `rt test` leaves.
 set -u
 cd "$(dirname "$0")/.."
 program=crates/nix_dispatch/out/nix_dispatch
@@ -37,3 +39,24 @@ sweep crates/nix_dispatch/stdin ask --builders m
 sed 's/^[^ ]* //' crates/nix_dispatch/stdin | tr -d '\n' > "$work/text"
 last=0
 sweep "$work/text" path n0.drv
+
+tests=crates/nd_lease_examples/out/nd_lease_examples_tests
+number=1
+refused=0
+quiet=0
+while [ "$number" -le 5000 ] && [ "$quiet" -lt 200 ]; do
+  said=$(REFUSE=$number LD_PRELOAD="$work/refuse.so" "$tests" refusing::allocations_refused 2>&1)
+  status=$?
+  if [ "$status" -ne 0 ]; then
+    echo "dispatch: allocation $number refused: status $status"
+    echo "$said"
+    exit 1
+  fi
+  case $said in
+    *'a call was refused'*) refused=$((refused + 1)) quiet=0 last=$number ;;
+    *) [ "$refused" -gt 0 ] && quiet=$((quiet + 1)) ;;
+  esac
+  number=$((number + 1))
+done
+[ "$refused" -gt 0 ] || { echo "dispatch: no call was refused"; exit 1; }
+echo "dispatch: $refused refusals of its calls, the last at allocation $last, and each left what it should"

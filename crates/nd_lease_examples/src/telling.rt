@@ -1,0 +1,106 @@
+//! The lines of entries and replies. A store path is told by its name alone, since no two paths of the
+//! examples have the same one.
+
+use nd_hook::Reply;
+use nd_ledger::{Dispatch, Entry, Why};
+use nd_path::PathSet;
+use std::alloc::{AllocError, Global};
+
+/// Writes a word and these numbers behind it, with a space before each.
+fn push_words(
+    alloc: Global,
+    lines: &mut Vec<u8>,
+    word: &str,
+    numbers: &[u32],
+) -> Result<(), AllocError> {
+    lines.extend_from_slice(word.as_bytes())?;
+    for number in numbers {
+        lines.extend_from_slice(format!(in alloc; " {number}")?.as_bytes())?;
+    }
+    Ok(())
+}
+
+/// Writes why a lease ended without its outputs.
+fn push_cause(alloc: Global, lines: &mut Vec<u8>, why: Why) -> Result<(), AllocError> {
+    match why {
+        Why::Status(status) => push_words(alloc, lines, " status", &[u32::from(status)]),
+        Why::Lost => push_words(alloc, lines, " lost", &[]),
+        Why::BadReferences => push_words(alloc, lines, " references", &[]),
+        Why::NoWorker => push_words(alloc, lines, " noworker", &[]),
+        Why::Memory => push_words(alloc, lines, " memory", &[]),
+    }
+}
+
+/// Writes the names of these paths, with a space before each.
+fn push_names(lines: &mut Vec<u8>, paths: &PathSet) -> Result<(), AllocError> {
+    for path in paths.as_slice() {
+        lines.push(b' ')?;
+        lines.extend_from_slice(path.name())?;
+    }
+    Ok(())
+}
+
+/// Writes these lists of paths, with an `o` before each.
+fn push_lists(lines: &mut Vec<u8>, lists: &[PathSet]) -> Result<(), AllocError> {
+    for list in lists {
+        lines.extend_from_slice(b" o")?;
+        push_names(lines, list)?;
+    }
+    Ok(())
+}
+
+/// Writes the words of an entry before its paths and its cause.
+fn push_head(alloc: Global, lines: &mut Vec<u8>, entry: &Entry) -> Result<(), AllocError> {
+    match entry {
+        Entry::Chosen { drv, machine, slot } => {
+            push_words(alloc, lines, "chosen", &[*drv, *machine, *slot])
+        }
+        Entry::NoBuilder { drv } => push_words(alloc, lines, "nobuilder", &[*drv]),
+        Entry::Started { drv, .. } => push_words(alloc, lines, "started", &[*drv]),
+        Entry::Down { drv } => push_words(alloc, lines, "down", &[*drv]),
+        Entry::Built { drv, .. } => push_words(alloc, lines, "built", &[*drv]),
+        Entry::Failed { drv, .. } => push_words(alloc, lines, "failed", &[*drv]),
+        Entry::Stop => push_words(alloc, lines, "stop", &[]),
+        Entry::Drain { machine } => push_words(alloc, lines, "drain", &[*machine]),
+        Entry::Enable { machine } => push_words(alloc, lines, "enable", &[*machine]),
+    }
+}
+
+/// Writes the line of an entry.
+pub fn push_entry(alloc: Global, lines: &mut Vec<u8>, entry: &Entry) -> Result<(), AllocError> {
+    push_head(alloc, lines, entry)?;
+    match entry {
+        Entry::Started { paths, .. } => push_names(lines, paths)?,
+        Entry::Built { refs, .. } => push_lists(lines, refs.lists())?,
+        Entry::Failed { why, .. } => push_cause(alloc, lines, *why)?,
+        _ => {}
+    }
+    lines.push(b'\n')?;
+    Ok(())
+}
+
+/// Writes the URI of the machine at this place.
+fn push_uri(lines: &mut Vec<u8>, dispatch: &Dispatch, place: usize) -> Result<(), AllocError> {
+    if let Some(machine) = dispatch.machines().get(place) {
+        lines.extend_from_slice(machine.uri())?;
+        lines.push(b'\n')?;
+    }
+    Ok(())
+}
+
+/// Writes the reply about a derivation, and the URI of an accepted machine on a line of its own.
+pub fn push_reply(lines: &mut Vec<u8>, dispatch: &Dispatch, drv: u32) -> Result<(), AllocError> {
+    let drv = drv as usize;
+    if drv >= dispatch.graph().len() {
+        return Ok(());
+    }
+    match dispatch.ask(drv) {
+        Reply::Accept(place) => {
+            lines.extend_from_slice(b"# accept\n")?;
+            push_uri(lines, dispatch, place)
+        }
+        Reply::Postpone => lines.extend_from_slice(b"# postpone\n"),
+        Reply::Decline => lines.extend_from_slice(b"# decline\n"),
+        Reply::DeclinePermanently => lines.extend_from_slice(b"# decline-permanently\n"),
+    }
+}
