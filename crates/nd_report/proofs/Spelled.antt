@@ -18,15 +18,15 @@ on_err (Err e) P h = h
 
 -- ---- the place of an item in its list
 
-front_more : {X : Type 0} (xs : List X) (i : ℕ) (x : X) → i < length xs → x ≡ get_or xs i x → take (i + 1) xs ≡ take i xs ++ x ∷ []
+pub front_more : {X : Type 0} (xs : List X) (i : ℕ) (x : X) → i < length xs → x ≡ get_or xs i x → take (i + 1) xs ≡ take i xs ++ x ∷ []
 front_more xs i x within is = take_more xs i x within ∙ ap (λ y. take i xs ++ y ∷ []) (sym is)
 
-parted : {X : Type 0} (xs : List X) (i : ℕ) (x : X) → i < length xs → x ≡ get_or xs i x → xs ≡ take i xs ++ x ∷ drop (suc i) xs
+pub parted : {X : Type 0} (xs : List X) (i : ℕ) (x : X) → i < length xs → x ≡ get_or xs i x → xs ≡ take i xs ++ x ∷ drop (suc i) xs
 parted xs i x within is = split_at xs i x within ∙ ap (λ y. take i xs ++ y ∷ drop (suc i) xs) (sym is)
 
 -- ---- words with a space before each
 
-spaced-append : (ws vs : List (List ℕ)) → spaced (ws ++ vs) ≡ spaced ws ++ spaced vs
+pub spaced-append : (ws vs : List (List ℕ)) → spaced (ws ++ vs) ≡ spaced ws ++ spaced vs
 unfolding spaced
 spaced-append ws vs = flat_map-append (λ (w : List ℕ). 32 ∷ w) ws vs
 
@@ -40,10 +40,10 @@ spaced-none = refl
 
 module _ (old new : Option (List ℕ)) (held : List ℕ) where
   -- a text by another name
-  renamed : (left text other : List ℕ) → text ≡ other → Sends old held new left text → Sends old held new left other
+  pub renamed : (left text other : List ℕ) → text ≡ other → Sends old held new left text → Sends old held new left other
   renamed left text other e h = subst (λ (t : List ℕ). Sends old held new left t) e h
 
-  renamed_part : (text other : List ℕ) → text ≡ other → SendsPart old held new text → SendsPart old held new other
+  pub renamed_part : (text other : List ℕ) → text ≡ other → SendsPart old held new text → SendsPart old held new other
   renamed_part text other e h = subst (λ (t : List ℕ). SendsPart old held new t) e h
 
 -- one word

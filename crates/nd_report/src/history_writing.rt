@@ -223,7 +223,11 @@ fn put_paths<W: io::Write>(
 }
 
 /// Writes a number as a word.
-fn put_number<W: io::Write>(number: u32, page: &mut Page, out: &mut Told<W>) -> Result<(), Fault>
+pub(crate) fn put_number<W: io::Write>(
+    number: u32,
+    page: &mut Page,
+    out: &mut Told<W>,
+) -> Result<(), Fault>
     ensures written { OnOk result (Sends (W.contents out.old.device) page.old (W.contents out.new.device) page.new (spaced (decimal number ∷ []))) }
     ensures partly { OnErr result (SendsPart (W.contents out.old.device) page.old (W.contents out.new.device) (spaced (decimal number ∷ []))) }
     ensures mark { out.new.is_marked ≡ (out.old.is_marked || is_err result) }
@@ -234,7 +238,11 @@ fn put_number<W: io::Write>(number: u32, page: &mut Page, out: &mut Told<W>) -> 
 
 /// Writes a word with a space before it.
 #[tactic(auto, using(crate::proofs::Spelled::one_word))]
-fn put_word<W: io::Write>(word: &[u8], page: &mut Page, out: &mut Told<W>) -> Result<(), Fault>
+pub(crate) fn put_word<W: io::Write>(
+    word: &[u8],
+    page: &mut Page,
+    out: &mut Told<W>,
+) -> Result<(), Fault>
     ensures written { OnOk result (Sends (W.contents out.old.device) page.old (W.contents out.new.device) page.new (spaced (word.now ∷ []))) }
     ensures partly { OnErr result (SendsPart (W.contents out.old.device) page.old (W.contents out.new.device) (spaced (word.now ∷ []))) }
     ensures mark { out.new.is_marked ≡ (out.old.is_marked || is_err result) }

@@ -1,9 +1,15 @@
-//! The texts of a history and of how a dispatch stands, and the audit of a history.
+//! The texts of histories: how they are written and read.
 #![tactic(auto)]
 
+mod history_error;
+mod history_reading;
 mod history_writing;
 pub mod kinds;
+pub mod laws;
 mod lines;
 mod page;
+mod words;
 
+pub use history_error::HistoryError;
+pub use history_reading::read_history;
 pub use history_writing::write_history;
