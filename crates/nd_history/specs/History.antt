@@ -53,7 +53,7 @@ is_taken m s past = list_any (is_on m s) (live past)
 abbrev pub current_of : ℕ → ℕ → List Entry → Option Ticket
 current_of m s past = find (is_on m s) (live past)
 
--- the ticket is a live lease's
+-- derivation d was started since its newest choice
 abbrev pub is_started : ℕ → List Entry → Bool
 is_started d [] = false
 is_started d (Started e paths ∷ past) = (d == e) || is_started d past

@@ -141,3 +141,42 @@ fn are_jobs_right(alloc: Global) -> bool {
 fn jobs_in_flight(rt: HostRuntime) {
     assert!(rt; are_jobs_right(rt.alloc()));
 }
+
+/// Whether a copy of the dispatch is taken, and each of the two goes on from the other.
+fn is_copied(alloc: Global, dispatch: &Dispatch) -> bool {
+    match dispatch.try_clone(alloc) {
+        Ok(copy) => copy.extends(dispatch) && dispatch.extends(&copy),
+        Err(_) => false,
+    }
+}
+
+/// Whether the dispatch goes on from a copy that was taken before a pump of two choices, which doesn't go
+/// on from it.
+fn goes_on(dispatch: &mut Dispatch, copy: &Dispatch) -> bool {
+    if !matches!(dispatch.pump(), Ok(2)) {
+        return false;
+    }
+    dispatch.extends(copy) && !copy.extends(dispatch)
+}
+
+/// The two on a dispatch, and the first after the pump again.
+fn is_followed(alloc: Global, dispatch: &mut Dispatch) -> bool {
+    let first = is_copied(alloc, dispatch);
+    match dispatch.try_clone(alloc) {
+        Ok(copy) => first && goes_on(dispatch, &copy) && is_copied(alloc, dispatch),
+        Err(_) => false,
+    }
+}
+
+/// The same on a new dispatch. Want of memory is a no.
+fn are_copies_right(alloc: Global) -> bool {
+    match dispatch_of(alloc, Bundle::Sources, &builders_alone("m - - 2")) {
+        Ok(mut dispatch) => is_followed(alloc, &mut dispatch),
+        Err(_) => false,
+    }
+}
+
+#[test]
+fn copies_of_a_dispatch(rt: HostRuntime) {
+    assert!(rt; are_copies_right(rt.alloc()));
+}
