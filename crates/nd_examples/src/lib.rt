@@ -9,3 +9,5 @@ mod bundles;
 mod devices;
 #[cfg(test)]
 mod examples;
+#[cfg(test)]
+mod infos;

@@ -640,6 +640,13 @@ impl Dispatch {
         self.inputs.machines.as_slice()
     }
 
+    /// The number of machines, the local one among them: there are at most 1,024 others.
+    pub fn park(&self) -> u32
+        ensures { result ≡ machines_in self.now.inputs }
+    {
+        self.inputs.machines.len() as u32 + 1
+    }
+
     /// The settings of the local machine.
     pub fn local(&self) -> &Local
         ensures { result.now ≡ self.now.inputs.local }

@@ -4,3 +4,5 @@ pub mod Sending
 pub mod Reading
 pub mod Sound
 pub mod TextLaws
+pub mod Reports
+pub mod Audits

@@ -1,6 +1,8 @@
 //! The texts of histories: how they are written and read.
 #![tactic(auto)]
 
+mod audit_error;
+mod auditing;
 mod history_error;
 mod history_reading;
 mod history_writing;
@@ -8,8 +10,15 @@ pub mod kinds;
 pub mod laws;
 mod lines;
 mod page;
+mod report_writing;
 mod words;
 
+pub use audit_error::AuditError;
+pub use auditing::audit;
 pub use history_error::HistoryError;
 pub use history_reading::read_history;
 pub use history_writing::write_history;
+pub use report_writing::write_report;
+
+#[cfg(test)]
+mod tests;

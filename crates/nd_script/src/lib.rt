@@ -6,6 +6,8 @@ mod line_fault;
 mod lines;
 pub mod script_error;
 pub mod script_text;
+#[cfg(test)]
+mod tests;
 mod verb;
 mod words;
 

@@ -1,2 +1,5 @@
+pub mod Counts
+pub mod Going
 pub mod Leaving
+pub mod Stints
 pub mod Telling

@@ -1,7 +1,13 @@
 pub mod Abandoned
 pub mod Answers
 pub mod Calls
+pub mod Ends
 pub mod Logs
+pub mod Made
+pub mod Noted
+pub mod NotesKept
+pub mod Receipts
+pub mod Served
 pub mod Services
 pub mod StandIns
 pub mod Standing
