@@ -48,7 +48,7 @@ fn builder_defaults(rt: HostRuntime) -> Result<(), Fail> {
     assert!(rt; has_uri(alloc, b"mac", b"ssh://mac"));
     assert!(rt; has_uri(alloc, b"u@h", b"ssh://u@h"));
     assert!(rt; has_uri(alloc, b"auto?x=1", b"auto?x=1"));
-    assert!(rt; has_uri(alloc, b"/tmp/s", b"/tmp/s"));
+    assert!(rt; has_uri(alloc, b"/a/b/s", b"/a/b/s"));
     Ok(())
 }
 
