@@ -37,6 +37,24 @@ pub fn write_history<W: io::Write>(entries: &[Entry], out: &mut Told<W>) -> Resu
     Ok(())
 }
 
+/// Writes the lines of these entries, each with its newline, and no first line: what
+/// [`write_history`] writes behind the first line. It takes no memory, and hands the text to the
+/// writer in pieces of about 4,096 bytes.
+///
+/// Refusal 1 `Write`: the device refused a write. Its mark is then set, and a part of the lines, from
+/// their beginning, may be out.
+#[tactic(auto, using(crate::proofs::Sent::ends))]
+pub fn write_lines<W: io::Write>(entries: &[Entry], out: &mut Told<W>) -> Result<(), WriteError>
+    ensures written { OnOk result (Appends (W.contents out.old.device) (W.contents out.new.device) (flat_map line_of entries.now)) }
+    ensures partly { OnErr result (WritesPart (W.contents out.old.device) (W.contents out.new.device) (flat_map line_of entries.now)) }
+    ensures mark { out.new.is_marked ≡ (out.old.is_marked || is_err result) }
+{
+    let mut page = Page::new();
+    put_lines(entries, &mut page, out)?;
+    page.send(out)?;
+    Ok(())
+}
+
 /// The version in which a history is written.
 fn version(entries: &[Entry]) -> Version
     ensures { result ≡ version_of entries.now }

@@ -12,4 +12,4 @@ mod words;
 
 pub use history_error::HistoryError;
 pub use history_reading::read_history;
-pub use history_writing::write_history;
+pub use history_writing::{write_history, write_lines};
