@@ -20,6 +20,3 @@ pub use derivations::Derivation;
 pub use fault::AtermError;
 pub use records::{EnvEntry, InputDrv, Output, Parts};
 pub use texts::{parse, write};
-
-#[cfg(test)]
-mod tests;
