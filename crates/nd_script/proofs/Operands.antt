@@ -1,17 +1,17 @@
 -- Words that begin with a number, and what rules such a reading out.
-use Rattle.std.proofs.Common.{◌≡◌, ◌==◌, ℕ, ◌+◌, List, [], ◌∷◌, length, Option, Some, sym, ap, subst, ◌∙◌, arith, inl, inr}
+use Rattle.std.proofs.Common.{◌≡◌, ◌==◌, ℕ, List, [], ◌∷◌, length, Option, Some, sym, ap, subst, ◌∙◌, arith, inl, inr}
 use Rattle.std.specs.List.{slice_split}
 use Rattle.std.proofs.lemmas.List.Splits.{length-slice_split}
 use Rattle.nd_bytes.specs.Cut.{pieces}
 use Rattle.nd_closure.specs.Info.{words_of}
 use Rattle.nd_script.specs.declared.command.Command.{Command}
-use Rattle.nd_script.specs.declared.verb.Verb.{Verb}
-use Rattle.nd_script.specs.Verbs.{verb_of}
 use Rattle.nd_script.specs.declared.line_fault.LineFault.{LineFault}
 use Rattle.nd_script.specs.declared.line_fault.LineFault.TheVariants.{Bad, Memory}
 use Rattle.nd_script.specs.Words.{Begins, IsSetOf, IsStatus, AreLists}
 use Rattle.nd_script.specs.Faults.{NeverBegins, IsNoNumber, IsNoStatus, RulesOut}
-use Rattle.nd_script.specs.Script.{IsCallWith, IsStartWith, IsBuilt, IsFail, IsSaid, IsLine}
+use Rattle.nd_script.specs.Calls.{IsCallWith, IsStatusCall, IsBuiltCall}
+use Rattle.nd_script.specs.Lines.{IsLineOf}
+use Rattle.nd_script.specs.Script.{IsStartWith}
 
 pub no_words : (bound : ℕ) → NeverBegins bound []
 no_words bound = record { never = λ number rest begins. let none = begins.words_are in cc }
@@ -41,11 +41,11 @@ more_than_status words word rest bytes whole some = record {
 pub no_stop : (words : Option (List ℕ)) (bytes : List ℕ) → words ≡ Some bytes → (command : Command) → (pieces 32 words ≡ []) × (command ≡ Command.Stop) → ⊥
 no_stop words bytes some command said = some_piece bytes (ap (pieces 32) (sym some) ∙ said.0)
 
-pub called : (bound : ℕ) (call : ℕ → Command) (words : List (List ℕ)) (number : ℕ) → Begins bound words number [] → IsCallWith bound call words (call number)
+pub called : {X : Type 0} (bound : ℕ) (call : ℕ → X) (words : List (List ℕ)) (number : ℕ) → Begins bound words number [] → IsCallWith bound call words (call number)
 called bound call words number begins = record { number = number; operand = begins; is = λ _. call number }
 
-pub uncalled : (bound : ℕ) (call : ℕ → Command) (words : List (List ℕ)) → IsNoNumber bound words → (command : Command) → IsCallWith bound call words command → ⊥
-uncalled bound call words none = λ command said. none.never said.number said.operand
+pub uncalled : {X : Type 0} (bound : ℕ) (call : ℕ → X) (words : List (List ℕ)) → IsNoNumber bound words → (item : X) → IsCallWith bound call words item → ⊥
+uncalled bound call words none = λ item said. none.never said.number said.operand
 
 pub never_starts : (drvs : ℕ) (words : List (List ℕ)) → NeverBegins drvs words → (command : Command) → IsStartWith drvs words command → ⊥
 never_starts drvs words none = λ command said. none.never said.drv said.others said.operand
@@ -55,36 +55,39 @@ no_start drvs words drv others Bad begins none = λ command said.
     none said.paths (subst (λ (ws : List (List ℕ)). IsSetOf ws said.paths) (same_rest drvs words said.drv drv said.others others said.operand begins) said.set)
 no_start drvs words drv others Memory begins none = tt
 
-pub never_ends : (drvs : ℕ) (words : List (List ℕ)) → NeverBegins drvs words → (command : Command) → IsBuilt drvs words command → ⊥
-never_ends drvs words none = λ command said. elim said [
-  | inl bare ↦ none.never bare.number [] bare.operand
-  | inr lists ↦ none.never lists.drv lists.others lists.operand
+pub never_ends : {X : Type 0} (bound : ℕ) (bare : ℕ → X) (listed : ℕ → List (List (List ℕ)) → X) (words : List (List ℕ)) → NeverBegins bound words
+    → (item : X) → IsBuiltCall bound bare listed words item → ⊥
+never_ends bound bare listed words none = λ item said. elim said [
+  | inl alone ↦ none.never alone.number [] alone.operand
+  | inr lists ↦ none.never lists.number lists.others lists.operand
 ]
 
-pub no_end : (drvs : ℕ) (words : List (List ℕ)) (drv : ℕ) (rest : Option (List ℕ)) (bytes : List ℕ) (fault : LineFault) → Begins drvs words drv (pieces 32 rest) → rest ≡ Some bytes
-    → RulesOut (AreLists (pieces 32 rest)) fault → RulesOut (IsBuilt drvs words) fault
-no_end drvs words drv rest bytes Bad begins some none = λ command said. elim said [
-  | inl bare ↦ some_piece bytes (ap (pieces 32) (sym some) ∙ same_rest drvs words drv bare.number (pieces 32 rest) [] begins bare.operand)
+pub no_end : {X : Type 0} (bound : ℕ) (bare : ℕ → X) (listed : ℕ → List (List (List ℕ)) → X) (words : List (List ℕ)) (number : ℕ) (rest : Option (List ℕ)) (bytes : List ℕ) (fault : LineFault)
+    → Begins bound words number (pieces 32 rest) → rest ≡ Some bytes → RulesOut (AreLists (pieces 32 rest)) fault → RulesOut (IsBuiltCall bound bare listed words) fault
+no_end bound bare listed words number rest bytes Bad begins some none = λ item said. elim said [
+  | inl alone ↦ some_piece bytes (ap (pieces 32) (sym some) ∙ same_rest bound words number alone.number (pieces 32 rest) [] begins alone.operand)
   | inr lists ↦
       none lists.refs
-      (subst (λ (ws : List (List ℕ)). AreLists ws lists.refs) (same_rest drvs words lists.drv drv lists.others (pieces 32 rest) lists.operand begins) lists.lists)
+      (subst (λ (ws : List (List ℕ)). AreLists ws lists.refs) (same_rest bound words lists.number number lists.others (pieces 32 rest) lists.operand begins) lists.lists)
 ]
-no_end drvs words drv rest bytes Memory begins some none = tt
+no_end bound bare listed words number rest bytes Memory begins some none = tt
 
-pub never_fails : (drvs : ℕ) (words : List (List ℕ)) → NeverBegins drvs words → (command : Command) → IsFail drvs words command → ⊥
-never_fails drvs words none = λ command said. none.never said.drv said.others said.operand
+pub never_fails : {X : Type 0} (bound : ℕ) (call : ℕ → ℕ → X) (words : List (List ℕ)) → NeverBegins bound words → (item : X) → IsStatusCall bound call words item → ⊥
+never_fails bound call words none = λ item said. none.never said.number said.others said.operand
 
-pub no_fail : (drvs : ℕ) (words : List (List ℕ)) (drv : ℕ) (others : List (List ℕ)) → Begins drvs words drv others → IsNoStatus others → (command : Command) → IsFail drvs words command → ⊥
-no_fail drvs words drv others begins none = λ command said.
-    none.never said.status (subst (λ (ws : List (List ℕ)). IsStatus ws said.status) (same_rest drvs words said.drv drv said.others others said.operand begins) said.reads)
+pub no_fail : {X : Type 0} (bound : ℕ) (call : ℕ → ℕ → X) (words : List (List ℕ)) (number : ℕ) (others : List (List ℕ)) → Begins bound words number others → IsNoStatus others
+    → (item : X) → IsStatusCall bound call words item → ⊥
+no_fail bound call words number others begins none = λ item said.
+    none.never said.status
+    (subst (λ (ws : List (List ℕ)). IsStatus ws said.status) (same_rest bound words said.number number said.others others said.operand begins) said.reads)
 
 -- a line whose words say nothing
-pub bad_line : (drvs machines : ℕ) (line first : List ℕ) (others : List (List ℕ)) (verb : Verb) (fault : LineFault) → words_of line ≡ first ∷ others → verb_of first ≡ Some verb
-    → RulesOut (IsSaid drvs machines verb others) fault → RulesOut (IsLine drvs machines line) fault
-bad_line drvs machines line first others verb Bad words names none = λ command is.
+pub bad_line : {V X : Type 0} (verb_of : List ℕ → Option V) (Said : V → List (List ℕ) → X → Type 0) (line first : List ℕ) (others : List (List ℕ)) (verb : V) (fault : LineFault)
+    → words_of line ≡ first ∷ others → verb_of first ≡ Some verb → RulesOut (Said verb others) fault → RulesOut (IsLineOf verb_of Said line) fault
+bad_line {V} {X} verb_of Said line first others verb Bad words names none = λ item is.
     let same : is.first ≡ first = cc (is.words, words) in
     let rest : is.others ≡ others = cc (is.words, words) in
     let verbs : Some is.verb ≡ Some verb = sym is.names ∙ ap verb_of same ∙ names in
     let one : is.verb ≡ verb = cc in
-    none command (subst (λ (v : Verb). IsSaid drvs machines v others command) one (subst (λ (ws : List (List ℕ)). IsSaid drvs machines is.verb ws command) rest is.said))
-bad_line drvs machines line first others verb Memory words names none = tt
+    none item (subst (λ (v : V). Said v others item) one (subst (λ (ws : List (List ℕ)). Said is.verb ws item) rest is.said))
+bad_line verb_of Said line first others verb Memory words names none = tt

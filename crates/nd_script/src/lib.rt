@@ -1,14 +1,21 @@
-//! Scripts of calls on a dispatch, as texts: one line for each call.
+//! Scripts of calls on a dispatch, as texts: one line for each call; and stand texts, which say how the
+//! stand-ins of a run answer: one line for each rule.
 #![tactic(auto)]
 
 pub mod command;
 mod line_fault;
 mod lines;
+pub mod rule;
 pub mod script_error;
 pub mod script_text;
+mod stand_lines;
+pub mod stand_text;
+mod topic;
 mod verb;
 mod words;
 
 pub use command::Command;
+pub use rule::Rule;
 pub use script_error::ScriptError;
 pub use script_text::parse_script;
+pub use stand_text::parse_stand;

@@ -1,16 +1,18 @@
-//! Refusals of scripts.
+//! Refusals of scripts and of stand texts.
 
 ghost use Rattle.std.specs.Prelude.{◌≡◌};
 ghost use Rattle.nd_script.specs.declared.script_error.ScriptError.TheVariants.{Memory};
+ghost use Rattle.nd_script.specs.Faults.{refusal_of};
 
+use crate::line_fault::LineFault;
 use std::alloc::AllocFailed;
 use std::error::Error;
 use std::fmt;
 
-/// Why a script was refused.
+/// Why a script or a stand text was refused.
 #[derive(Clone, Copy, Debug, PartialEq, Eq)]
 pub enum ScriptError {
-    /// 1: the line with this number, counted from 1, is empty or none of those of a script, or has a
+    /// 1: the line with this number, counted from 1, is empty or none of those of such a text, or has a
     /// derivation, a machine or a status that is out of range, or a word that is no store path where
     /// one is wanted. It is the first such line.
     BadLine(usize),
@@ -34,5 +36,15 @@ impl<T: Drop> From<AllocFailed<T>> for ScriptError {
 
     fn from(_refused: AllocFailed<T>) -> ScriptError {
         ScriptError::Memory
+    }
+}
+
+/// The refusal of the line with this number.
+pub(crate) fn refusal(fault: LineFault, number: usize) -> ScriptError
+    ensures { result ≡ refusal_of fault number }
+{
+    match fault {
+        LineFault::Bad => ScriptError::BadLine(number),
+        LineFault::Memory => ScriptError::Memory,
     }
 }

@@ -5,18 +5,16 @@ ghost use Rattle.nd_closure.specs.Info.{lines_of};
 ghost use Rattle.nd_script.specs.declared.command.Command.{Command};
 ghost use Rattle.nd_script.specs.declared.script_error.ScriptError.{ScriptError};
 ghost use Rattle.nd_script.specs.Script.{AreCommands, IsRefused};
-ghost use Rattle.nd_script.specs.Faults.{refusal_of};
 
 use crate::command::Command;
-use crate::line_fault::LineFault;
 use crate::lines::read_line;
-use crate::script_error::ScriptError;
+use crate::script_error::{ScriptError, refusal};
 use nd_bytes::cut;
 use std::alloc::Global;
 
 /// The commands of a script, one for each line, for a graph of `drvs` derivations and a park of
-/// `machines` machines, the local one among them. Lines are separated by newlines, one may end the last, and a text of no bytes
-/// has none. The words of a line are separated by single spaces:
+/// `machines` machines, the local one among them. Lines are separated by newlines, one may end the
+/// last, and a text of no bytes has none. The words of a line are separated by single spaces:
 ///
 /// `start D`, `startwith D PATH ..`, `built D`, `built D o PATH .. o ..`, `fail D C`, `lose D`,
 /// `down D`, `stop`, `drain M`, `enable M`, `ask D`
@@ -51,14 +49,4 @@ pub fn parse_script(
         left = rest.unwrap_or(&[]);
     }
     Ok(commands)
-}
-
-/// The refusal of the line with this number.
-fn refusal(fault: LineFault, number: usize) -> ScriptError
-    ensures { result ≡ refusal_of fault number }
-{
-    match fault {
-        LineFault::Bad => ScriptError::BadLine(number),
-        LineFault::Memory => ScriptError::Memory,
-    }
 }

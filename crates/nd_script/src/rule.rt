@@ -1,9 +1,10 @@
-//! The rules of a stand-in.
+//! The rules of a stand-in, which stands for a machine in a run.
 
-ghost use Rattle.std.specs.Prelude.{◌≡◌, ◌==◌};
-ghost use Rattle.nd_workers.specs.StandIns.{is_no_connect, is_no_copy, is_about};
+ghost use Rattle.std.specs.Prelude.{◌≡◌, ◌==◌, IfOk};
+ghost use Rattle.nd_script.specs.Rules.{is_no_connect, is_no_copy, is_about};
 
 use nd_closure::Refs;
+use std::alloc::AllocError;
 
 /// What a stand-in does. Machines are numbered as in the park, derivations from 0 in the order of the
 /// bundle.
@@ -49,6 +50,19 @@ impl Rule {
         match self {
             Rule::Fail(built, _) | Rule::Lose(built) | Rule::Built(built, _) => drv == *built,
             _ => false,
+        }
+    }
+
+    /// A copy that is equal to the original.
+    pub fn try_clone(&self) -> Result<Rule, AllocError>
+        ensures { IfOk result (λ rule. rule ≡ self.now) }
+    {
+        match self {
+            Rule::NoConnect(machine) => Ok(Rule::NoConnect(*machine)),
+            Rule::NoCopy(machine) => Ok(Rule::NoCopy(*machine)),
+            Rule::Fail(drv, status) => Ok(Rule::Fail(*drv, *status)),
+            Rule::Lose(drv) => Ok(Rule::Lose(*drv)),
+            Rule::Built(drv, refs) => Ok(Rule::Built(*drv, refs.try_clone()?)),
         }
     }
 }

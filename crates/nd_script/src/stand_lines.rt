@@ -1,0 +1,98 @@
+//! One line of a stand text.
+
+ghost use Rattle.std.specs.Prelude.{◌≡◌, IfOk, IfErr};
+ghost use Rattle.std.specs.Option.{option_copied};
+ghost use Rattle.nd_bytes.specs.Cut.{pieces};
+ghost use Rattle.nd_script.specs.Stand.{IsFailRule, IsBuiltRule, IsRuled, IsRuleLine};
+ghost use Rattle.nd_script.specs.Faults.{RulesOut};
+
+use crate::line_fault::LineFault;
+use crate::rule::Rule;
+use crate::topic::{Topic, topic_named};
+use crate::words::{only_operand, operand, reference_lists, status};
+use nd_bytes::cut;
+use nd_closure::Refs;
+use std::alloc::Global;
+
+/// The rule of a line, for a graph of `drvs` derivations and a park of `machines` machines.
+pub fn read_rule(
+    alloc: Global,
+    line: &[u8],
+    drvs: usize,
+    machines: usize,
+) -> Result<Rule, LineFault>
+    ensures found { IfOk result (IsRuleLine drvs machines line.now) }
+    ensures refused { IfErr result (RulesOut (IsRuleLine drvs machines line.now)) }
+{
+    let (first, words) = cut(line, b' ');
+    let Some(topic) = topic_named(first) else {
+        return Err(LineFault::Bad);
+    };
+    match ruled(alloc, topic, words, drvs, machines) {
+        Ok(rule) => Ok(rule),
+        Err(fault) => Err(fault),
+    }
+}
+
+/// The rule about a topic with these words.
+#[tactic(auto, using(crate::proofs::Operands::called, crate::proofs::Operands::uncalled))]
+fn ruled(
+    alloc: Global,
+    topic: Topic,
+    words: Option<&[u8]>,
+    drvs: usize,
+    machines: usize,
+) -> Result<Rule, LineFault>
+    ensures found { IfOk result (IsRuled drvs machines topic (pieces 32 (option_copied words.entry))) }
+    ensures refused { IfErr result (RulesOut (IsRuled drvs machines topic (pieces 32 (option_copied words.entry)))) }
+{
+    match topic {
+        Topic::NoConnect => match only_operand(words, machines) {
+            Some(machine) => Ok(Rule::NoConnect(machine)),
+            None => Err(LineFault::Bad),
+        },
+        Topic::NoCopy => match only_operand(words, machines) {
+            Some(machine) => Ok(Rule::NoCopy(machine)),
+            None => Err(LineFault::Bad),
+        },
+        Topic::Fail => fail_rule(words, drvs),
+        Topic::Lose => match only_operand(words, drvs) {
+            Some(drv) => Ok(Rule::Lose(drv)),
+            None => Err(LineFault::Bad),
+        },
+        Topic::Built => built_rule(alloc, words, drvs),
+    }
+}
+
+/// `fail`: a derivation and a status.
+fn fail_rule(words: Option<&[u8]>, drvs: usize) -> Result<Rule, LineFault>
+    ensures found { IfOk result (IsFailRule drvs (pieces 32 (option_copied words.entry))) }
+    ensures refused { IfErr result (RulesOut (IsFailRule drvs (pieces 32 (option_copied words.entry)))) }
+{
+    let (drv, rest) = match operand(words, drvs) {
+        Some(found) => found,
+        None => return Err(LineFault::Bad),
+    };
+    match status(rest) {
+        Some(status) => Ok(Rule::Fail(drv, status)),
+        None => Err(LineFault::Bad),
+    }
+}
+
+/// `built`: a derivation, and a list of references for each output, or none at all.
+fn built_rule(alloc: Global, words: Option<&[u8]>, drvs: usize) -> Result<Rule, LineFault>
+    ensures found { IfOk result (IsBuiltRule drvs (pieces 32 (option_copied words.entry))) }
+    ensures refused { IfErr result (RulesOut (IsBuiltRule drvs (pieces 32 (option_copied words.entry)))) }
+{
+    let (drv, rest) = match operand(words, drvs) {
+        Some(found) => found,
+        None => return Err(LineFault::Bad),
+    };
+    match rest {
+        None => Ok(Rule::Built(drv, Refs::new(Vec::new(alloc)))),
+        Some(_) => match reference_lists(alloc, rest) {
+            Ok(refs) => Ok(Rule::Built(drv, refs)),
+            Err(fault) => Err(fault),
+        },
+    }
+}

@@ -1,0 +1,51 @@
+//! Reading a stand text.
+
+ghost use Rattle.std.specs.Prelude.{◌≡◌, List, IfOk, IfErr, MatchResult};
+ghost use Rattle.nd_closure.specs.Info.{lines_of};
+ghost use Rattle.nd_script.specs.declared.rule.Rule.{Rule};
+ghost use Rattle.nd_script.specs.declared.script_error.ScriptError.{ScriptError};
+ghost use Rattle.nd_script.specs.Stand.{AreRules, IsStandRefused};
+
+use crate::rule::Rule;
+use crate::script_error::{ScriptError, refusal};
+use crate::stand_lines::read_rule;
+use nd_bytes::cut;
+use std::alloc::Global;
+
+/// The rules of a stand text, one for each line, for a graph of `drvs` derivations and a park of
+/// `machines` machines, the local one among them. Lines are separated by newlines, one may end the
+/// last, and a text of no bytes has none. The words of a line are separated by single spaces:
+///
+/// `noconnect M`, `nocopy M`, `fail D C`, `lose D`, `built D`, `built D o PATH .. o ..`
+///
+/// with a derivation D below `drvs`, a machine M below `machines` and a status C of 0 to 255, written
+/// without needless zeros. Paths may come in any order and may repeat: they are made sets. `built D`
+/// reports no list at all. The form is this project's own.
+///
+/// Refuses with `BadLine` (1) and the number of the first line that is none of these, counted from 1,
+/// and with `Memory` (2) where an allocation is refused.
+pub fn parse_stand(
+    alloc: Global,
+    text: &[u8],
+    drvs: usize,
+    machines: usize,
+) -> Result<Vec<Rule>, ScriptError>
+    ensures found { IfOk result (λ rules. AreRules drvs machines (lines_of text.now) rules.items) }
+    ensures refused { IfErr result (IsStandRefused drvs machines text.now) }
+    ensures exactly { (rules : List Rule) → AreRules drvs machines (lines_of text.now) rules → MatchResult result (λ read. read.items ≡ rules) (λ e. e ≡ ScriptError.Memory) }
+{
+    let mut rules = Vec::new(alloc);
+    let mut left = text;
+    let mut number = 0;
+    while !left.is_empty() {
+        let (line, rest) = cut(left, b'\n');
+        number += 1;
+        let rule = match read_rule(alloc, line, drvs, machines) {
+            Ok(rule) => rule,
+            Err(fault) => return Err(refusal(fault, number)),
+        };
+        rules.push(rule)?;
+        left = rest.unwrap_or(&[]);
+    }
+    Ok(rules)
+}
