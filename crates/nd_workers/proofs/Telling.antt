@@ -2,8 +2,9 @@
 use Rattle.std.proofs.Common.{◌≡◌, ℕ, Bool, List, subst}
 use Rattle.std.specs.List.{find}
 use Rattle.nd_workers.specs.declared.kinds.Answer.{Answer}
-use Rattle.nd_workers.specs.declared.rule.Rule.{Rule}
-use Rattle.nd_workers.specs.StandIns.{is_about, answer_by, IsTold}
+use Rattle.nd_script.specs.declared.rule.Rule.{Rule}
+use Rattle.nd_script.specs.Rules.{is_about}
+use Rattle.nd_workers.specs.StandIns.{answer_by, IsTold}
 
 -- the answer by the same rules about the same derivation
 pub told_as : (outputs d e : ℕ) (xs ys : List Rule) (answer : Answer) (p q : Bool) → p ≡ q → d ≡ e → xs ≡ ys → IsTold p (answer_by outputs (find (is_about d) xs)) answer → IsTold q (answer_by outputs (find (is_about e) ys)) answer

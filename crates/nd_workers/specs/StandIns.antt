@@ -1,10 +1,11 @@
 -- What a stand-in answers. This project's own choice.
-use Rattle.std.specs.Prelude.{◌≡◌, ℕ, Bool, true, false, not, ◌&&◌, ◌==◌, ◌-◌, List, [], Option, Some, None, replicate, ◌⊎◌}
+use Rattle.std.specs.Prelude.{◌≡◌, ℕ, Bool, true, not, ◌&&◌, ◌==◌, ◌-◌, List, [], Option, Some, None, replicate, ◌⊎◌}
 use Rattle.std.specs.List.{find, list_any}
 use Rattle.nd_workers.specs.declared.kinds.Answer.{Answer}
 use Rattle.nd_workers.specs.declared.kinds.Answer.TheVariants.{Built, Status, Lost}
-use Rattle.nd_workers.specs.declared.rule.Rule.{Rule}
-use Rattle.nd_workers.specs.declared.rule.Rule.TheVariants.{NoConnect, NoCopy, Fail, Lose, Built as RuleBuilt}
+use Rattle.nd_script.specs.declared.rule.Rule.{Rule}
+use Rattle.nd_script.specs.declared.rule.Rule.TheVariants.{NoConnect, NoCopy, Fail, Lose, Built as RuleBuilt}
+use Rattle.nd_script.specs.Rules.{is_no_connect, is_no_copy, is_about}
 use Rattle.nd_workers.specs.declared.kinds.Ended.{Ended}
 use Rattle.nd_workers.specs.Answers.{ended_of}
 use Rattle.nd_workers.specs.Calls.{State, built}
@@ -19,30 +20,6 @@ pub record Stood : Type 0 where
   pub fuse : Option ℕ
   -- the transport that it is
   pub state : State
-
--- the rule refuses each connect on machine m
-abbrev pub is_no_connect : ℕ → Rule → Bool
-is_no_connect m (NoConnect n) = m == n
-is_no_connect m (NoCopy n) = false
-is_no_connect m (Fail d code) = false
-is_no_connect m (Lose d) = false
-is_no_connect m (RuleBuilt d refs) = false
-
--- the rule refuses each copy on machine m
-abbrev pub is_no_copy : ℕ → Rule → Bool
-is_no_copy m (NoConnect n) = false
-is_no_copy m (NoCopy n) = m == n
-is_no_copy m (Fail d code) = false
-is_no_copy m (Lose d) = false
-is_no_copy m (RuleBuilt d refs) = false
-
--- the rule says how a build of derivation d ends
-abbrev pub is_about : ℕ → Rule → Bool
-is_about d (NoConnect m) = false
-is_about d (NoCopy m) = false
-is_about d (Fail e code) = d == e
-is_about d (Lose e) = d == e
-is_about d (RuleBuilt e refs) = d == e
 
 -- how a build ends by its rule; without one it reports an empty list for each output
 abbrev pub answer_by : ℕ → Option Rule → Answer

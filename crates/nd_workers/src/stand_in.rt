@@ -4,15 +4,16 @@ ghost use Rattle.std.specs.Prelude.{◌≡◌, ◌++◌, ◌∷◌, [], ℕ, Lis
 ghost use Rattle.std.specs.List.{find, list_any};
 ghost use Rattle.nd_workers.specs.Answers.{ended_of};
 ghost use Rattle.nd_workers.specs.Calls.{prepared, connected, copied, built, Reports, IsIdleAgain};
-ghost use Rattle.nd_workers.specs.StandIns.{is_no_connect, is_no_copy, is_about, answer_by, answer_of, lets_pass, burnt, connects, copies, IsTold, StandInBuilds};
+ghost use Rattle.nd_script.specs.Rules.{is_no_connect, is_no_copy, is_about};
+ghost use Rattle.nd_workers.specs.StandIns.{answer_by, answer_of, lets_pass, burnt, connects, copies, IsTold, StandInBuilds};
 
 use crate::call_log::CallLog;
 use crate::kinds::{Answer, Ended, Phase};
-use crate::rule::Rule;
 use crate::transport::Transport;
 use nd_closure::Refs;
 use nd_ledger::Job;
 use nd_path::PathSet;
+use nd_script::Rule;
 use std::alloc::{AllocError, Global};
 use std::marker::Model;
 

@@ -1,6 +1,6 @@
 use Rattle.std.proofs.Common.{◌≡◌, drop}
 use Rattle.std.specs.List.{find}
-use Rattle.nd_workers.specs.StandIns.{is_about}
+use Rattle.nd_script.specs.Rules.{is_about}
 use Rattle.nd_workers.proofs.stand_in.answer.Given as goal
 
 abbrev pub invariant-loop-rule : goal.invariant-loop-rule
