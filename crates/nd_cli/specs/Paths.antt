@@ -8,7 +8,7 @@ use Rattle.nd_cli.specs.declared.fault.Place.{Place}
 use Rattle.nd_cli.specs.declared.fault.DerivationRefusal.{DerivationRefusal}
 use Rattle.nd_cli.specs.declared.fault.DerivationRefusal.TheVariants.{BadPath, BadDerivation}
 use Rattle.nd_cli.specs.declared.fault.CliFault.{CliFault}
-use Rattle.nd_cli.specs.declared.fault.CliFault.TheVariants.{Derivation, Drvs, Builders, Info, TooLarge, Read, Write, Memory}
+use Rattle.nd_cli.specs.declared.fault.CliFault.TheVariants.{Derivation, Drvs, Builders, Info, Script, History, TooLarge, Read, Write, Memory}
 
 -- the path and a newline were written, of a whole input within the limit
 pub record AnswersPath (name : List ℕ) (unread left written_before written : Option (List ℕ)) : Type 0 where
@@ -30,6 +30,8 @@ IsTextFault name text (Derivation refusal) = (length text ≤ limit) × HasNoDrv
 IsTextFault name text (Drvs e) = ⊥
 IsTextFault name text (Builders e) = ⊥
 IsTextFault name text (Info e) = ⊥
+IsTextFault name text (Script e) = ⊥
+IsTextFault name text (History e) = ⊥
 IsTextFault name text (TooLarge place) = (place ≡ Place.Derivation) × (limit < length text)
 IsTextFault name text Read = ⊥
 IsTextFault name text Write = ⊥
@@ -47,6 +49,8 @@ IsPathFault name unread left reader_marked writer_marked (Derivation refusal) = 
 IsPathFault name unread left reader_marked writer_marked (Drvs e) = ⊥
 IsPathFault name unread left reader_marked writer_marked (Builders e) = ⊥
 IsPathFault name unread left reader_marked writer_marked (Info e) = ⊥
+IsPathFault name unread left reader_marked writer_marked (Script e) = ⊥
+IsPathFault name unread left reader_marked writer_marked (History e) = ⊥
 IsPathFault name unread left reader_marked writer_marked (TooLarge place) = RefusesText name unread left (TooLarge place)
 IsPathFault name unread left reader_marked writer_marked Read = reader_marked ≡ true
 IsPathFault name unread left reader_marked writer_marked Write = writer_marked ≡ true

@@ -1,7 +1,7 @@
 -- The status that the program ends with where a command gave no answer (this project's own choice).
 use Rattle.std.specs.Prelude.{ℕ}
 use Rattle.nd_cli.specs.declared.fault.CliFault.{CliFault}
-use Rattle.nd_cli.specs.declared.fault.CliFault.TheVariants.{Derivation, Drvs, Builders, Info, TooLarge, Read, Write, Memory}
+use Rattle.nd_cli.specs.declared.fault.CliFault.TheVariants.{Derivation, Drvs, Builders, Info, Script, History, TooLarge, Read, Write, Memory}
 
 -- 3 where an input is refused, 5 where a device or the memory failed
 abbrev pub exit_status : CliFault → ℕ
@@ -9,6 +9,8 @@ exit_status (Derivation refusal) = 3
 exit_status (Drvs e) = 3
 exit_status (Builders e) = 3
 exit_status (Info e) = 3
+exit_status (Script e) = 3
+exit_status (History e) = 3
 exit_status (TooLarge place) = 3
 exit_status Read = 5
 exit_status Write = 5

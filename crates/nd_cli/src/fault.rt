@@ -5,6 +5,7 @@ ghost use Rattle.nd_cli.specs.Statuses.{exit_status};
 use nd_closure::InfoError;
 use nd_graph::GraphError;
 use nd_machines::MachineError;
+use nd_script::ScriptError;
 use std::alloc::AllocError;
 use std::fmt;
 use thiserror::Error;
@@ -20,6 +21,10 @@ pub enum Place {
     Builders,
     /// The info text.
     Info,
+    /// The script of a simulation.
+    Script,
+    /// The history text that is audited.
+    History,
 }
 
 impl fmt::Display for Place {
@@ -29,6 +34,8 @@ impl fmt::Display for Place {
             Place::Drvs => write!(f, "drvs"),
             Place::Builders => write!(f, "builders"),
             Place::Info => write!(f, "info"),
+            Place::Script => write!(f, "script"),
+            Place::History => write!(f, "history"),
         }
     }
 }
@@ -51,6 +58,25 @@ impl fmt::Display for DerivationRefusal {
     }
 }
 
+/// Why a history text is refused.
+#[derive(Clone, Copy, Debug, PartialEq, Eq)]
+pub enum HistoryRefusal {
+    /// The text begins with no version's first line and its newline.
+    Version,
+    /// The line with this number, the first one being 1, is no entry's, or lacks its newline. It is the
+    /// first such line.
+    BadLine(usize),
+}
+
+impl fmt::Display for HistoryRefusal {
+    fn fmt<W: fmt::Write>(&self, f: &mut fmt::Formatter<W>) -> fmt::Result {
+        match self {
+            HistoryRefusal::Version => write!(f, "Version"),
+            HistoryRefusal::BadLine(line) => write!(f, "BadLine {line}"),
+        }
+    }
+}
+
 /// Why a command gave no answer. `Display` writes the fault's line, without its newline.
 #[derive(Debug, Drop, Error)]
 pub enum CliFault {
@@ -66,6 +92,12 @@ pub enum CliFault {
     /// The info text is refused. Status 3.
     #[error("nix-dispatch: info: {0}")]
     Info(InfoError),
+    /// The script is refused. Status 3.
+    #[error("nix-dispatch: script: {0}")]
+    Script(ScriptError),
+    /// The history text is refused. Status 3.
+    #[error("nix-dispatch: history: {0}")]
+    History(HistoryRefusal),
     /// An input has more than 67,108,864 bytes. Status 3.
     #[error("nix-dispatch: {0}: TooLarge")]
     TooLarge(Place),
@@ -90,6 +122,8 @@ impl CliFault {
             | CliFault::Drvs(_)
             | CliFault::Builders(_)
             | CliFault::Info(_)
+            | CliFault::Script(_)
+            | CliFault::History(_)
             | CliFault::TooLarge(_) => 3,
             CliFault::Read | CliFault::Write | CliFault::Memory => 5,
         }

@@ -1,7 +1,7 @@
 //! What the command line and the bundle describe: the graph, the local machine and the builders, and
 //! the references of paths.
 
-ghost use Rattle.std.specs.Prelude.{◌≡◌, IfOk, IfErr};
+ghost use Rattle.std.specs.Prelude.{◌≡◌, ◌≤◌, length, IfOk, IfErr};
 ghost use Rattle.nd_cli.specs.Parks.{HasGraph, HasBuilders, HasInfo, HasPark, IsBundleFault, IsBuildersFault, IsInfoFault, IsParkFault, local_of};
 
 use crate::fault::{CliFault, Place};
@@ -27,7 +27,7 @@ pub struct Park {
     pub info: RefTable,
 }
 
-/// What this text, a bundle, and the options describe.
+/// What this text, a bundle, and the options describe. There are at most 1,024 builders.
 ///
 /// The first refusal in this order is answered: `TooLarge` or `Drvs` for the bundle, `TooLarge` or
 /// `Builders` for the builders list, `TooLarge` or `Info` for the info text. `Memory` may come at any
@@ -40,6 +40,7 @@ pub fn read_park(
 ) -> Result<Park, CliFault>
     ensures read { IfOk result (λ park. HasPark options.now text.now park.graph park.machines.items park.info.entries) }
     ensures local { IfOk result (λ park. park.local ≡ local_of options.now) }
+    ensures few { IfOk result (λ park. length park.machines.items ≤ 1024) }
     ensures refused { IfErr result (IsParkFault options.now text.now) }
 {
     let graph = match read_graph(rt, alloc, options, text) {
@@ -92,6 +93,7 @@ fn read_graph(
 /// `TooLarge`: their text has more than [`LIMIT`] bytes. `Builders`: it is refused. `Memory`.
 fn read_builders(alloc: Global, options: &ParkOptions) -> Result<Vec<Machine>, CliFault>
     ensures read { IfOk result (λ machines. HasBuilders options.now machines.items) }
+    ensures few { IfOk result (λ machines. length machines.items ≤ 1024) }
     ensures refused { IfErr result (IsBuildersFault options.now) }
 {
     if options.builders.len() > LIMIT {
