@@ -7,7 +7,7 @@ use Rattle.nd_cli.specs.Parks.{HasPark, IsParkFault, local_of}
 use Rattle.nd_cli.specs.Asks.{WritesReplies, WritesSomeReplies}
 use Rattle.nd_cli.specs.declared.options.ParkOptions.{ParkOptions}
 use Rattle.nd_cli.specs.declared.fault.CliFault.{CliFault}
-use Rattle.nd_cli.specs.declared.fault.CliFault.TheVariants.{Derivation, Drvs, Builders, Info, Script, History, TooLarge, Read, Write, Memory}
+use Rattle.nd_cli.specs.declared.fault.CliFault.TheVariants.{Derivation, Drvs, Builders, Info, Script, Stand, History, TooLarge, TooManySlots, Read, Write, Memory, Thread, Receipts}
 
 -- the whole input, as a bundle for the park of the options
 pub record ReadsPark (options : ParkOptions) (unread left : Option (List ℕ)) (graph : Nodes) (machines : List Builder) (info : List (List ℕ × List (List ℕ))) : Type 0 where
@@ -44,8 +44,12 @@ IsAskFault options unread left reader_marked writer_marked (Drvs e) = RefusesPar
 IsAskFault options unread left reader_marked writer_marked (Builders e) = RefusesPark options unread left (Builders e)
 IsAskFault options unread left reader_marked writer_marked (Info e) = RefusesPark options unread left (Info e)
 IsAskFault options unread left reader_marked writer_marked (Script e) = ⊥
+IsAskFault options unread left reader_marked writer_marked (Stand e) = ⊥
 IsAskFault options unread left reader_marked writer_marked (History e) = ⊥
 IsAskFault options unread left reader_marked writer_marked (TooLarge place) = RefusesPark options unread left (TooLarge place)
+IsAskFault options unread left reader_marked writer_marked TooManySlots = ⊥
 IsAskFault options unread left reader_marked writer_marked Read = reader_marked ≡ true
 IsAskFault options unread left reader_marked writer_marked Write = writer_marked ≡ true
 IsAskFault options unread left reader_marked writer_marked Memory = Unit {0}
+IsAskFault options unread left reader_marked writer_marked Thread = ⊥
+IsAskFault options unread left reader_marked writer_marked Receipts = ⊥

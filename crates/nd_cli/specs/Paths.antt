@@ -8,7 +8,7 @@ use Rattle.nd_cli.specs.declared.fault.Place.{Place}
 use Rattle.nd_cli.specs.declared.fault.DerivationRefusal.{DerivationRefusal}
 use Rattle.nd_cli.specs.declared.fault.DerivationRefusal.TheVariants.{BadPath, BadDerivation}
 use Rattle.nd_cli.specs.declared.fault.CliFault.{CliFault}
-use Rattle.nd_cli.specs.declared.fault.CliFault.TheVariants.{Derivation, Drvs, Builders, Info, Script, History, TooLarge, Read, Write, Memory}
+use Rattle.nd_cli.specs.declared.fault.CliFault.TheVariants.{Derivation, Drvs, Builders, Info, Script, Stand, History, TooLarge, TooManySlots, Read, Write, Memory, Thread, Receipts}
 
 -- the path and a newline were written, of a whole input within the limit
 pub record AnswersPath (name : List ℕ) (unread left written_before written : Option (List ℕ)) : Type 0 where
@@ -31,11 +31,15 @@ IsTextFault name text (Drvs e) = ⊥
 IsTextFault name text (Builders e) = ⊥
 IsTextFault name text (Info e) = ⊥
 IsTextFault name text (Script e) = ⊥
+IsTextFault name text (Stand e) = ⊥
 IsTextFault name text (History e) = ⊥
 IsTextFault name text (TooLarge place) = (place ≡ Place.Derivation) × (limit < length text)
+IsTextFault name text TooManySlots = ⊥
 IsTextFault name text Read = ⊥
 IsTextFault name text Write = ⊥
 IsTextFault name text Memory = Unit {0}
+IsTextFault name text Thread = ⊥
+IsTextFault name text Receipts = ⊥
 
 -- the text that was read is refused for this reason
 pub record RefusesText (name : List ℕ) (unread left : Option (List ℕ)) (fault : CliFault) : Type 0 where
@@ -50,8 +54,12 @@ IsPathFault name unread left reader_marked writer_marked (Drvs e) = ⊥
 IsPathFault name unread left reader_marked writer_marked (Builders e) = ⊥
 IsPathFault name unread left reader_marked writer_marked (Info e) = ⊥
 IsPathFault name unread left reader_marked writer_marked (Script e) = ⊥
+IsPathFault name unread left reader_marked writer_marked (Stand e) = ⊥
 IsPathFault name unread left reader_marked writer_marked (History e) = ⊥
 IsPathFault name unread left reader_marked writer_marked (TooLarge place) = RefusesText name unread left (TooLarge place)
+IsPathFault name unread left reader_marked writer_marked TooManySlots = ⊥
 IsPathFault name unread left reader_marked writer_marked Read = reader_marked ≡ true
 IsPathFault name unread left reader_marked writer_marked Write = writer_marked ≡ true
 IsPathFault name unread left reader_marked writer_marked Memory = Unit {0}
+IsPathFault name unread left reader_marked writer_marked Thread = ⊥
+IsPathFault name unread left reader_marked writer_marked Receipts = ⊥

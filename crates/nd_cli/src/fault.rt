@@ -23,6 +23,8 @@ pub enum Place {
     Info,
     /// The script of a simulation.
     Script,
+    /// The stand text of a run.
+    Stand,
     /// The history text that is audited.
     History,
 }
@@ -35,6 +37,7 @@ impl fmt::Display for Place {
             Place::Builders => write!(f, "builders"),
             Place::Info => write!(f, "info"),
             Place::Script => write!(f, "script"),
+            Place::Stand => write!(f, "stand"),
             Place::History => write!(f, "history"),
         }
     }
@@ -95,12 +98,18 @@ pub enum CliFault {
     /// The script is refused. Status 3.
     #[error("nix-dispatch: script: {0}")]
     Script(ScriptError),
+    /// The stand text is refused. Status 3.
+    #[error("nix-dispatch: stand: {0}")]
+    Stand(ScriptError),
     /// The history text is refused. Status 3.
     #[error("nix-dispatch: history: {0}")]
     History(HistoryRefusal),
     /// An input has more than 67,108,864 bytes. Status 3.
     #[error("nix-dispatch: {0}: TooLarge")]
     TooLarge(Place),
+    /// The machines have more than 1,024 slots, and a run has a stand-in for each. Status 3.
+    #[error("nix-dispatch: builders: TooManySlots")]
+    TooManySlots,
     /// A reader refused a read, or a file can't be opened. Status 5.
     #[error("nix-dispatch: read failed")]
     Read,
@@ -110,10 +119,16 @@ pub enum CliFault {
     /// There was no memory. Status 5.
     #[error("nix-dispatch: out of memory")]
     Memory,
+    /// A thread of a run wasn't started. Status 5.
+    #[error("nix-dispatch: thread not started")]
+    Thread,
+    /// The entries that the workers of a run say to have made aren't those of its history. Status 5.
+    #[error("nix-dispatch: receipts differ")]
+    Receipts,
 }
 
 impl CliFault {
-    /// The exit status: 3 where an input is refused, 5 where a device or the memory failed.
+    /// The exit status: 3 where an input is refused, 5 where a device or the memory failed, or a run.
     pub fn status(&self) -> u8
         ensures { result ≡ exit_status self.now }
     {
@@ -123,9 +138,15 @@ impl CliFault {
             | CliFault::Builders(_)
             | CliFault::Info(_)
             | CliFault::Script(_)
+            | CliFault::Stand(_)
             | CliFault::History(_)
-            | CliFault::TooLarge(_) => 3,
-            CliFault::Read | CliFault::Write | CliFault::Memory => 5,
+            | CliFault::TooLarge(_)
+            | CliFault::TooManySlots => 3,
+            CliFault::Read
+            | CliFault::Write
+            | CliFault::Memory
+            | CliFault::Thread
+            | CliFault::Receipts => 5,
         }
     }
 }
