@@ -8,6 +8,3 @@ mod order;
 
 pub use choice::{choose, choose_in};
 pub use order::beats;
-
-#[cfg(test)]
-mod tests;

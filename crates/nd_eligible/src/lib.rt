@@ -14,6 +14,3 @@ pub use feature_words::words;
 pub use local::Local;
 pub use nd_machines::FeatureSet;
 pub use need::Need;
-
-#[cfg(test)]
-mod tests;

@@ -13,6 +13,3 @@ pub use kinds::{Decision, Reply};
 pub use replies::{reply, reply_in};
 pub use told::{Fault, TakeError, Told};
 pub use writing::{WriteError, write_reply};
-
-#[cfg(test)]
-mod tests;

@@ -13,6 +13,3 @@ pub use builders::parse_builders;
 pub use feature_set::FeatureSet;
 pub use machine::Machine;
 pub use machine_error::MachineError;
-
-#[cfg(test)]
-mod tests;

@@ -5,8 +5,6 @@ pub mod encoding;
 pub mod path_error;
 pub mod path_set;
 pub mod store_path;
-#[cfg(test)]
-mod tests;
 pub mod texts;
 
 pub use encoding::{base32, fold};

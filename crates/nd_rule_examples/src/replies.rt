@@ -1,0 +1,308 @@
+//! The worked examples of replies, and devices that refuse.
+
+use crate::values::{is_printed, machines_of, plain_need};
+use nd_hook::{
+    Decision, Fault, Reply, TakeError, Told, WriteError, decide, decide_in, reply, reply_in,
+    write_reply,
+};
+use nd_machines::Machine;
+use std::alloc::{AllocError, Global};
+use std::io;
+
+/// Whether a reply on at most one idle machine about a plain need is this. Want of memory is a no, as
+/// everywhere below.
+fn is_idle_reply(alloc: Global, machines: &[Machine], told: Reply) -> bool {
+    let count = machines.len();
+    if count > 1 {
+        return false;
+    }
+    let loads = [0];
+    let ups = [true];
+    match plain_need(alloc) {
+        Ok(need) => reply(machines, &loads[..count], &ups[..count], &need, false) == told,
+        Err(_) => false,
+    }
+}
+
+/// Whether a reply, which names a machine of the list if any, is written so.
+fn is_written(alloc: Global, machines: &[Machine], told: Reply, text: &[u8]) -> bool {
+    if let Reply::Accept(place) = told {
+        if place >= machines.len() {
+            return false;
+        }
+    }
+    let mut out = Told::new(Vec::new(alloc));
+    match write_reply(&told, machines, &mut out) {
+        Ok(()) => !out.marked() && out.into_inner().as_slice() == text,
+        Err(_) => false,
+    }
+}
+
+/// Whether the reply on the idle machine of a list of at most one is this, and is written so.
+fn is_told(alloc: Global, list: &[u8], told: Reply, text: &[u8]) -> bool {
+    match machines_of(alloc, list) {
+        Ok(machines) => {
+            is_idle_reply(alloc, &machines, told) && is_written(alloc, &machines, told, text)
+        }
+        Err(_) => false,
+    }
+}
+
+#[test]
+fn idle_replies(rt: HostRuntime) {
+    let alloc = rt.alloc();
+    let permanently = b"# decline-permanently\n";
+    assert!(rt; is_told(alloc, b"", Reply::DeclinePermanently, permanently));
+    assert!(rt; is_told(alloc, b"m aarch64-linux", Reply::Decline, b"# decline\n"));
+    assert!(rt; is_told(alloc, b"m - - 0", Reply::Decline, b"# decline\n"));
+    assert!(rt; is_told(alloc, b"m", Reply::Accept(0), b"# accept\nssh://m\n"));
+}
+
+/// One machine and the local one as a reply and a decision see them: the machine's load and whether it
+/// is up, whether the derivation prefers the local machine, and whether that may build it and is free.
+#[derive(Clone, Copy)]
+struct Seen {
+    load: u32,
+    up: bool,
+    prefer_local: bool,
+    loc: bool,
+    loc_free: bool,
+}
+
+/// The reply on one machine: `None` for want of memory, or where there isn't one.
+fn reply_on(alloc: Global, machines: &[Machine], seen: Seen) -> Option<Reply> {
+    if machines.len() != 1 {
+        return None;
+    }
+    match plain_need(alloc) {
+        Ok(need) => { Some(reply(machines, &[seen.load], &[seen.up], &need, seen.loc_free)) }
+        Err(_) => None,
+    }
+}
+
+/// The decision on one machine: `None` for want of memory, where there isn't one, or where the local
+/// machine is free but may not build the derivation.
+fn decision_on(alloc: Global, machines: &[Machine], seen: Seen) -> Option<Decision> {
+    let Seen { loc, loc_free, .. } = seen;
+    if machines.len() != 1 || (loc_free && !loc) {
+        return None;
+    }
+    match plain_need(alloc) {
+        Ok(mut need) => {
+            need.prefer_local = seen.prefer_local;
+            Some(decide(machines, &[seen.load], &[seen.up], &need, loc, loc_free))
+        }
+        Err(_) => None,
+    }
+}
+
+/// The reply on the machine `m`.
+fn replied(alloc: Global, load: u32, up: bool, loc_free: bool) -> Option<Reply> {
+    let seen = Seen {
+        load,
+        up,
+        prefer_local: false,
+        loc: loc_free,
+        loc_free,
+    };
+    match machines_of(alloc, b"m") {
+        Ok(machines) => reply_on(alloc, &machines, seen),
+        Err(_) => None,
+    }
+}
+
+/// The decision on the machine `m`.
+fn decided(alloc: Global, seen: Seen) -> Option<Decision> {
+    match machines_of(alloc, b"m") {
+        Ok(machines) => decision_on(alloc, &machines, seen),
+        Err(_) => None,
+    }
+}
+
+/// Whether replies and decisions keep to the places that they are given, of one machine.
+fn keeps_to_places(machines: &[Machine]) -> bool {
+    machines.len() == 1
+        && reply_in(machines, &[0], &[1], &[true], false) == Reply::Postpone
+        && reply_in(machines, &[], &[1], &[true], false) == Reply::Decline
+        && decide_in(machines, &[], &[0], &[true], false, false, false) == Decision::NoBuilder
+}
+
+/// The same of the machine `m`.
+fn are_places_kept(alloc: Global) -> bool {
+    match machines_of(alloc, b"m") {
+        Ok(machines) => keeps_to_places(&machines),
+        Err(_) => false,
+    }
+}
+
+/// Whether the decision on the machine `m` is this.
+fn is_decided(
+    alloc: Global,
+    machine: (u32, bool),
+    prefer_local: bool,
+    local: (bool, bool),
+    want: Decision,
+) -> bool {
+    let seen = Seen {
+        load: machine.0,
+        up: machine.1,
+        prefer_local,
+        loc: local.0,
+        loc_free: local.1,
+    };
+    decided(alloc, seen) == Some(want)
+}
+
+#[test]
+fn full_machines(rt: HostRuntime) {
+    let alloc = rt.alloc();
+    assert!(rt; replied(alloc, 1, true, false) == Some(Reply::Postpone));
+    assert!(rt; replied(alloc, 1, true, true) == Some(Reply::Decline));
+    assert!(rt; replied(alloc, 0, false, false) == Some(Reply::Decline));
+    assert!(rt; are_places_kept(alloc));
+    for (machine, prefer_local, local, want) in [
+        ((0, true), false, (true, true), Decision::Remote(0)),
+        ((1, true), false, (true, true), Decision::Local),
+        ((1, true), false, (true, false), Decision::Wait),
+        ((0, false), false, (false, false), Decision::NoBuilder),
+        ((0, false), false, (true, false), Decision::Wait),
+        ((0, true), true, (true, true), Decision::Local),
+        ((0, true), true, (true, false), Decision::Wait),
+        ((0, true), true, (false, false), Decision::Remote(0)),
+    ] {
+        assert!(rt; is_decided(rt.alloc(), machine, prefer_local, local, want));
+    }
+}
+
+/// A writer that takes at most `most` bytes at a call, and after `left` calls refuses.
+#[derive(Drop)]
+struct Short {
+    bytes: Vec<u8>,
+    most: usize,
+    left: usize,
+}
+
+impl io::Write for Short {
+    fn write(&mut self, buf: &[u8]) -> io::Result<usize> {
+        if self.left == 0 {
+            return Err(io::Error::from(AllocError));
+        }
+        self.left -= 1;
+        let taken = buf.len().min(self.most);
+        self.bytes.extend_from_slice(&buf[..taken])?;
+        Ok(taken)
+    }
+
+    fn flush(&mut self) -> io::Result<()> {
+        Ok(())
+    }
+}
+
+/// A reader that gives the byte `x` at each call, and after `left` calls refuses.
+#[derive(Drop)]
+struct Dripping {
+    left: usize,
+}
+
+impl io::Read for Dripping {
+    fn read(&mut self, buf: &mut [u8]) -> io::Result<usize> {
+        if self.left == 0 {
+            return Err(io::Error::from(AllocError));
+        }
+        self.left -= 1;
+        if buf.is_empty() {
+            return Ok(0);
+        }
+        buf[0] = b'x';
+        Ok(1)
+    }
+}
+
+/// A writer that takes at most `most` bytes at a call, and after `left` calls refuses.
+fn short_writer(alloc: Global, most: usize, left: usize) -> Told<Short> {
+    Told::new(Short {
+        bytes: Vec::new(alloc),
+        most,
+        left,
+    })
+}
+
+/// Whether the acceptance of the one machine is written whole or refused, and the writer is marked
+/// exactly where it is refused, with a part of the text out, from its beginning.
+fn is_part_written(machines: &[Machine], mut out: Told<Short>, whole: bool) -> bool {
+    if machines.len() != 1 {
+        return false;
+    }
+    let text = b"# accept\nssh://m\n".as_slice();
+    let answer = write_reply(&Reply::Accept(0), machines, &mut out);
+    let marked = out.marked();
+    let written = out.into_inner().bytes;
+    answer.is_ok() == whole
+        && marked == (answer == Err(WriteError::Write))
+        && text.starts_with(&written)
+        && (written.len() == text.len()) == whole
+}
+
+/// The same of the machine `m`.
+fn is_short(alloc: Global, most: usize, left: usize, whole: bool) -> bool {
+    match machines_of(alloc, b"m") {
+        Ok(machines) => is_part_written(&machines, short_writer(alloc, most, left), whole),
+        Err(_) => false,
+    }
+}
+
+/// Whether a writer that takes nothing takes the empty text, and is marked by a text that isn't empty.
+fn is_marked_by_more(mut out: Told<Short>) -> bool {
+    let empty = out.put(b"");
+    let early = out.marked();
+    let more = out.put(b"x");
+    empty == Ok(0) && !early && more == Err(Fault) && out.marked()
+}
+
+/// The number of bytes that were read, and the refusal where they weren't.
+fn count_of(answer: Result<Vec<u8>, TakeError>) -> Result<usize, TakeError> {
+    match answer {
+        Ok(bytes) => Ok(bytes.len()),
+        Err(why) => Err(why),
+    }
+}
+
+/// Whether this is read of a reader that refuses after this many calls, which is then marked exactly
+/// where that is a refusal.
+fn is_dripped(alloc: Global, left: usize, limit: usize, want: Result<usize, TakeError>) -> bool {
+    let mut input = Told::new(Dripping { left });
+    let count = count_of(input.take_all(alloc, limit));
+    count == want && input.marked() == want.is_err()
+}
+
+/// Whether the whole of a text is read.
+fn is_read(alloc: Global, text: &[u8]) -> bool {
+    match Told::new(text).take_all(alloc, 3) {
+        Ok(bytes) => bytes.as_slice() == text,
+        Err(_) => false,
+    }
+}
+
+#[test]
+fn refusing_devices(rt: HostRuntime) {
+    let alloc = rt.alloc();
+    assert!(rt; is_short(alloc, 3, 9, true));
+    assert!(rt; is_short(alloc, 3, 4, false));
+    assert!(rt; is_short(alloc, 100, 1, false));
+    assert!(rt; is_short(alloc, 100, 0, false));
+    assert!(rt; is_short(alloc, 0, 9, false));
+    assert!(rt; is_marked_by_more(short_writer(alloc, 0, 9)));
+    assert!(rt; is_dripped(alloc, 9, 3, Ok(4)));
+    assert!(rt; is_dripped(alloc, 9, 8, Ok(9)));
+    assert!(rt; is_dripped(alloc, 9, 9, Err(TakeError::Fault)));
+    assert!(rt; is_read(alloc, b"abc"));
+}
+
+#[test]
+fn names(rt: HostRuntime) {
+    let alloc = rt.alloc();
+    assert!(rt; is_printed(alloc, &Fault, "Fault"));
+    assert!(rt; is_printed(alloc, &WriteError::Write, "Write"));
+    assert!(rt; is_printed(alloc, &TakeError::Fault, "Fault"));
+    assert!(rt; is_printed(alloc, &TakeError::Memory, "Memory"));
+}

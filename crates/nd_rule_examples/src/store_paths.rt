@@ -1,0 +1,180 @@
+//! The worked examples of store paths.
+
+use crate::values::is_printed;
+use nd_path::{PathError, PathSet, StorePath, base32, fold, text_path};
+use std::alloc::{AllocError, Global};
+
+const REFERENCE: &[u8; 46] = b"/nix/store/pppppppppppppppppppppppppppppppp-s1";
+
+/// Whether the bytes are spelled so.
+fn is_spelled(bytes: &[u8; 20], text: &[u8; 32]) -> bool {
+    base32(bytes).as_slice() == text.as_slice()
+}
+
+/// Whether the bytes are spelled so that are zero but for one.
+fn is_one_spelled(place: usize, byte: u8, text: &[u8; 32]) -> bool {
+    let mut bytes = [0u8; 20];
+    if place < 20 {
+        bytes[place] = byte;
+    }
+    is_spelled(&bytes, text)
+}
+
+/// Whether the fold of a digest, given in hexadecimal digits, is spelled so.
+fn is_fold_spelled(digits: &str, text: &[u8; 32]) -> bool {
+    match <[u8; 32] as hex::FromHex>::from_hex(digits) {
+        Ok(digest) => is_spelled(&fold(&digest), text),
+        Err(_) => false,
+    }
+}
+
+/// The path of the text `abc` with the one reference, under this name.
+fn path_of_abc(alloc: Global, name: &[u8]) -> Result<StorePath, PathError> {
+    let reference = [StorePath::parse(alloc, REFERENCE)?];
+    text_path(alloc, name, &reference, b"abc")
+}
+
+/// Whether an answer is this path. Want of memory is a no, as everywhere below.
+fn is_path(answer: Result<StorePath, PathError>, text: &[u8]) -> bool {
+    match answer {
+        Ok(path) => path.bytes() == text,
+        Err(_) => false,
+    }
+}
+
+#[test]
+fn base32_and_fold(rt: HostRuntime) {
+    let alloc = rt.alloc();
+    assert!(rt; is_spelled(&[0u8; 20], b"00000000000000000000000000000000"));
+    assert!(rt; is_one_spelled(0, 0x1f, b"0000000000000000000000000000000z"));
+    assert!(rt; is_one_spelled(19, 0x80, b"h0000000000000000000000000000000"));
+    assert!(rt;
+        is_fold_spelled(
+            "ba7816bf8f01cfea414140de5dae2223b00361a396177a9cb410ff61f20015ad",
+            b"ldhh7c134ap5swsm86rqnc0i7cinqvrc"
+        )
+    );
+    assert!(rt;
+        is_path(
+            path_of_abc(alloc, b"a.drv"),
+            b"/nix/store/ksk8w77r76wqqg8g8nrbfcvjjba6ii14-a.drv"
+        )
+    );
+    assert!(rt; path_of_abc(alloc, b"a b").err() == Some(PathError::Name));
+}
+
+/// A text of the store directory, 32 times the digit, a dash and a name of this many letters `n`.
+fn path_text(alloc: Global, digit: u8, name_length: usize) -> Result<Vec<u8>, AllocError> {
+    let mut text = Vec::from_slice(alloc, b"/nix/store/")?;
+    for _ in 0..32 {
+        text.push(digit)?;
+    }
+    text.push(b'-')?;
+    for _ in 0..name_length {
+        text.push(b'n')?;
+    }
+    Ok(text)
+}
+
+/// The path of that text.
+fn path_of(alloc: Global, digit: u8, name_length: usize) -> Result<StorePath, PathError> {
+    let text = path_text(alloc, digit, name_length)?;
+    StorePath::parse(alloc, text.as_slice())
+}
+
+/// The length of a path.
+fn length_of(answer: Result<StorePath, PathError>) -> Result<usize, PathError> {
+    match answer {
+        Ok(path) => Ok(path.bytes().len()),
+        Err(why) => Err(why),
+    }
+}
+
+/// Whether a path is equal to its copy.
+fn is_copied(path: &StorePath) -> bool {
+    match path.try_clone() {
+        Ok(copy) => copy == *path,
+        Err(_) => false,
+    }
+}
+
+/// Whether an answer is the path of a derivation with the name `.drv`, and is copied.
+fn is_nameless(answer: Result<StorePath, PathError>) -> bool {
+    match answer {
+        Ok(path) => path.name() == b".drv".as_slice() && path.is_drv() && is_copied(&path),
+        Err(_) => false,
+    }
+}
+
+#[test]
+fn store_path_names(rt: HostRuntime) {
+    let alloc = rt.alloc();
+    assert!(rt; length_of(path_of(alloc, b'p', 211)) == Ok(255));
+    assert!(rt; length_of(path_of(alloc, b'p', 212)) == Err(PathError::Name));
+    assert!(rt; length_of(path_of(alloc, b'p', 0)) == Err(PathError::Name));
+    assert!(rt; length_of(path_of(alloc, b'e', 1)) == Err(PathError::Digest));
+    let cut = StorePath::parse(alloc, b"/nix/stor/");
+    assert!(rt; length_of(cut) == Err(PathError::Prefix));
+    assert!(rt; length_of(StorePath::parse(alloc, b"")) == Err(PathError::Prefix));
+    let hidden = b"/nix/store/pppppppppppppppppppppppppppppppp-.drv";
+    assert!(rt; is_nameless(StorePath::parse(alloc, hidden)));
+    assert!(rt; is_printed(alloc, &PathError::Digest, "Digest"));
+}
+
+/// The set of the paths with these digits.
+fn set_of(alloc: Global, digits: &[u8]) -> Result<PathSet, PathError> {
+    let mut paths = Vec::new(alloc);
+    for digit in digits {
+        paths.push(path_of(alloc, *digit, 1)?)?;
+    }
+    Ok(PathSet::from_vec(paths)?)
+}
+
+/// Whether the set has the path with this digit.
+fn has_digit(alloc: Global, set: &PathSet, digit: u8) -> Option<bool> {
+    match path_of(alloc, digit, 1) {
+        Ok(path) => Some(set.contains(&path)),
+        Err(_) => None,
+    }
+}
+
+/// Whether the set has each of its paths.
+fn has_its_own(set: &PathSet) -> bool {
+    for path in set.as_slice() {
+        if !set.contains(path) {
+            return false;
+        }
+    }
+    true
+}
+
+/// Whether a set of three is equal to its copy, and the copy is given back as three paths.
+fn is_set_copied(set: &PathSet) -> bool {
+    match set.try_clone() {
+        Ok(copy) => copy == *set && copy.into_vec().len() == 3,
+        Err(_) => false,
+    }
+}
+
+/// Whether a set has three paths, but not the one with the digit `r`.
+fn is_set_of_three(alloc: Global, set: &PathSet) -> bool {
+    set.len() == 3
+        && has_digit(alloc, set, b'r') == Some(false)
+        && has_its_own(set)
+        && is_set_copied(set)
+}
+
+/// The same of an answer.
+fn is_three(alloc: Global, answer: Result<PathSet, PathError>) -> bool {
+    match answer {
+        Ok(set) => is_set_of_three(alloc, &set),
+        Err(_) => false,
+    }
+}
+
+#[test]
+fn sets_of_paths(rt: HostRuntime) {
+    let alloc = rt.alloc();
+    assert!(rt; is_three(alloc, set_of(alloc, &[b's', b'q', b's', b'p'])));
+    assert!(rt; PathSet::new(alloc).is_empty());
+}

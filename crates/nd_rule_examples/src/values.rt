@@ -1,0 +1,45 @@
+//! What the examples of several crates start from, and printed texts.
+
+use nd_bytes::ByteString;
+use nd_eligible::{Need, words};
+use nd_machines::{Machine, MachineError, parse_builders};
+use std::alloc::{AllocError, Global};
+use std::fmt;
+
+/// The machines of a builders list, on an `x86_64-linux` machine.
+pub fn machines_of(alloc: Global, text: &[u8]) -> Result<Vec<Machine>, MachineError> {
+    parse_builders(alloc, text, b"x86_64-linux")
+}
+
+/// The last machine of a list.
+pub fn last_machine(alloc: Global, text: &[u8]) -> Option<Machine> {
+    match machines_of(alloc, text) {
+        Ok(mut machines) => machines.pop(),
+        Err(_) => None,
+    }
+}
+
+/// A need for this platform and these features.
+pub fn need_of(alloc: Global, system: &[u8], features: &[u8]) -> Result<Need, AllocError> {
+    let system = ByteString::from_slice(alloc, system)?;
+    let features = words(alloc, features)?;
+    Ok(Need {
+        system,
+        features,
+        prefer_local: false,
+        builtin: false,
+    })
+}
+
+/// The need of a plain `x86_64-linux` derivation.
+pub fn plain_need(alloc: Global) -> Result<Need, AllocError> {
+    need_of(alloc, b"x86_64-linux", b"")
+}
+
+/// Whether a value is printed so. Want of memory is a no.
+pub fn is_printed<T: fmt::Display>(alloc: Global, value: &T, text: &str) -> bool {
+    match format!(in alloc; "{value}") {
+        Ok(printed) => printed.as_str() == text,
+        Err(_) => false,
+    }
+}
