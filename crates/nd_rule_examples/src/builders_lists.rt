@@ -1,20 +1,26 @@
-//! The worked examples of builders lists.
+//! The worked examples of builders lists. Want of memory is a no.
 
-use crate::values::{is_printed, last_machine, machines_of};
+use crate::values::{is_listed, is_printed, last_machine, machines_of};
 use nd_machines::{FeatureSet, Machine, MachineError};
 use std::alloc::{AllocError, Global};
 
-/// What a list is refused for.
-fn refusal(alloc: Global, text: &[u8]) -> Option<MachineError> {
-    machines_of(alloc, text).err()
-}
-
 /// Whether a list is refused so.
-fn is_refused(alloc: Global, text: &[u8], why: MachineError) -> bool {
-    refusal(alloc, text) == Some(why)
+fn is_refused(alloc: Global, text: &[u8], refusal: MachineError) -> bool {
+    match machines_of(alloc, text) {
+        Ok(_) => false,
+        Err(why) => why == refusal,
+    }
 }
 
-/// Whether the last machine of a list has this URI. Want of memory is a no, as everywhere below.
+/// Whether a list is taken, as one of this many machines.
+fn is_taken(alloc: Global, text: &[u8], count: usize) -> bool {
+    match machines_of(alloc, text) {
+        Ok(machines) => machines.len() == count,
+        Err(_) => false,
+    }
+}
+
+/// Whether the last machine of a list has this URI.
 fn has_uri(alloc: Global, text: &[u8], uri: &[u8]) -> bool {
     match last_machine(alloc, text) {
         Some(machine) => machine.uri() == uri,
@@ -30,14 +36,6 @@ fn has_defaults(machine: &Machine) -> bool {
         && machine.supported().is_empty()
         && machine.mandatory().is_empty()
         && machine.host_key().is_none()
-}
-
-/// Whether a set has just the items of a list.
-fn is_listed(alloc: Global, set: &FeatureSet, list: &[u8]) -> bool {
-    match FeatureSet::from_list(alloc, list) {
-        Ok(listed) => *set == listed,
-        Err(_) => false,
-    }
 }
 
 /// Whether the last machine of a list has the defaults, and the local system.
@@ -66,47 +64,35 @@ fn builder_refusals(rt: HostRuntime) {
     assert!(rt; is_refused(alloc, b"- x86_64-linux", MachineError::Uri(1)));
     assert!(rt; is_refused(alloc, b"a;;b - - x", MachineError::Jobs(2)));
     assert!(rt; is_refused(alloc, b"@/etc/x", MachineError::Include(1)));
-    assert!(rt; refusal(alloc, b"a - - 65535").is_none());
+    assert!(rt; is_taken(alloc, b"a - - 65535", 1));
     assert!(rt; is_refused(alloc, b"a - - 65536", MachineError::Jobs(1)));
 }
 
-/// The number of machines of a list.
-fn count_of(alloc: Global, text: &[u8]) -> Result<usize, MachineError> {
-    match machines_of(alloc, text) {
-        Ok(machines) => Ok(machines.len()),
-        Err(why) => Err(why),
-    }
-}
-
-/// Whether the machine is the second one of the example of fields.
-fn is_second(alloc: Global, machine: &Machine) -> bool {
-    machine.uri() == b"ssh://b".as_slice()
-        && machine.jobs() == 2
-        && machine.speed() == 500_000
-        && is_listed(alloc, machine.supported(), b"kvm")
-        && is_listed(alloc, machine.mandatory(), b"kvm")
-}
-
-/// Whether the last machine of a list is that one.
-fn is_last_second(alloc: Global, text: &[u8]) -> bool {
+/// Whether the last machine of a list is the second one of the example of fields.
+fn is_second(alloc: Global, text: &[u8]) -> bool {
     match last_machine(alloc, text) {
-        Some(machine) => is_second(alloc, &machine),
+        Some(machine) => {
+            machine.uri() == b"ssh://b".as_slice()
+                && machine.jobs() == 2
+                && machine.speed() == 500_000
+                && is_listed(alloc, machine.supported(), b"kvm")
+                && is_listed(alloc, machine.mandatory(), b"kvm")
+        }
         None => false,
     }
 }
 
 #[test]
 fn builder_fields(rt: HostRuntime) {
-    let alloc = rt.alloc();
     let text = b"a ; b - - 2 0.5 kvm kvm # c ; d";
-    assert!(rt; count_of(alloc, text) == Ok(2));
-    assert!(rt; is_last_second(alloc, text));
+    assert!(rt; is_taken(rt.alloc(), text, 2));
+    assert!(rt; is_second(rt.alloc(), text));
 }
 
 #[test]
 fn builder_speeds(rt: HostRuntime) {
     let alloc = rt.alloc();
-    assert!(rt; refusal(alloc, b"a - - 1 1000000").is_none());
+    assert!(rt; is_taken(alloc, b"a - - 1 1000000", 1));
     for text in [
         b"a - - 1 1000000.000001".as_slice(),
         b"a - - 1 0".as_slice(),
@@ -119,7 +105,7 @@ fn builder_speeds(rt: HostRuntime) {
 }
 
 /// A list of this many machines.
-fn list_of(alloc: Global, count: u32) -> Result<Vec<u8>, AllocError> {
+fn list_of(alloc: Global, count: usize) -> Result<Vec<u8>, AllocError> {
     let mut text = Vec::new(alloc);
     for _ in 0..count {
         text.extend_from_slice(b"m;")?;
@@ -127,19 +113,19 @@ fn list_of(alloc: Global, count: u32) -> Result<Vec<u8>, AllocError> {
     Ok(text)
 }
 
-/// What a list of this many machines is refused for.
-fn refusal_of(alloc: Global, count: u32) -> Option<MachineError> {
-    match list_of(alloc, count) {
-        Ok(text) => refusal(alloc, text.as_slice()),
-        Err(_) => Some(MachineError::Memory),
+/// Whether a list of 1,024 machines is taken, and one of 1,025 is refused.
+fn is_limited(alloc: Global) -> bool {
+    match (list_of(alloc, 1_024), list_of(alloc, 1_025)) {
+        (Ok(most), Ok(more)) => {
+            is_taken(alloc, &most, 1_024) && is_refused(alloc, &more, MachineError::TooMany(1_025))
+        }
+        _ => false,
     }
 }
 
 #[test]
 fn builder_limit(rt: HostRuntime) {
-    let alloc = rt.alloc();
-    assert!(rt; refusal_of(alloc, 1_024).is_none());
-    assert!(rt; refusal_of(alloc, 1_025) == Some(MachineError::TooMany(1_025)));
+    assert!(rt; is_limited(rt.alloc()));
 }
 
 /// Whether the fields that the other examples leave out are those of the list below.

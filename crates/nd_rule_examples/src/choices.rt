@@ -1,42 +1,35 @@
-//! The worked examples of the choice.
+//! The worked examples of the choice. Want of memory is a no.
 
 use crate::values::{machines_of, plain_need};
 use nd_choose::{beats, choose, choose_in};
 use nd_machines::Machine;
 use std::alloc::Global;
 
-/// What is chosen of two machines for a plain need: `None` for want of memory, or where there aren't
-/// two.
-fn chosen(
+/// Whether this is chosen of two machines for a plain need.
+fn is_chosen(
     alloc: Global,
     machines: &[Machine],
     loads: &[u32; 2],
     up: &[bool; 2],
-) -> Option<Option<usize>> {
+    want: Option<usize>,
+) -> bool {
     if machines.len() != 2 {
-        return None;
+        return false;
     }
     match plain_need(alloc) {
-        Ok(need) => Some(choose(machines, loads, up, &need)),
-        Err(_) => None,
+        Ok(need) => choose(machines, loads, up, &need) == want,
+        Err(_) => false,
     }
-}
-
-/// What is chosen among both of two machines that are up: `None` where there aren't two.
-fn chosen_of_both(machines: &[Machine], loads: &[u32; 2]) -> Option<Option<usize>> {
-    if machines.len() != 2 {
-        return None;
-    }
-    Some(choose_in(machines, &[0, 1], loads, &[true, true]))
 }
 
 /// Whether both choices are this place of two machines that are up.
 fn is_best(alloc: Global, machines: &[Machine], loads: &[u32; 2], place: usize) -> bool {
-    chosen(alloc, machines, loads, &[true, true]) == Some(Some(place))
-        && chosen_of_both(machines, loads) == Some(Some(place))
+    machines.len() == 2
+        && is_chosen(alloc, machines, loads, &[true, true], Some(place))
+        && choose_in(machines, &[0, 1], loads, &[true, true]) == Some(place)
 }
 
-/// The same of a list of two machines. Want of memory is a no.
+/// The same of a list of two machines.
 fn is_best_of(alloc: Global, list: &[u8], loads: &[u32; 2], place: usize) -> bool {
     match machines_of(alloc, list) {
         Ok(machines) => is_best(alloc, &machines, loads, place),
@@ -60,33 +53,30 @@ fn is_only_choice(machines: &[Machine]) -> bool {
         && choose_in(machines, &[], &[1, 1], &[true, true]).is_none()
 }
 
-/// Whether of these two machines the first is the best, then the second, and neither when both are
-/// full.
-fn are_equals(alloc: Global, machines: &[Machine]) -> bool {
-    is_best(alloc, machines, &[1, 1], 0)
-        && chosen(alloc, machines, &[1, 1], &[false, true]) == Some(Some(1))
-        && chosen(alloc, machines, &[2, 2], &[true, true]) == Some(None)
-        && is_only_choice(machines)
-}
-
-/// The same of a list of two machines. Want of memory is a no.
-fn are_equals_of(alloc: Global, list: &[u8]) -> bool {
+/// Whether of the two machines of a list the first is the best, then the second, and neither when both
+/// are full.
+fn are_equals(alloc: Global, list: &[u8]) -> bool {
     match machines_of(alloc, list) {
-        Ok(machines) => are_equals(alloc, &machines),
+        Ok(machines) => {
+            is_best(alloc, &machines, &[1, 1], 0)
+                && is_chosen(alloc, &machines, &[1, 1], &[false, true], Some(1))
+                && is_chosen(alloc, &machines, &[2, 2], &[true, true], None)
+                && is_only_choice(&machines)
+        }
         Err(_) => false,
     }
 }
 
-/// What is chosen of no machines.
-fn chosen_of_none(alloc: Global) -> Option<Option<usize>> {
+/// Whether nothing is chosen of no machines.
+fn is_none_chosen(alloc: Global) -> bool {
     match plain_need(alloc) {
-        Ok(need) => Some(choose(&[], &[], &[], &need)),
-        Err(_) => None,
+        Ok(need) => choose(&[], &[], &[], &need).is_none(),
+        Err(_) => false,
     }
 }
 
 #[test]
 fn earliest_of_equals(rt: HostRuntime) {
-    assert!(rt; are_equals_of(rt.alloc(), b"a - - 2;b - - 2"));
-    assert!(rt; chosen_of_none(rt.alloc()) == Some(None));
+    assert!(rt; are_equals(rt.alloc(), b"a - - 2;b - - 2"));
+    assert!(rt; is_none_chosen(rt.alloc()));
 }

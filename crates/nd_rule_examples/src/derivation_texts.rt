@@ -1,4 +1,4 @@
-//! The worked examples of derivation texts.
+//! The worked examples of derivation texts. Want of memory is a no.
 
 use nd_aterm::{AtermError, Derivation, EnvEntry, Parts, parse, write};
 use nd_bytes::{ByteString, Items};
@@ -6,36 +6,22 @@ use std::alloc::{AllocError, Global};
 
 const SMALLEST: &[u8] = b"Derive([],[],[],\"s\",\"b\",[],[])";
 
-/// The parts of the smallest derivation, with this platform, builder and environment.
-fn parts(alloc: Global, platform: ByteString, builder: ByteString, env: Items<EnvEntry>) -> Parts {
-    Parts {
+/// The smallest derivation, with this platform and environment.
+fn smallest(alloc: Global, platform: &[u8], env: Vec<EnvEntry>) -> Result<Derivation, AtermError> {
+    let platform = ByteString::from_slice(alloc, platform)?;
+    let builder = ByteString::from_slice(alloc, b"b")?;
+    Derivation::new(Parts {
         outputs: Items::new(Vec::new(alloc)),
         input_drvs: Items::new(Vec::new(alloc)),
         input_srcs: Items::new(Vec::new(alloc)),
         platform,
         builder,
         args: Items::new(Vec::new(alloc)),
-        env,
-    }
+        env: Items::new(env),
+    })
 }
 
-/// The smallest derivation, with this platform and environment.
-fn smallest(
-    alloc: Global,
-    platform: &[u8],
-    env: Items<EnvEntry>,
-) -> Result<Derivation, AtermError> {
-    let platform = ByteString::from_slice(alloc, platform)?;
-    let builder = ByteString::from_slice(alloc, b"b")?;
-    Derivation::new(parts(alloc, platform, builder, env))
-}
-
-/// The smallest derivation, with this platform and no environment.
-fn with_platform(alloc: Global, platform: &[u8]) -> Result<Derivation, AtermError> {
-    smallest(alloc, platform, Items::new(Vec::new(alloc)))
-}
-
-/// Whether a derivation has this text. Want of memory is a no, as everywhere below.
+/// Whether a derivation has this text.
 fn is_written(alloc: Global, derivation: &Derivation, text: &[u8]) -> bool {
     match write(alloc, derivation) {
         Ok(written) => written.as_slice() == text,
@@ -43,17 +29,14 @@ fn is_written(alloc: Global, derivation: &Derivation, text: &[u8]) -> bool {
     }
 }
 
-/// Whether this is the smallest derivation.
-fn is_smallest(alloc: Global, derivation: &Derivation) -> bool {
-    derivation.platform.as_slice() == b"s".as_slice()
-        && derivation.builder.as_slice() == b"b".as_slice()
-        && is_written(alloc, derivation, SMALLEST)
-}
-
 /// Whether this is the smallest derivation, and nothing that was refused.
-fn is_smallest_one(alloc: Global, answer: Result<Derivation, AtermError>) -> bool {
+fn is_smallest(alloc: Global, answer: Result<Derivation, AtermError>) -> bool {
     match answer {
-        Ok(derivation) => is_smallest(alloc, &derivation),
+        Ok(derivation) => {
+            derivation.platform.as_slice() == b"s".as_slice()
+                && derivation.builder.as_slice() == b"b".as_slice()
+                && is_written(alloc, &derivation, SMALLEST)
+        }
         Err(_) => false,
     }
 }
@@ -62,8 +45,8 @@ fn is_smallest_one(alloc: Global, answer: Result<Derivation, AtermError>) -> boo
 fn smallest_derivation(rt: HostRuntime) {
     let alloc = rt.alloc();
     assert_eq!(rt; SMALLEST.len(), 30);
-    assert!(rt; is_smallest_one(alloc, parse(alloc, SMALLEST)));
-    assert!(rt; is_smallest_one(alloc, with_platform(alloc, b"s")));
+    assert!(rt; is_smallest(alloc, parse(alloc, SMALLEST)));
+    assert!(rt; is_smallest(alloc, smallest(alloc, b"s", Vec::new(alloc))));
 }
 
 /// The value of the example of escapes.
@@ -80,47 +63,24 @@ fn escaped(alloc: Global) -> Result<Vec<u8>, AllocError> {
     Ok(text)
 }
 
-/// An entry of an environment.
-fn entry(alloc: Global, key: &[u8], value: &[u8]) -> Result<EnvEntry, AllocError> {
-    let key = ByteString::from_slice(alloc, key)?;
-    let value = ByteString::from_slice(alloc, value)?;
-    Ok(EnvEntry { key, value })
-}
-
-/// The environment of that value under the key `k`.
-fn environment(alloc: Global) -> Result<Items<EnvEntry>, AllocError> {
-    let entry = entry(alloc, b"k", &VALUE)?;
-    let mut env = Vec::new(alloc);
-    env.push(entry)?;
-    Ok(Items::new(env))
-}
-
-/// The smallest derivation with this environment.
+/// The smallest derivation with that value under the key `k`.
 fn with_value(alloc: Global) -> Result<Derivation, AtermError> {
-    let env = environment(alloc)?;
+    let key = ByteString::from_slice(alloc, b"k")?;
+    let value = ByteString::from_slice(alloc, &VALUE)?;
+    let mut env = Vec::new(alloc);
+    env.push(EnvEntry { key, value })?;
     smallest(alloc, b"s", env)
 }
 
-/// Whether the derivation with the value is written as this text.
-fn escapes_as(alloc: Global, text: &[u8]) -> bool {
-    match with_value(alloc) {
-        Ok(made) => is_written(alloc, &made, text),
-        Err(_) => false,
-    }
-}
-
-/// Whether this is an environment of one entry, which has the value.
-fn has_value(env: &[EnvEntry]) -> bool {
-    match env {
-        [entry] => entry.value.as_slice() == VALUE.as_slice(),
-        _ => false,
-    }
-}
-
-/// Whether the text is read as a derivation with that environment.
-fn reads_value(alloc: Global, text: &[u8]) -> bool {
-    match parse(alloc, text) {
-        Ok(read) => has_value(read.env.as_slice()),
+/// Whether this is a derivation with this text and an environment of one entry, which has the value.
+fn has_value(alloc: Global, answer: Result<Derivation, AtermError>, text: &[u8]) -> bool {
+    match answer {
+        Ok(derivation) => match derivation.env.as_slice() {
+            [entry] => {
+                entry.value.as_slice() == VALUE.as_slice() && is_written(alloc, &derivation, text)
+            }
+            _ => false,
+        },
         Err(_) => false,
     }
 }
@@ -128,7 +88,10 @@ fn reads_value(alloc: Global, text: &[u8]) -> bool {
 /// Whether the value is escaped so, and read back.
 fn is_escaped(alloc: Global) -> bool {
     match escaped(alloc) {
-        Ok(text) => escapes_as(alloc, text.as_slice()) && reads_value(alloc, text.as_slice()),
+        Ok(text) => {
+            has_value(alloc, with_value(alloc), &text)
+                && has_value(alloc, parse(alloc, &text), &text)
+        }
         Err(_) => false,
     }
 }
@@ -192,55 +155,61 @@ fn long_text(alloc: Global, platform: &[u8]) -> Result<Vec<u8>, AllocError> {
     Ok(text)
 }
 
-/// Whether the text is read, and its platform has this many letters.
-fn reads_letters(alloc: Global, text: &[u8], letters: usize) -> bool {
-    match parse(alloc, text) {
-        Ok(read) => read.platform.len() == letters,
+/// Whether this is a derivation with this text and a platform of 16,777,187 letters.
+fn is_longest(alloc: Global, answer: Result<Derivation, AtermError>, text: &[u8]) -> bool {
+    match answer {
+        Ok(derivation) => {
+            derivation.platform.len() == 16_777_187 && is_written(alloc, &derivation, text)
+        }
         Err(_) => false,
     }
 }
 
-/// The length of the text that is written of the smallest derivation with this platform.
-fn written_length(alloc: Global, platform: &[u8]) -> Result<usize, AtermError> {
-    let made = with_platform(alloc, platform)?;
-    match write(alloc, &made) {
-        Ok(text) => Ok(text.len()),
-        Err(why) => Err(why),
-    }
-}
-
-/// Whether this text, of the smallest derivation with this platform, is taken at the limit's length.
-fn is_taken(alloc: Global, platform: &[u8], text: &[u8]) -> bool {
-    text.len() == 16_777_216
-        && reads_letters(alloc, text, 16_777_187)
-        && written_length(alloc, platform) == Ok(16_777_216)
-}
-
-/// Whether the same is refused as too long.
-fn is_too_long(alloc: Global, platform: &[u8], text: &[u8]) -> bool {
-    is_refused(alloc, text, AtermError::TooLong)
-        && written_length(alloc, platform) == Err(AtermError::TooLong)
-}
-
-/// Whether the smallest derivation with this platform is taken, or is refused as too long.
-fn is_limited(alloc: Global, platform: &[u8], accepted: bool) -> bool {
+/// Whether the smallest derivation with this platform is read and written at the limit's length.
+fn is_taken(alloc: Global, platform: &[u8]) -> bool {
     match long_text(alloc, platform) {
-        Ok(text) if accepted => is_taken(alloc, platform, text.as_slice()),
-        Ok(text) => is_too_long(alloc, platform, text.as_slice()),
+        Ok(text) => {
+            text.len() == 16_777_216
+                && is_longest(alloc, parse(alloc, &text), &text)
+                && is_longest(alloc, smallest(alloc, platform, Vec::new(alloc)), &text)
+        }
         Err(_) => false,
     }
 }
 
-/// The same with a platform of this many letters.
-fn are_limited(alloc: Global, letters: usize, accepted: bool) -> bool {
+/// Whether this is a derivation whose text is too long to be written.
+fn is_unwritten(alloc: Global, answer: Result<Derivation, AtermError>) -> bool {
+    match answer {
+        Ok(derivation) => match write(alloc, &derivation) {
+            Ok(_) => false,
+            Err(why) => why == AtermError::TooLong,
+        },
+        Err(_) => false,
+    }
+}
+
+/// Whether the smallest derivation with this platform is neither read nor written.
+fn is_too_long(alloc: Global, platform: &[u8]) -> bool {
+    match long_text(alloc, platform) {
+        Ok(text) => {
+            is_refused(alloc, &text, AtermError::TooLong)
+                && is_unwritten(alloc, smallest(alloc, platform, Vec::new(alloc)))
+        }
+        Err(_) => false,
+    }
+}
+
+/// Whether the smallest derivation with a platform of this many letters is taken, or is too long.
+fn is_limited(alloc: Global, letters: usize, accepted: bool) -> bool {
     match vec![in alloc; b's'; letters] {
-        Ok(platform) => is_limited(alloc, platform.as_slice(), accepted),
+        Ok(platform) if accepted => is_taken(alloc, &platform),
+        Ok(platform) => is_too_long(alloc, &platform),
         Err(_) => false,
     }
 }
 
 #[test]
 fn limits(rt: HostRuntime) {
-    assert!(rt; are_limited(rt.alloc(), 16_777_187, true));
-    assert!(rt; are_limited(rt.alloc(), 16_777_188, false));
+    assert!(rt; is_limited(rt.alloc(), 16_777_187, true));
+    assert!(rt; is_limited(rt.alloc(), 16_777_188, false));
 }

@@ -1,9 +1,8 @@
-//! The worked examples of eligibility.
+//! The worked examples of eligibility. Want of memory is a no.
 
-use crate::values::{last_machine, machines_of, need_of};
+use crate::values::{is_listed, last_machine, machines_of, need_of};
 use nd_bytes::ByteString;
-use nd_eligible::{Classes, FeatureSet, Local, Need, eligible, local_ok, words};
-use nd_machines::Machine;
+use nd_eligible::{Classes, Local, Need, eligible, local_ok, words};
 use std::alloc::{AllocError, Global};
 
 /// The settings of an `x86_64-linux` machine that builds for `i686-linux` too and has the feature
@@ -15,36 +14,27 @@ fn local_of(alloc: Global, jobs: u32) -> Result<Option<Local>, AllocError> {
     Ok(Local::new(system, extra, features, jobs))
 }
 
-/// Whether settings with this many jobs are taken. For want of memory there is no answer, as
-/// everywhere below where the answer is an `Option`.
-fn are_jobs_taken(alloc: Global, jobs: u32) -> Option<bool> {
+/// Whether settings with this many jobs are taken, or not.
+fn are_jobs(alloc: Global, jobs: u32, taken: bool) -> bool {
     match local_of(alloc, jobs) {
-        Ok(settings) => Some(settings.is_some()),
-        Err(_) => None,
+        Ok(settings) => settings.is_some() == taken,
+        Err(_) => false,
     }
 }
 
 #[test]
 fn local_jobs_limit(rt: HostRuntime) {
     let alloc = rt.alloc();
-    assert!(rt; are_jobs_taken(alloc, 0) == Some(true));
-    assert!(rt; are_jobs_taken(alloc, 65_535) == Some(true));
-    assert!(rt; are_jobs_taken(alloc, 65_536) == Some(false));
+    assert!(rt; are_jobs(alloc, 0, true));
+    assert!(rt; are_jobs(alloc, 65_535, true));
+    assert!(rt; are_jobs(alloc, 65_536, false));
 }
 
-/// Whether a machine may build for this platform with these features.
-fn may_build(alloc: Global, machine: &Machine, system: &[u8], features: &[u8]) -> Option<bool> {
-    match need_of(alloc, system, features) {
-        Ok(need) => Some(eligible(machine, &need)),
-        Err(_) => None,
-    }
-}
-
-/// Whether the machine of a list of one may build for this platform with these features.
-fn is_eligible(alloc: Global, list: &[u8], system: &[u8], features: &[u8]) -> Option<bool> {
-    match last_machine(alloc, list) {
-        Some(machine) => may_build(alloc, &machine, system, features),
-        None => None,
+/// Whether the machine of a list of one is, or is not, eligible for this platform and these features.
+fn is_eligible(alloc: Global, list: &[u8], system: &[u8], features: &[u8], want: bool) -> bool {
+    match (last_machine(alloc, list), need_of(alloc, system, features)) {
+        (Some(machine), Ok(need)) => eligible(&machine, &need) == want,
+        _ => false,
     }
 }
 
@@ -52,21 +42,27 @@ fn is_eligible(alloc: Global, list: &[u8], system: &[u8], features: &[u8]) -> Op
 fn mandatory_features(rt: HostRuntime) {
     let alloc = rt.alloc();
     let list = b"m - - 1 1 - kvm";
-    assert!(rt; is_eligible(alloc, list, b"x86_64-linux", b"kvm") == Some(true));
-    assert!(rt; is_eligible(alloc, list, b"x86_64-linux", b"") == Some(false));
+    assert!(rt; is_eligible(alloc, list, b"x86_64-linux", b"kvm", true));
+    assert!(rt; is_eligible(alloc, list, b"x86_64-linux", b"", false));
 }
 
 #[test]
 fn platforms(rt: HostRuntime) {
     let alloc = rt.alloc();
     let list = b"m aarch64-linux";
-    assert!(rt; is_eligible(alloc, list, b"builtin", b"") == Some(true));
-    assert!(rt; is_eligible(alloc, list, b"x86_64-linux", b"") == Some(false));
+    assert!(rt; is_eligible(alloc, list, b"builtin", b"", true));
+    assert!(rt; is_eligible(alloc, list, b"x86_64-linux", b"", false));
 }
 
-/// Needs for these platforms, without features.
-fn needs_for(alloc: Global, systems: &[&[u8]]) -> Result<Vec<Need>, AllocError> {
+/// Four needs without features.
+fn four_needs(alloc: Global) -> Result<Vec<Need>, AllocError> {
     let mut needs = Vec::new(alloc);
+    let systems: [&[u8]; 4] = [
+        b"x86_64-linux",
+        b"aarch64-linux",
+        b"x86_64-linux",
+        b"builtin",
+    ];
     for system in systems {
         let need = need_of(alloc, system, b"")?;
         needs.push(need)?;
@@ -74,39 +70,12 @@ fn needs_for(alloc: Global, systems: &[&[u8]]) -> Result<Vec<Need>, AllocError> 
     Ok(needs)
 }
 
-/// The classes of needs for these platforms over these machines.
-fn classes_over(alloc: Global, machines: &[Machine], systems: &[&[u8]]) -> Option<Classes> {
-    match needs_for(alloc, systems) {
-        Ok(needs) => Classes::new(alloc, machines, &needs).ok(),
-        Err(_) => None,
-    }
-}
-
-/// The same over the machines of a list.
-fn classes_of(alloc: Global, list: &[u8], systems: &[&[u8]]) -> Option<Classes> {
-    match machines_of(alloc, list) {
-        Ok(machines) => classes_over(alloc, &machines, systems),
-        Err(_) => None,
-    }
-}
-
-/// The classes of four needs over three machines.
+/// The classes of these needs over three machines.
 fn four_classes(alloc: Global) -> Option<Classes> {
     let list = b"a x86_64-linux;b aarch64-linux;c";
-    let systems: [&[u8]; 4] = [
-        b"x86_64-linux",
-        b"aarch64-linux",
-        b"x86_64-linux",
-        b"builtin",
-    ];
-    classes_of(alloc, list, &systems)
-}
-
-/// A copy of these classes.
-fn copied_classes(alloc: Global) -> Option<Classes> {
-    match four_classes(alloc) {
-        Some(classes) => classes.try_clone(alloc).ok(),
-        None => None,
+    match (machines_of(alloc, list), four_needs(alloc)) {
+        (Ok(machines), Ok(needs)) => Classes::new(alloc, &machines, &needs).ok(),
+        _ => None,
     }
 }
 
@@ -115,61 +84,31 @@ fn has_machines(classes: &Classes, need: usize, want: &[usize]) -> bool {
     need < classes.len() && classes.machines_of(need) == want
 }
 
-/// Whether these are the classes of the example.
-fn are_the_four(classes: &Classes) -> bool {
-    classes.len() == 4
-        && has_machines(classes, 0, &[0, 2])
-        && has_machines(classes, 1, &[1])
-        && has_machines(classes, 2, &[0, 2])
-        && has_machines(classes, 3, &[0, 1, 2])
+/// Whether a copy of these classes is that of the example.
+fn are_copied(alloc: Global, classes: &Classes) -> bool {
+    match classes.try_clone(alloc) {
+        Ok(copy) => {
+            copy.len() == 4
+                && has_machines(&copy, 0, &[0, 2])
+                && has_machines(&copy, 1, &[1])
+                && has_machines(&copy, 2, &[0, 2])
+                && has_machines(&copy, 3, &[0, 1, 2])
+        }
+        Err(_) => false,
+    }
 }
 
-/// Whether their copy is.
-fn are_copied(alloc: Global) -> bool {
-    match copied_classes(alloc) {
-        Some(copy) => are_the_four(&copy),
+/// Whether the classes are those of the example.
+fn are_classes(alloc: Global) -> bool {
+    match four_classes(alloc) {
+        Some(classes) => are_copied(alloc, &classes),
         None => false,
     }
 }
 
 #[test]
 fn machine_classes(rt: HostRuntime) {
-    assert!(rt; are_copied(rt.alloc()));
-}
-
-/// Whether the settings pass the local test for this platform and these features.
-fn passes(local: &Local, alloc: Global, system: &[u8], features: &[u8]) -> Option<bool> {
-    match need_of(alloc, system, features) {
-        Ok(need) => Some(local_ok(local, &need)),
-        Err(_) => None,
-    }
-}
-
-/// A copy of a need for the platform `builtin`, of a builtin derivation.
-fn builtin_need(alloc: Global) -> Result<Need, AllocError> {
-    let need = need_of(alloc, b"builtin", b"")?;
-    let mut copy = need.try_clone(alloc)?;
-    copy.builtin = true;
-    Ok(copy)
-}
-
-/// Whether the settings pass the local test for it. Want of memory is a no, as everywhere below.
-fn passes_builtin(local: &Local, alloc: Global) -> bool {
-    match builtin_need(alloc) {
-        Ok(need) => local_ok(local, &need),
-        Err(_) => false,
-    }
-}
-
-/// Whether the settings have one job, pass it for their own platforms, and for no other platform and
-/// no other feature.
-fn passes_its_own(local: &Local, alloc: Global) -> bool {
-    local.jobs() == 1
-        && passes(local, alloc, b"x86_64-linux", b"kvm") == Some(true)
-        && passes(local, alloc, b"i686-linux", b"") == Some(true)
-        && passes(local, alloc, b"aarch64-linux", b"") == Some(false)
-        && passes(local, alloc, b"builtin", b"") == Some(false)
-        && passes(local, alloc, b"x86_64-linux", b"big-parallel") == Some(false)
+    assert!(rt; are_classes(rt.alloc()));
 }
 
 /// A copy of settings with one job.
@@ -180,10 +119,26 @@ fn copied_settings(alloc: Global) -> Option<Local> {
     }
 }
 
-/// Whether these settings pass the local test for their own platforms and features alone.
+/// Whether the settings pass, or don't pass, the local test for this platform and these features.
+fn passes(local: &Local, alloc: Global, system: &[u8], features: &[u8], want: bool) -> bool {
+    match need_of(alloc, system, features) {
+        Ok(need) => local_ok(local, &need) == want,
+        Err(_) => false,
+    }
+}
+
+/// Whether these settings have one job, pass the local test for their own platforms, and for no other
+/// platform and no other feature.
 fn is_on_its_own(alloc: Global) -> bool {
     match copied_settings(alloc) {
-        Some(local) => passes_its_own(&local, alloc),
+        Some(local) => {
+            local.jobs() == 1
+                && passes(&local, alloc, b"x86_64-linux", b"kvm", true)
+                && passes(&local, alloc, b"i686-linux", b"", true)
+                && passes(&local, alloc, b"aarch64-linux", b"", false)
+                && passes(&local, alloc, b"builtin", b"", false)
+                && passes(&local, alloc, b"x86_64-linux", b"big-parallel", false)
+        }
         None => false,
     }
 }
@@ -193,25 +148,25 @@ fn local_platforms(rt: HostRuntime) {
     assert!(rt; is_on_its_own(rt.alloc()));
 }
 
-/// Whether these settings pass the local test for a builtin derivation.
+/// A copy of a need for the platform `builtin`, of a builtin derivation.
+fn builtin_need(alloc: Global) -> Result<Need, AllocError> {
+    let need = need_of(alloc, b"builtin", b"")?;
+    let mut copy = need.try_clone(alloc)?;
+    copy.builtin = true;
+    Ok(copy)
+}
+
+/// Whether these settings pass the local test for it.
 fn is_builtin_taken(alloc: Global) -> bool {
-    match copied_settings(alloc) {
-        Some(local) => passes_builtin(&local, alloc),
-        None => false,
+    match (copied_settings(alloc), builtin_need(alloc)) {
+        (Some(local), Ok(need)) => local_ok(&local, &need),
+        _ => false,
     }
 }
 
 #[test]
 fn builtin_derivations(rt: HostRuntime) {
     assert!(rt; is_builtin_taken(rt.alloc()));
-}
-
-/// Whether a set has just the items of a list.
-fn is_listed(alloc: Global, set: &FeatureSet, list: &[u8]) -> bool {
-    match FeatureSet::from_list(alloc, list) {
-        Ok(listed) => *set == listed,
-        Err(_) => false,
-    }
 }
 
 /// Whether the words of a text are the items of a list.

@@ -1,4 +1,4 @@
-//! The worked examples of replies, and devices that refuse.
+//! The worked examples of replies, and devices that refuse. Want of memory is a no.
 
 use crate::values::{is_printed, machines_of, plain_need};
 use nd_hook::{
@@ -9,17 +9,22 @@ use nd_machines::Machine;
 use std::alloc::{AllocError, Global};
 use std::io;
 
-/// Whether a reply on at most one idle machine about a plain need is this. Want of memory is a no, as
-/// everywhere below.
-fn is_idle_reply(alloc: Global, machines: &[Machine], told: Reply) -> bool {
+/// Whether this is the reply about a plain need on at most one machine, with this load and up or not.
+fn is_reply(
+    alloc: Global,
+    machines: &[Machine],
+    machine: (u32, bool),
+    loc_free: bool,
+    want: Reply,
+) -> bool {
     let count = machines.len();
     if count > 1 {
         return false;
     }
-    let loads = [0];
-    let ups = [true];
+    let loads = [machine.0];
+    let ups = [machine.1];
     match plain_need(alloc) {
-        Ok(need) => reply(machines, &loads[..count], &ups[..count], &need, false) == told,
+        Ok(need) => reply(machines, &loads[..count], &ups[..count], &need, loc_free) == want,
         Err(_) => false,
     }
 }
@@ -42,7 +47,8 @@ fn is_written(alloc: Global, machines: &[Machine], told: Reply, text: &[u8]) -> 
 fn is_told(alloc: Global, list: &[u8], told: Reply, text: &[u8]) -> bool {
     match machines_of(alloc, list) {
         Ok(machines) => {
-            is_idle_reply(alloc, &machines, told) && is_written(alloc, &machines, told, text)
+            is_reply(alloc, &machines, (0, true), false, told)
+                && is_written(alloc, &machines, told, text)
         }
         Err(_) => false,
     }
@@ -58,84 +64,51 @@ fn idle_replies(rt: HostRuntime) {
     assert!(rt; is_told(alloc, b"m", Reply::Accept(0), b"# accept\nssh://m\n"));
 }
 
-/// One machine and the local one as a reply and a decision see them: the machine's load and whether it
-/// is up, whether the derivation prefers the local machine, and whether that may build it and is free.
-#[derive(Clone, Copy)]
-struct Seen {
-    load: u32,
-    up: bool,
-    prefer_local: bool,
-    loc: bool,
-    loc_free: bool,
-}
-
-/// The reply on one machine: `None` for want of memory, or where there isn't one.
-fn reply_on(alloc: Global, machines: &[Machine], seen: Seen) -> Option<Reply> {
-    if machines.len() != 1 {
-        return None;
-    }
-    match plain_need(alloc) {
-        Ok(need) => { Some(reply(machines, &[seen.load], &[seen.up], &need, seen.loc_free)) }
-        Err(_) => None,
-    }
-}
-
-/// The decision on one machine: `None` for want of memory, where there isn't one, or where the local
-/// machine is free but may not build the derivation.
-fn decision_on(alloc: Global, machines: &[Machine], seen: Seen) -> Option<Decision> {
-    let Seen { loc, loc_free, .. } = seen;
-    if machines.len() != 1 || (loc_free && !loc) {
-        return None;
-    }
-    match plain_need(alloc) {
-        Ok(mut need) => {
-            need.prefer_local = seen.prefer_local;
-            Some(decide(machines, &[seen.load], &[seen.up], &need, loc, loc_free))
-        }
-        Err(_) => None,
-    }
-}
-
-/// The reply on the machine `m`.
-fn replied(alloc: Global, load: u32, up: bool, loc_free: bool) -> Option<Reply> {
-    let seen = Seen {
-        load,
-        up,
-        prefer_local: false,
-        loc: loc_free,
-        loc_free,
-    };
-    match machines_of(alloc, b"m") {
-        Ok(machines) => reply_on(alloc, &machines, seen),
-        Err(_) => None,
-    }
-}
-
-/// The decision on the machine `m`.
-fn decided(alloc: Global, seen: Seen) -> Option<Decision> {
-    match machines_of(alloc, b"m") {
-        Ok(machines) => decision_on(alloc, &machines, seen),
-        Err(_) => None,
-    }
-}
-
-/// Whether replies and decisions keep to the places that they are given, of one machine.
-fn keeps_to_places(machines: &[Machine]) -> bool {
+/// Whether these are the replies on one machine that is full, or down, and those and the decision at
+/// its place and at none.
+fn are_replies(alloc: Global, machines: &[Machine]) -> bool {
     machines.len() == 1
+        && is_reply(alloc, machines, (1, true), false, Reply::Postpone)
+        && is_reply(alloc, machines, (1, true), true, Reply::Decline)
+        && is_reply(alloc, machines, (0, false), false, Reply::Decline)
         && reply_in(machines, &[0], &[1], &[true], false) == Reply::Postpone
         && reply_in(machines, &[], &[1], &[true], false) == Reply::Decline
         && decide_in(machines, &[], &[0], &[true], false, false, false) == Decision::NoBuilder
 }
 
 /// The same of the machine `m`.
-fn are_places_kept(alloc: Global) -> bool {
+fn are_told(alloc: Global) -> bool {
     match machines_of(alloc, b"m") {
-        Ok(machines) => keeps_to_places(&machines),
+        Ok(machines) => are_replies(alloc, &machines),
         Err(_) => false,
     }
 }
 
-/// Whether the decision on the machine `m` is this.
+/// Whether this is the decision on one machine, with this load and up or not, about a plain need with
+/// this preference, and by whether the local machine may build it and is free.
+fn is_decision(
+    alloc: Global,
+    machines: &[Machine],
+    machine: (u32, bool),
+    prefer_local: bool,
+    local: (bool, bool),
+    want: Decision,
+) -> bool {
+    let (load, up) = machine;
+    let (loc, loc_free) = local;
+    if machines.len() != 1 || (loc_free && !loc) {
+        return false;
+    }
+    match plain_need(alloc) {
+        Ok(mut need) => {
+            need.prefer_local = prefer_local;
+            decide(machines, &[load], &[up], &need, loc, loc_free) == want
+        }
+        Err(_) => false,
+    }
+}
+
+/// The same of the machine `m`.
 fn is_decided(
     alloc: Global,
     machine: (u32, bool),
@@ -143,23 +116,15 @@ fn is_decided(
     local: (bool, bool),
     want: Decision,
 ) -> bool {
-    let seen = Seen {
-        load: machine.0,
-        up: machine.1,
-        prefer_local,
-        loc: local.0,
-        loc_free: local.1,
-    };
-    decided(alloc, seen) == Some(want)
+    match machines_of(alloc, b"m") {
+        Ok(machines) => is_decision(alloc, &machines, machine, prefer_local, local, want),
+        Err(_) => false,
+    }
 }
 
 #[test]
 fn full_machines(rt: HostRuntime) {
-    let alloc = rt.alloc();
-    assert!(rt; replied(alloc, 1, true, false) == Some(Reply::Postpone));
-    assert!(rt; replied(alloc, 1, true, true) == Some(Reply::Decline));
-    assert!(rt; replied(alloc, 0, false, false) == Some(Reply::Decline));
-    assert!(rt; are_places_kept(alloc));
+    assert!(rt; are_told(rt.alloc()));
     for (machine, prefer_local, local, want) in [
         ((0, true), false, (true, true), Decision::Remote(0)),
         ((1, true), false, (true, true), Decision::Local),
@@ -259,19 +224,14 @@ fn is_marked_by_more(mut out: Told<Short>) -> bool {
     empty == Ok(0) && !early && more == Err(Fault) && out.marked()
 }
 
-/// The number of bytes that were read, and the refusal where they weren't.
-fn count_of(answer: Result<Vec<u8>, TakeError>) -> Result<usize, TakeError> {
-    match answer {
-        Ok(bytes) => Ok(bytes.len()),
-        Err(why) => Err(why),
-    }
-}
-
 /// Whether this is read of a reader that refuses after this many calls, which is then marked exactly
 /// where that is a refusal.
 fn is_dripped(alloc: Global, left: usize, limit: usize, want: Result<usize, TakeError>) -> bool {
     let mut input = Told::new(Dripping { left });
-    let count = count_of(input.take_all(alloc, limit));
+    let count = match input.take_all(alloc, limit) {
+        Ok(bytes) => Ok(bytes.len()),
+        Err(why) => Err(why),
+    };
     count == want && input.marked() == want.is_err()
 }
 

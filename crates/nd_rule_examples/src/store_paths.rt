@@ -1,4 +1,4 @@
-//! The worked examples of store paths.
+//! The worked examples of store paths. Want of memory is a no.
 
 use crate::values::is_printed;
 use nd_path::{PathError, PathSet, StorePath, base32, fold, text_path};
@@ -9,15 +9,6 @@ const REFERENCE: &[u8; 46] = b"/nix/store/pppppppppppppppppppppppppppppppp-s1";
 /// Whether the bytes are spelled so.
 fn is_spelled(bytes: &[u8; 20], text: &[u8; 32]) -> bool {
     base32(bytes).as_slice() == text.as_slice()
-}
-
-/// Whether the bytes are spelled so that are zero but for one.
-fn is_one_spelled(place: usize, byte: u8, text: &[u8; 32]) -> bool {
-    let mut bytes = [0u8; 20];
-    if place < 20 {
-        bytes[place] = byte;
-    }
-    is_spelled(&bytes, text)
 }
 
 /// Whether the fold of a digest, given in hexadecimal digits, is spelled so.
@@ -34,7 +25,7 @@ fn path_of_abc(alloc: Global, name: &[u8]) -> Result<StorePath, PathError> {
     text_path(alloc, name, &reference, b"abc")
 }
 
-/// Whether an answer is this path. Want of memory is a no, as everywhere below.
+/// Whether an answer is this path.
 fn is_path(answer: Result<StorePath, PathError>, text: &[u8]) -> bool {
     match answer {
         Ok(path) => path.bytes() == text,
@@ -42,51 +33,52 @@ fn is_path(answer: Result<StorePath, PathError>, text: &[u8]) -> bool {
     }
 }
 
+/// Whether an answer is this refusal.
+fn is_refused(answer: Result<StorePath, PathError>, refusal: PathError) -> bool {
+    match answer {
+        Ok(_) => false,
+        Err(why) => why == refusal,
+    }
+}
+
 #[test]
 fn base32_and_fold(rt: HostRuntime) {
     let alloc = rt.alloc();
-    assert!(rt; is_spelled(&[0u8; 20], b"00000000000000000000000000000000"));
-    assert!(rt; is_one_spelled(0, 0x1f, b"0000000000000000000000000000000z"));
-    assert!(rt; is_one_spelled(19, 0x80, b"h0000000000000000000000000000000"));
-    assert!(rt;
-        is_fold_spelled(
-            "ba7816bf8f01cfea414140de5dae2223b00361a396177a9cb410ff61f20015ad",
-            b"ldhh7c134ap5swsm86rqnc0i7cinqvrc"
-        )
-    );
-    assert!(rt;
-        is_path(
-            path_of_abc(alloc, b"a.drv"),
-            b"/nix/store/ksk8w77r76wqqg8g8nrbfcvjjba6ii14-a.drv"
-        )
-    );
-    assert!(rt; path_of_abc(alloc, b"a b").err() == Some(PathError::Name));
+    let mut bytes = [0u8; 20];
+    assert!(rt; is_spelled(&bytes, b"00000000000000000000000000000000"));
+    bytes[0] = 0x1f;
+    assert!(rt; is_spelled(&bytes, b"0000000000000000000000000000000z"));
+    bytes[0] = 0;
+    bytes[19] = 0x80;
+    assert!(rt; is_spelled(&bytes, b"h0000000000000000000000000000000"));
+    let digest = "ba7816bf8f01cfea414140de5dae2223b00361a396177a9cb410ff61f20015ad";
+    assert!(rt; is_fold_spelled(digest, b"ldhh7c134ap5swsm86rqnc0i7cinqvrc"));
+    let path = b"/nix/store/ksk8w77r76wqqg8g8nrbfcvjjba6ii14-a.drv";
+    assert!(rt; is_path(path_of_abc(alloc, b"a.drv"), path));
+    assert!(rt; is_refused(path_of_abc(alloc, b"a b"), PathError::Name));
 }
 
 /// A text of the store directory, 32 times the digit, a dash and a name of this many letters `n`.
 fn path_text(alloc: Global, digit: u8, name_length: usize) -> Result<Vec<u8>, AllocError> {
+    let name = vec![in alloc; b'n'; name_length]?;
     let mut text = Vec::from_slice(alloc, b"/nix/store/")?;
-    for _ in 0..32 {
-        text.push(digit)?;
-    }
+    text.extend_from_slice(&[digit; 32])?;
     text.push(b'-')?;
-    for _ in 0..name_length {
-        text.push(b'n')?;
-    }
+    text.extend_from_slice(&name)?;
     Ok(text)
 }
 
 /// The path of that text.
 fn path_of(alloc: Global, digit: u8, name_length: usize) -> Result<StorePath, PathError> {
     let text = path_text(alloc, digit, name_length)?;
-    StorePath::parse(alloc, text.as_slice())
+    StorePath::parse(alloc, &text)
 }
 
-/// The length of a path.
-fn length_of(answer: Result<StorePath, PathError>) -> Result<usize, PathError> {
+/// Whether an answer is a path of this length.
+fn has_length(answer: Result<StorePath, PathError>, length: usize) -> bool {
     match answer {
-        Ok(path) => Ok(path.bytes().len()),
-        Err(why) => Err(why),
+        Ok(path) => path.bytes().len() == length,
+        Err(_) => false,
     }
 }
 
@@ -109,13 +101,12 @@ fn is_nameless(answer: Result<StorePath, PathError>) -> bool {
 #[test]
 fn store_path_names(rt: HostRuntime) {
     let alloc = rt.alloc();
-    assert!(rt; length_of(path_of(alloc, b'p', 211)) == Ok(255));
-    assert!(rt; length_of(path_of(alloc, b'p', 212)) == Err(PathError::Name));
-    assert!(rt; length_of(path_of(alloc, b'p', 0)) == Err(PathError::Name));
-    assert!(rt; length_of(path_of(alloc, b'e', 1)) == Err(PathError::Digest));
-    let cut = StorePath::parse(alloc, b"/nix/stor/");
-    assert!(rt; length_of(cut) == Err(PathError::Prefix));
-    assert!(rt; length_of(StorePath::parse(alloc, b"")) == Err(PathError::Prefix));
+    assert!(rt; has_length(path_of(alloc, b'p', 211), 255));
+    assert!(rt; is_refused(path_of(alloc, b'p', 212), PathError::Name));
+    assert!(rt; is_refused(path_of(alloc, b'p', 0), PathError::Name));
+    assert!(rt; is_refused(path_of(alloc, b'e', 1), PathError::Digest));
+    assert!(rt; is_refused(StorePath::parse(alloc, b"/nix/stor/"), PathError::Prefix));
+    assert!(rt; is_refused(StorePath::parse(alloc, b""), PathError::Prefix));
     let hidden = b"/nix/store/pppppppppppppppppppppppppppppppp-.drv";
     assert!(rt; is_nameless(StorePath::parse(alloc, hidden)));
     assert!(rt; is_printed(alloc, &PathError::Digest, "Digest"));
@@ -125,16 +116,17 @@ fn store_path_names(rt: HostRuntime) {
 fn set_of(alloc: Global, digits: &[u8]) -> Result<PathSet, PathError> {
     let mut paths = Vec::new(alloc);
     for digit in digits {
-        paths.push(path_of(alloc, *digit, 1)?)?;
+        let path = path_of(alloc, *digit, 1)?;
+        paths.push(path)?;
     }
     Ok(PathSet::from_vec(paths)?)
 }
 
-/// Whether the set has the path with this digit.
-fn has_digit(alloc: Global, set: &PathSet, digit: u8) -> Option<bool> {
+/// Whether the set lacks the path with this digit.
+fn lacks(alloc: Global, set: &PathSet, digit: u8) -> bool {
     match path_of(alloc, digit, 1) {
-        Ok(path) => Some(set.contains(&path)),
-        Err(_) => None,
+        Ok(path) => !set.contains(&path),
+        Err(_) => false,
     }
 }
 
@@ -156,18 +148,12 @@ fn is_set_copied(set: &PathSet) -> bool {
     }
 }
 
-/// Whether a set has three paths, but not the one with the digit `r`.
-fn is_set_of_three(alloc: Global, set: &PathSet) -> bool {
-    set.len() == 3
-        && has_digit(alloc, set, b'r') == Some(false)
-        && has_its_own(set)
-        && is_set_copied(set)
-}
-
-/// The same of an answer.
+/// Whether an answer is a set of three paths, without the one with the digit `r`.
 fn is_three(alloc: Global, answer: Result<PathSet, PathError>) -> bool {
     match answer {
-        Ok(set) => is_set_of_three(alloc, &set),
+        Ok(set) => {
+            set.len() == 3 && lacks(alloc, &set, b'r') && has_its_own(&set) && is_set_copied(&set)
+        }
         Err(_) => false,
     }
 }
@@ -175,6 +161,6 @@ fn is_three(alloc: Global, answer: Result<PathSet, PathError>) -> bool {
 #[test]
 fn sets_of_paths(rt: HostRuntime) {
     let alloc = rt.alloc();
-    assert!(rt; is_three(alloc, set_of(alloc, &[b's', b'q', b's', b'p'])));
+    assert!(rt; is_three(alloc, set_of(alloc, b"sqsp")));
     assert!(rt; PathSet::new(alloc).is_empty());
 }

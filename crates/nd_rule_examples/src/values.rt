@@ -1,8 +1,8 @@
-//! What the examples of several crates start from, and printed texts.
+//! What the examples of several crates start from, and what they ask of it.
 
 use nd_bytes::ByteString;
 use nd_eligible::{Need, words};
-use nd_machines::{Machine, MachineError, parse_builders};
+use nd_machines::{FeatureSet, Machine, MachineError, parse_builders};
 use std::alloc::{AllocError, Global};
 use std::fmt;
 
@@ -34,6 +34,14 @@ pub fn need_of(alloc: Global, system: &[u8], features: &[u8]) -> Result<Need, Al
 /// The need of a plain `x86_64-linux` derivation.
 pub fn plain_need(alloc: Global) -> Result<Need, AllocError> {
     need_of(alloc, b"x86_64-linux", b"")
+}
+
+/// Whether a set has just the items of a list. Want of memory is a no.
+pub fn is_listed(alloc: Global, set: &FeatureSet, list: &[u8]) -> bool {
+    match FeatureSet::from_list(alloc, list) {
+        Ok(listed) => *set == listed,
+        Err(_) => false,
+    }
 }
 
 /// Whether a value is printed so. Want of memory is a no.
