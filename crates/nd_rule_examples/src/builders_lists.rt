@@ -28,21 +28,17 @@ fn has_uri(alloc: Global, text: &[u8], uri: &[u8]) -> bool {
     }
 }
 
-/// Whether each field but the URI and the systems is the default.
-fn has_defaults(machine: &Machine) -> bool {
-    machine.key().is_none()
-        && machine.jobs() == 1
-        && machine.speed() == 1_000_000
-        && machine.supported().is_empty()
-        && machine.mandatory().is_empty()
-        && machine.host_key().is_none()
-}
-
-/// Whether the last machine of a list has the defaults, and the local system.
+/// Whether each field of the last machine of a list but the URI is the default, with the local system.
 fn is_plain(alloc: Global, text: &[u8]) -> bool {
     match last_machine(alloc, text) {
         Some(machine) => {
-            has_defaults(&machine) && is_listed(alloc, machine.systems(), b"x86_64-linux")
+            machine.key().is_none()
+                && machine.jobs() == 1
+                && machine.speed() == 1_000_000
+                && machine.supported().is_empty()
+                && machine.mandatory().is_empty()
+                && machine.host_key().is_none()
+                && is_listed(alloc, machine.systems(), b"x86_64-linux")
         }
         None => false,
     }
@@ -128,16 +124,6 @@ fn builder_limit(rt: HostRuntime) {
     assert!(rt; is_limited(rt.alloc()));
 }
 
-/// Whether the fields that the other examples leave out are those of the list below.
-fn has_all_fields(machine: &Machine) -> bool {
-    machine.key() == Some(b"/etc/nix".as_slice())
-        && machine.speed() == 1_500_000
-        && machine.supported().len() == 2
-        && machine.supported().contains(b"a")
-        && !machine.mandatory().contains(b"b")
-        && machine.host_key() == Some(b"aGk=".as_slice())
-}
-
 /// Whether a machine is equal to its copy.
 fn is_copied(alloc: Global, machine: &Machine) -> bool {
     match machine.try_clone(alloc) {
@@ -154,11 +140,17 @@ fn is_set_copied(alloc: Global, set: &FeatureSet) -> bool {
     }
 }
 
-/// Whether the last machine of a list has those fields, and is copied.
+/// Whether the fields of the last machine of a list that the other examples leave out are those of the
+/// list below, and it is copied.
 fn is_last_copied(alloc: Global, text: &[u8]) -> bool {
     match last_machine(alloc, text) {
         Some(machine) => {
-            has_all_fields(&machine)
+            machine.key() == Some(b"/etc/nix".as_slice())
+                && machine.speed() == 1_500_000
+                && machine.supported().len() == 2
+                && machine.supported().contains(b"a")
+                && !machine.mandatory().contains(b"b")
+                && machine.host_key() == Some(b"aGk=".as_slice())
                 && is_copied(alloc, &machine)
                 && is_set_copied(alloc, machine.systems())
         }

@@ -3,6 +3,7 @@
 use crate::values::is_printed;
 use nd_path::{PathError, PathSet, StorePath, base32, fold, text_path};
 use std::alloc::{AllocError, Global};
+use std::slice;
 
 const REFERENCE: &[u8; 46] = b"/nix/store/pppppppppppppppppppppppppppppppp-s1";
 
@@ -21,8 +22,8 @@ fn is_fold_spelled(digits: &str, text: &[u8; 32]) -> bool {
 
 /// The path of the text `abc` with the one reference, under this name.
 fn path_of_abc(alloc: Global, name: &[u8]) -> Result<StorePath, PathError> {
-    let reference = [StorePath::parse(alloc, REFERENCE)?];
-    text_path(alloc, name, &reference, b"abc")
+    let reference = StorePath::parse(alloc, REFERENCE)?;
+    text_path(alloc, name, slice::from_ref(&reference), b"abc")
 }
 
 /// Whether an answer is this path.
