@@ -1,0 +1,85 @@
+-- What calls on a dispatch say of the commands that they stand for.
+use Rattle.std.proofs.Common.{◌≡◌, ℕ, List, [], ◌∷◌, ◌++◌, reverse, Some, refl, sym, ap, subst, ◌∙◌, inl, inr}
+use Rattle.std.specs.Prelude.{◌⊎◌}
+use Rattle.nd_path.specs.PathSets.{IsRising}
+use Rattle.nd_history.specs.declared.entry.Entry.{Entry}
+use Rattle.nd_history.specs.declared.entry.Why.{Why}
+use Rattle.nd_history.specs.declared.entry.Ticket.{Ticket}
+use Rattle.nd_history.specs.Premises.{Premises}
+use Rattle.nd_history.specs.History.{lease_of}
+use Rattle.nd_stores.specs.Stored.{IsMissing}
+use Rattle.nd_ledger.specs.declared.refusal.Refusal.{Refusal}
+use Rattle.nd_ledger.specs.Refusals.{IsFailRefused, IsDownRefused}
+use Rattle.nd_ledger.specs.Moves.{IsStartRefused, IsEndRefused}
+use Rattle.nd_ledger.specs.Worlds.{World}
+use Rattle.nd_script.specs.declared.command.Command.{Command}
+use Rattle.nd_sim.specs.Answers.{Adds, HasAdded, IsRefusedWith, IsTicketRefused, IsCommandRefused, no_references}
+use Rattle.nd_sim.specs.Outcomes.{IsAnswer, IsRefusal}
+
+pub added : (old new : World) (command : Command) (e : Entry) → Adds old.inputs (reverse old.history) command e → new ≡ record { inputs = old.inputs; history = old.history ++ e ∷ [] } → HasAdded old.inputs old.history new.history command
+added old new command e adds is = record { entry = e; adds = adds; grown = ap (λ (w : World). w.history) is }
+
+lease_refused : (i : Premises) (past : List Entry) (d : ℕ) (command : Command) (t : Ticket) (e : Refusal) → lease_of d past ≡ Some t → IsRefusedWith i past command t e → IsTicketRefused i past d command e
+lease_refused i past d command t e lease refused = inr (record { ticket = t; lease = lease; refused = refused })
+
+pub genuinely_refused : (i : Premises) (past : List Entry) (command : Command) (e : Refusal) → IsRefusal i past command e → (e ≡ Refusal.Memory → ⊥) → IsCommandRefused i past command e
+genuinely_refused i past command e refused genuine = elim refused [ inl memory ↦ absurd (genuine memory) | inr cause ↦ cause ]
+
+pub full_start : (old new : World) (d : ℕ) (t : Ticket) (paths : List (List ℕ)) → lease_of d (reverse old.history) ≡ Some t → t.drv ≡ d
+    → IsMissing old.inputs (reverse old.history) t.drv t.machine paths → IsRising paths
+    → new ≡ record { inputs = old.inputs; history = old.history ++ Entry.Started t.drv paths ∷ [] } → HasAdded old.inputs old.history new.history (Command.Start d)
+full_start old new d t paths lease own missing rising is = added old new (Command.Start d) (Entry.Started t.drv paths) (record {
+  ticket = t;
+  lease = lease;
+  paths = paths;
+  missing = subst (λ (n : ℕ). IsMissing old.inputs (reverse old.history) n t.machine paths) own missing;
+  rising = rising;
+  is = ap (λ (n : ℕ). Entry.Started n paths) own;
+}) is
+
+pub full_start_refused : (i : Premises) (past : List Entry) (d : ℕ) (t : Ticket) (paths : List (List ℕ)) (e : Refusal) → lease_of d past ≡ Some t → t.drv ≡ d
+    → IsMissing i past t.drv t.machine paths → IsStartRefused i past t paths e → IsRefusal i past (Command.Start d) e
+full_start_refused i past d t paths e lease own missing refused = inr (lease_refused i past d (Command.Start d) t e lease (record {
+  paths = paths;
+  missing = subst (λ (n : ℕ). IsMissing i past n t.machine paths) own missing;
+  refused = refused;
+}))
+
+pub started : (old new : World) (d : ℕ) (t : Ticket) (paths : List (List ℕ)) → t.drv ≡ d → new ≡ record { inputs = old.inputs; history = old.history ++ Entry.Started t.drv paths ∷ [] } → HasAdded old.inputs old.history new.history (Command.StartWith d paths)
+started old new d t paths own is = added old new (Command.StartWith d paths) (Entry.Started t.drv paths) (ap (λ (n : ℕ). Entry.Started n paths) own) is
+
+pub start_refused : (i : Premises) (past : List Entry) (d : ℕ) (t : Ticket) (paths : List (List ℕ)) (e : Refusal) → lease_of d past ≡ Some t → IsStartRefused i past t paths e → IsRefusal i past (Command.StartWith d paths) e
+start_refused i past d t paths e lease refused = inr (lease_refused i past d (Command.StartWith d paths) t e lease refused)
+
+pub ended : (old new : World) (d : ℕ) (t : Ticket) (refs : List (List (List ℕ))) → t.drv ≡ d → new ≡ record { inputs = old.inputs; history = old.history ++ Entry.Built t.drv refs ∷ [] } → HasAdded old.inputs old.history new.history (Command.BuiltWith d refs)
+ended old new d t refs own is = added old new (Command.BuiltWith d refs) (Entry.Built t.drv refs) (ap (λ (n : ℕ). Entry.Built n refs) own) is
+
+pub end_refused : (i : Premises) (past : List Entry) (d : ℕ) (t : Ticket) (refs : List (List (List ℕ))) (e : Refusal) → lease_of d past ≡ Some t → IsEndRefused i past t refs e → IsRefusal i past (Command.BuiltWith d refs) e
+end_refused i past d t refs e lease refused = inr (lease_refused i past d (Command.BuiltWith d refs) t e lease refused)
+
+pub failed : (old new : World) (d : ℕ) (t : Ticket) (status : ℕ) → t.drv ≡ d → new ≡ record { inputs = old.inputs; history = old.history ++ Entry.Failed t.drv (Why.Status status) ∷ [] } → HasAdded old.inputs old.history new.history (Command.Fail d status)
+failed old new d t status own is = added old new (Command.Fail d status) (Entry.Failed t.drv (Why.Status status)) (ap (λ (n : ℕ). Entry.Failed n (Why.Status status)) own) is
+
+pub fail_refused : (i : Premises) (past : List Entry) (d : ℕ) (t : Ticket) (status : ℕ) (e : Refusal) → lease_of d past ≡ Some t → IsFailRefused past t e → IsRefusal i past (Command.Fail d status) e
+fail_refused i past d t status e lease refused = inr (lease_refused i past d (Command.Fail d status) t e lease refused)
+
+pub lost : (old new : World) (d : ℕ) (t : Ticket) → t.drv ≡ d → new ≡ record { inputs = old.inputs; history = old.history ++ Entry.Failed t.drv Why.Lost ∷ [] } → HasAdded old.inputs old.history new.history (Command.Lose d)
+lost old new d t own is = added old new (Command.Lose d) (Entry.Failed t.drv Why.Lost) (ap (λ (n : ℕ). Entry.Failed n Why.Lost) own) is
+
+pub lose_refused : (i : Premises) (past : List Entry) (d : ℕ) (t : Ticket) (e : Refusal) → lease_of d past ≡ Some t → IsFailRefused past t e → IsRefusal i past (Command.Lose d) e
+lose_refused i past d t e lease refused = inr (lease_refused i past d (Command.Lose d) t e lease refused)
+
+pub given_back : (old new : World) (d : ℕ) (t : Ticket) → t.drv ≡ d → new ≡ record { inputs = old.inputs; history = old.history ++ Entry.Down t.drv ∷ [] } → HasAdded old.inputs old.history new.history (Command.Down d)
+given_back old new d t own is = added old new (Command.Down d) (Entry.Down t.drv) (ap (λ (n : ℕ). Entry.Down n) own) is
+
+pub down_refused : (i : Premises) (past : List Entry) (d : ℕ) (t : Ticket) (e : Refusal) → lease_of d past ≡ Some t → IsDownRefused past t e → IsRefusal i past (Command.Down d) e
+down_refused i past d t e lease refused = inr (lease_refused i past d (Command.Down d) t e lease refused)
+
+pub bare_end : (old new : World) (d : ℕ) (t : Ticket) (refs : List (List (List ℕ))) → t.drv ≡ d → refs ≡ no_references old.inputs d
+    → new ≡ record { inputs = old.inputs; history = old.history ++ Entry.Built t.drv refs ∷ [] } → HasAdded old.inputs old.history new.history (Command.Built d)
+bare_end old new d t refs own none is = added old new (Command.Built d) (Entry.Built t.drv refs) (ap (λ (n : ℕ). Entry.Built n refs) own ∙ ap (Entry.Built d) none) is
+
+pub bare_end_refused : (i : Premises) (past : List Entry) (d : ℕ) (t : Ticket) (refs : List (List (List ℕ))) (e : Refusal) → lease_of d past ≡ Some t → refs ≡ no_references i d
+    → IsEndRefused i past t refs e → IsRefusal i past (Command.Built d) e
+bare_end_refused i past d t refs e lease none refused =
+    inr (lease_refused i past d (Command.Built d) t e lease (subst (λ (rs : List (List (List ℕ))). IsEndRefused i past t rs e) none refused))

@@ -1,0 +1,33 @@
+use Rattle.std.proofs.Common.{◌≡◌, List, [], ◌∷◌, ◌++◌, sym, ap, subst, ◌∙◌, append_assoc}
+use Rattle.std.specs.List.{All}
+use Rattle.std.specs.Vec.Iter.{into_iter_items}
+use Rattle.std.proofs.lemmas.List.Elements.{All-head, All-rest}
+use Rattle.nd_history.specs.Premises.{Premises}
+use Rattle.nd_script.specs.declared.command.Command.{Command}
+use Rattle.nd_sim.specs.Answers.{IsNamed}
+use Rattle.nd_sim.proofs.Simulating.{goes_on, stops}
+use Rattle.nd_sim.proofs.turns.take_turns.Goals as goal
+
+pub turn-requires : goal.turn-requires
+turn-requires g c =
+    subst (λ (i : Premises). IsNamed i c.in-Some.command) (sym c.loop-command.invariant.inputs)
+    (All-head (IsNamed c.args.dispatch.now.inputs) c.in-Some.command (into_iter_items c.next.new.self)
+    (subst (All (IsNamed c.args.dispatch.now.inputs)) c.in-Some.ensures.steps.0 c.loop-command.invariant.named))
+
+pub loop-command-preserved : goal.loop-command-preserved
+loop-command-preserved g c = record {
+  inputs = c.in-Ok-turn.ensures.inputs ∙ c.loop-command.invariant.inputs;
+  written = goes_on _ _ _ _ _ _ _ _ _ c.loop-command.invariant.written c.loop-command.invariant.inputs c.in-Ok-turn.ensures.written;
+  whole =
+      c.loop-command.invariant.whole ∙ ap (λ (rest : List Command). c.loop-command.yielded ++ rest) c.in-Some.ensures.steps.0
+      ∙ sym (append_assoc c.loop-command.yielded (c.in-Some.command ∷ []) (into_iter_items c.next.new.self));
+  named =
+      All-rest (IsNamed c.args.dispatch.now.inputs) c.in-Some.command (into_iter_items c.next.new.self) _ c.in-Some.ensures.steps.0
+      c.loop-command.invariant.named;
+}
+
+pub returns-in-Err-turn-clause-partly : goal.returns-in-Err-turn-clause-partly
+returns-in-Err-turn-clause-partly g c =
+    stops _ _ _ c.loop-command.yielded c.in-Some.command (into_iter_items c.next.new.self) _ _ _ _
+    (c.loop-command.invariant.whole ∙ ap (λ (rest : List Command). c.loop-command.yielded ++ rest) c.in-Some.ensures.steps.0)
+    c.loop-command.invariant.written c.loop-command.invariant.inputs c.in-Err-turn.ensures.partly

@@ -1,0 +1,5 @@
+pub mod Answers
+pub mod Outcomes
+pub mod Runs
+pub mod RunParts
+pub mod Written

@@ -1,0 +1,57 @@
+-- What a writer has of a simulation.
+use Rattle.std.specs.Prelude.{◌≡◌, ℕ, List, Option}
+use Rattle.std.specs.Io.KnownBytes.{Appends}
+use Rattle.nd_hook.specs.Written.{WritesPart}
+use Rattle.nd_history.specs.declared.entry.Entry.{Entry}
+use Rattle.nd_history.specs.Premises.{Premises}
+use Rattle.nd_script.specs.declared.command.Command.{Command}
+use Rattle.nd_sim.specs.Runs.{IsObeyed, IsPumped, IsTurn, IsRun, IsSimulation}
+use Rattle.nd_sim.specs.RunParts.{IsPumpingPart, IsTurnPart, IsSimulationPart}
+
+-- what a command came to
+pub record WritesObeyed (i : Premises) (old new : List Entry) (command : Command) (before written : Option (List ℕ)) : Type 0 where
+  pub text : List ℕ
+  pub obeyed : IsObeyed i old new command text
+  pub appended : Appends before written text
+
+-- the lines of pump steps, after which none is left
+pub record WritesPumped (i : Premises) (old new : List Entry) (before written : Option (List ℕ)) : Type 0 where
+  pub text : List ℕ
+  pub pumped : IsPumped i old new text
+  pub appended : Appends before written text
+
+-- the lines of some pump steps, or a part of them, from their beginning
+pub record WritesPumpedPart (i : Premises) (old : List Entry) (before written : Option (List ℕ)) : Type 0 where
+  pub text : List ℕ
+  pub pumping : IsPumpingPart i old text
+  pub part : WritesPart before written text
+
+-- the lines of a command and of the pump steps behind it
+pub record WritesTurn (i : Premises) (old new : List Entry) (command : Command) (before written : Option (List ℕ)) : Type 0 where
+  pub text : List ℕ
+  pub turn : IsTurn i old new command text
+  pub appended : Appends before written text
+
+-- a part of them, from their beginning
+pub record WritesTurnPart (i : Premises) (old : List Entry) (command : Command) (before written : Option (List ℕ)) : Type 0 where
+  pub text : List ℕ
+  pub turn : IsTurnPart i old command text
+  pub part : WritesPart before written text
+
+-- the lines of these commands and of the pump steps before and between
+pub record WritesRun (i : Premises) (commands : List Command) (history : List Entry) (before written : Option (List ℕ)) : Type 0 where
+  pub text : List ℕ
+  pub run : IsRun i commands history text
+  pub appended : Appends before written text
+
+-- a whole simulation
+pub record WritesSimulation (i : Premises) (commands : List Command) (status : ℕ) (before written : Option (List ℕ)) : Type 0 where
+  pub text : List ℕ
+  pub simulated : IsSimulation i commands status text
+  pub appended : Appends before written text
+
+-- the beginning of one
+pub record WritesSimulationPart (i : Premises) (commands : List Command) (before written : Option (List ℕ)) : Type 0 where
+  pub text : List ℕ
+  pub begun : IsSimulationPart i commands text
+  pub part : WritesPart before written text

@@ -1,0 +1,203 @@
+//! The calls that the commands of a script stand for. Each answers that its entry was added, or else is
+//! refused and leaves the dispatch as it was.
+
+ghost use Rattle.std.specs.Prelude.{◌≡◌, ◌<◌, length, reverse, IfOk, IfErr, OnErr};
+ghost use Rattle.nd_history.specs.Choices.{machines_in};
+ghost use Rattle.nd_script.specs.declared.command.Command.{Command};
+ghost use Rattle.nd_sim.specs.Outcomes.{IsAnswer, IsRefusal};
+
+use crate::answer::Answer;
+use crate::leases::{lacking, live_ticket, no_reports};
+use nd_closure::Refs;
+use nd_ledger::{Dispatch, Refusal, Why};
+use nd_path::PathSet;
+use std::alloc::{AllocError, Global};
+
+/// `start`: the lease starts, once what its machine lacks was copied.
+#[tactic(auto, using(crate::proofs::Recording::full_start, crate::proofs::Recording::full_start_refused))]
+pub fn start(alloc: Global, dispatch: &mut Dispatch, drv: u32) -> Result<Answer, Refusal>
+    ensures inputs { dispatch.new.inputs ≡ dispatch.old.inputs }
+    ensures answer { IfOk result (IsAnswer dispatch.old.inputs dispatch.old.history dispatch.new.history (Command.Start drv)) }
+    ensures refused { IfErr result (IsRefusal dispatch.old.inputs (reverse dispatch.old.history) (Command.Start drv)) }
+    ensures kept { OnErr result (dispatch.new ≡ dispatch.old) }
+{
+    let ticket = match live_ticket(dispatch, drv) {
+        Ok(ticket) => ticket,
+        Err(refusal) => return Err(refusal),
+    };
+    let paths = match lacking(alloc, dispatch, ticket) {
+        Ok(paths) => paths,
+        Err(refusal) => return Err(refusal),
+    };
+    match dispatch.started(alloc, ticket, paths) {
+        Ok(()) => Ok(Answer::Added),
+        Err(refused) => Err(refused.why),
+    }
+}
+
+/// `startwith`: it starts, once these paths were copied.
+#[tactic(auto, using(crate::proofs::Recording::started, crate::proofs::Recording::start_refused))]
+pub fn start_with(
+    alloc: Global,
+    dispatch: &mut Dispatch,
+    drv: u32,
+    paths: PathSet,
+) -> Result<Answer, Refusal>
+    ensures inputs { dispatch.new.inputs ≡ dispatch.old.inputs }
+    ensures answer { IfOk result (IsAnswer dispatch.old.inputs dispatch.old.history dispatch.new.history (Command.StartWith drv paths)) }
+    ensures refused { IfErr result (IsRefusal dispatch.old.inputs (reverse dispatch.old.history) (Command.StartWith drv paths)) }
+    ensures kept { OnErr result (dispatch.new ≡ dispatch.old) }
+{
+    let ticket = match live_ticket(dispatch, drv) {
+        Ok(ticket) => ticket,
+        Err(refusal) => return Err(refusal),
+    };
+    match dispatch.started(alloc, ticket, paths) {
+        Ok(()) => Ok(Answer::Added),
+        Err(refused) => Err(refused.why),
+    }
+}
+
+/// `built`: the build ends with its outputs, which refer to nothing.
+#[tactic(auto, using(crate::proofs::Recording::bare_end, crate::proofs::Recording::bare_end_refused))]
+pub fn built(alloc: Global, dispatch: &mut Dispatch, drv: u32) -> Result<Answer, Refusal>
+    requires { drv < length dispatch.old.inputs.graph.paths }
+    ensures inputs { dispatch.new.inputs ≡ dispatch.old.inputs }
+    ensures answer { IfOk result (IsAnswer dispatch.old.inputs dispatch.old.history dispatch.new.history (Command.Built drv)) }
+    ensures refused { IfErr result (IsRefusal dispatch.old.inputs (reverse dispatch.old.history) (Command.Built drv)) }
+    ensures kept { OnErr result (dispatch.new ≡ dispatch.old) }
+{
+    let ticket = match live_ticket(dispatch, drv) {
+        Ok(ticket) => ticket,
+        Err(refusal) => return Err(refusal),
+    };
+    let refs = match no_reports(alloc, dispatch, drv) {
+        Ok(refs) => refs,
+        Err(AllocError) => return Err(Refusal::Memory),
+    };
+    match dispatch.built(alloc, ticket, refs) {
+        Ok(()) => Ok(Answer::Added),
+        Err(refused) => Err(refused.why),
+    }
+}
+
+/// `built` with lists: the build ends with its outputs, which have these references.
+#[tactic(auto, using(crate::proofs::Recording::ended, crate::proofs::Recording::end_refused))]
+pub fn built_with(
+    alloc: Global,
+    dispatch: &mut Dispatch,
+    drv: u32,
+    refs: Refs,
+) -> Result<Answer, Refusal>
+    ensures inputs { dispatch.new.inputs ≡ dispatch.old.inputs }
+    ensures answer { IfOk result (IsAnswer dispatch.old.inputs dispatch.old.history dispatch.new.history (Command.BuiltWith drv refs)) }
+    ensures refused { IfErr result (IsRefusal dispatch.old.inputs (reverse dispatch.old.history) (Command.BuiltWith drv refs)) }
+    ensures kept { OnErr result (dispatch.new ≡ dispatch.old) }
+{
+    let ticket = match live_ticket(dispatch, drv) {
+        Ok(ticket) => ticket,
+        Err(refusal) => return Err(refusal),
+    };
+    match dispatch.built(alloc, ticket, refs) {
+        Ok(()) => Ok(Answer::Added),
+        Err(refused) => Err(refused.why),
+    }
+}
+
+/// `fail`: the build ends with this status.
+#[tactic(auto, using(crate::proofs::Recording::failed, crate::proofs::Recording::fail_refused))]
+pub fn fail(dispatch: &mut Dispatch, drv: u32, status: u8) -> Result<Answer, Refusal>
+    ensures inputs { dispatch.new.inputs ≡ dispatch.old.inputs }
+    ensures answer { IfOk result (IsAnswer dispatch.old.inputs dispatch.old.history dispatch.new.history (Command.Fail drv status)) }
+    ensures refused { IfErr result (IsRefusal dispatch.old.inputs (reverse dispatch.old.history) (Command.Fail drv status)) }
+    ensures kept { OnErr result (dispatch.new ≡ dispatch.old) }
+{
+    let ticket = match live_ticket(dispatch, drv) {
+        Ok(ticket) => ticket,
+        Err(refusal) => return Err(refusal),
+    };
+    match dispatch.failed(ticket, Why::Status(status)) {
+        Ok(()) => Ok(Answer::Added),
+        Err(refusal) => Err(refusal),
+    }
+}
+
+/// `lose`: the transport is lost during the build.
+#[tactic(auto, using(crate::proofs::Recording::lost, crate::proofs::Recording::lose_refused))]
+pub fn lose(dispatch: &mut Dispatch, drv: u32) -> Result<Answer, Refusal>
+    ensures inputs { dispatch.new.inputs ≡ dispatch.old.inputs }
+    ensures answer { IfOk result (IsAnswer dispatch.old.inputs dispatch.old.history dispatch.new.history (Command.Lose drv)) }
+    ensures refused { IfErr result (IsRefusal dispatch.old.inputs (reverse dispatch.old.history) (Command.Lose drv)) }
+    ensures kept { OnErr result (dispatch.new ≡ dispatch.old) }
+{
+    let ticket = match live_ticket(dispatch, drv) {
+        Ok(ticket) => ticket,
+        Err(refusal) => return Err(refusal),
+    };
+    match dispatch.failed(ticket, Why::Lost) {
+        Ok(()) => Ok(Answer::Added),
+        Err(refusal) => Err(refusal),
+    }
+}
+
+/// `down`: the lease is given back before its start.
+#[tactic(auto, using(crate::proofs::Recording::given_back, crate::proofs::Recording::down_refused))]
+pub fn down(dispatch: &mut Dispatch, drv: u32) -> Result<Answer, Refusal>
+    ensures inputs { dispatch.new.inputs ≡ dispatch.old.inputs }
+    ensures answer { IfOk result (IsAnswer dispatch.old.inputs dispatch.old.history dispatch.new.history (Command.Down drv)) }
+    ensures refused { IfErr result (IsRefusal dispatch.old.inputs (reverse dispatch.old.history) (Command.Down drv)) }
+    ensures kept { OnErr result (dispatch.new ≡ dispatch.old) }
+{
+    let ticket = match live_ticket(dispatch, drv) {
+        Ok(ticket) => ticket,
+        Err(refusal) => return Err(refusal),
+    };
+    match dispatch.down(ticket) {
+        Ok(()) => Ok(Answer::Added),
+        Err(refusal) => Err(refusal),
+    }
+}
+
+/// `stop`: nothing more is begun.
+#[tactic(auto, using(crate::proofs::Recording::added))]
+pub fn stop(dispatch: &mut Dispatch) -> Result<Answer, Refusal>
+    ensures inputs { dispatch.new.inputs ≡ dispatch.old.inputs }
+    ensures answer { IfOk result (IsAnswer dispatch.old.inputs dispatch.old.history dispatch.new.history Command.Stop) }
+    ensures refused { IfErr result (IsRefusal dispatch.old.inputs (reverse dispatch.old.history) Command.Stop) }
+    ensures kept { OnErr result (dispatch.new ≡ dispatch.old) }
+{
+    match dispatch.stop() {
+        Ok(()) => Ok(Answer::Added),
+        Err(refusal) => Err(refusal),
+    }
+}
+
+/// `drain`: the machine gets no more leases.
+#[tactic(auto, using(crate::proofs::Recording::added))]
+pub fn drain(dispatch: &mut Dispatch, machine: u32) -> Result<Answer, Refusal>
+    requires { machine < machines_in dispatch.old.inputs }
+    ensures inputs { dispatch.new.inputs ≡ dispatch.old.inputs }
+    ensures answer { IfOk result (IsAnswer dispatch.old.inputs dispatch.old.history dispatch.new.history (Command.Drain machine)) }
+    ensures refused { IfErr result (IsRefusal dispatch.old.inputs (reverse dispatch.old.history) (Command.Drain machine)) }
+    ensures kept { OnErr result (dispatch.new ≡ dispatch.old) }
+{
+    match dispatch.drain(machine) {
+        Ok(()) => Ok(Answer::Added),
+        Err(AllocError) => Err(Refusal::Memory),
+    }
+}
+
+/// `enable`: the machine gets leases again.
+#[tactic(auto, using(crate::proofs::Recording::added))]
+pub fn enable(dispatch: &mut Dispatch, machine: u32) -> Result<Answer, Refusal>
+    requires { machine < machines_in dispatch.old.inputs }
+    ensures inputs { dispatch.new.inputs ≡ dispatch.old.inputs }
+    ensures answer { IfOk result (IsAnswer dispatch.old.inputs dispatch.old.history dispatch.new.history (Command.Enable machine)) }
+    ensures refused { IfErr result (IsRefusal dispatch.old.inputs (reverse dispatch.old.history) (Command.Enable machine)) }
+    ensures kept { OnErr result (dispatch.new ≡ dispatch.old) }
+{
+    match dispatch.enable(machine) {
+        Ok(()) => Ok(Answer::Added),
+        Err(AllocError) => Err(Refusal::Memory),
+    }
+}

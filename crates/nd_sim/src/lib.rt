@@ -1,0 +1,15 @@
+//! Simulations: the commands of a script as calls on a dispatch, and the text that is written of them.
+#![tactic(auto)]
+
+pub mod answer;
+mod calls;
+pub mod commands;
+pub mod fault;
+mod leases;
+mod lines;
+pub mod turns;
+
+pub use answer::Answer;
+pub use commands::obey;
+pub use fault::SimFault;
+pub use turns::take_turns;
