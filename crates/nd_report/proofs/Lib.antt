@@ -8,3 +8,5 @@ pub mod PathLists
 pub mod Texts
 pub mod Parts
 pub mod Written
+pub mod Rows
+pub mod Admitting

@@ -30,7 +30,7 @@ pub spaced-append : (ws vs : List (List ℕ)) → spaced (ws ++ vs) ≡ spaced w
 unfolding spaced
 spaced-append ws vs = flat_map-append (λ (w : List ℕ). 32 ∷ w) ws vs
 
-spaced-one : (w : List ℕ) → 32 ∷ w ≡ spaced (w ∷ [])
+pub spaced-one : (w : List ℕ) → 32 ∷ w ≡ spaced (w ∷ [])
 unfolding spaced
 spaced-one w = sym (append-nil (32 ∷ w))
 

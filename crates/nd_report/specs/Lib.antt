@@ -5,3 +5,4 @@ pub mod Reading
 pub mod Sound
 pub mod TextLaws
 pub mod Reports
+pub mod Audits

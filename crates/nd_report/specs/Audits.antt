@@ -1,0 +1,40 @@
+-- The audit of a history: its first entry that isn't allowed after those before it, and the first rule that refuses that one.
+-- The histories of these definitions stand oldest first, and `reverse` turns them round for the definitions of a legal history.
+use Rattle.std.specs.Prelude.{◌≡◌, ℕ, Bool, List, ◌∷◌, ◌++◌, length, reverse}
+use Rattle.nd_machines.specs.Builders.{Builder}
+use Rattle.nd_eligible.specs.Settings.{Settings}
+use Rattle.nd_graph.specs.Graphs.{Nodes}
+use Rattle.nd_closure.specs.Tables.{Table}
+use Rattle.nd_history.specs.declared.entry.Entry.{Entry}
+use Rattle.nd_history.specs.declared.rule.Rule.{Rule}
+use Rattle.nd_history.specs.Premises.{Premises}
+use Rattle.nd_history.specs.Legal.{IsLegal}
+use Rattle.nd_history.specs.Audit.{IsFirstRule}
+use Rattle.nd_ledger.specs.declared.refusal.AdmitError.{AdmitError}
+use Rattle.nd_ledger.specs.declared.refusal.AdmitError.TheVariants.{Illegal as Refused, Memory as NoMemory}
+use Rattle.nd_report.specs.declared.audit_error.AuditError.{AuditError}
+use Rattle.nd_report.specs.declared.audit_error.AuditError.TheVariants.{Illegal, Memory}
+
+-- the entry at this place is the first that isn't allowed, and this is the first rule that refuses it
+pub record IsFirstIllegal (i : Premises) (entries : List Entry) (index : ℕ) (rule : Rule) : Type 0 where
+  pub before : List Entry
+  pub entry : Entry
+  pub after : List Entry
+  pub whole : entries ≡ before ++ entry ∷ after
+  pub place : index ≡ length before
+  pub legal : IsLegal i (reverse before)
+  pub refused : IsFirstRule i (reverse before) entry rule
+
+-- when an audit answers which refusal
+abbrev pub IsAuditRefused : Premises → List Entry → AuditError → Type 0
+IsAuditRefused i entries (Illegal index rule) = IsFirstIllegal i entries index rule
+IsAuditRefused i entries Memory = Unit {0}
+
+-- what an audit answers where the entry at this place is not admitted
+abbrev pub answer_at : ℕ → AdmitError → AuditError
+answer_at index (Refused rule) = Illegal index rule
+answer_at index NoMemory = Memory
+
+-- the five inputs together
+abbrev pub premises : Nodes → List Builder → Settings → Table → Bool → Premises
+premises graph machines local info keep_going = record { graph = graph; machines = machines; local = local; info = info.entries; keep_going = keep_going }
