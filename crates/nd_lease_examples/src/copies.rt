@@ -1,7 +1,7 @@
 //! The worked examples of copies, references and their refusals.
 
 use crate::graphs::{Bundle, S1, S2, S3};
-use crate::playing::{Park, builders_alone, dispatch_of, gives, make};
+use crate::playing::{Park, builders_alone, close, dispatch_of, gives, make};
 use nd_closure::{InfoError, parse_info};
 use nd_ledger::{Dispatch, Ticket};
 use nd_path::PathSet;
@@ -132,7 +132,11 @@ fn lacks_less(alloc: Global, dispatch: &mut Dispatch) -> bool {
 /// The same on a new dispatch. Want of memory is a no.
 fn are_jobs_right(alloc: Global) -> bool {
     match dispatch_of(alloc, Bundle::Sources, &builders_alone("m - - 2")) {
-        Ok(mut dispatch) => lacks_less(alloc, &mut dispatch),
+        Ok(mut dispatch) => {
+            let right = lacks_less(alloc, &mut dispatch);
+            close(dispatch);
+            right
+        }
         Err(_) => false,
     }
 }
@@ -145,7 +149,11 @@ fn jobs_in_flight(rt: HostRuntime) {
 /// Whether a copy of the dispatch is taken, and each of the two goes on from the other.
 fn is_copied(alloc: Global, dispatch: &Dispatch) -> bool {
     match dispatch.try_clone(alloc) {
-        Ok(copy) => copy.extends(dispatch) && dispatch.extends(&copy),
+        Ok(copy) => {
+            let same = copy.extends(dispatch) && dispatch.extends(&copy);
+            close(copy);
+            same
+        }
         Err(_) => false,
     }
 }
@@ -163,7 +171,11 @@ fn goes_on(dispatch: &mut Dispatch, copy: &Dispatch) -> bool {
 fn is_followed(alloc: Global, dispatch: &mut Dispatch) -> bool {
     let first = is_copied(alloc, dispatch);
     match dispatch.try_clone(alloc) {
-        Ok(copy) => first && goes_on(dispatch, &copy) && is_copied(alloc, dispatch),
+        Ok(copy) => {
+            let followed = first && goes_on(dispatch, &copy) && is_copied(alloc, dispatch);
+            close(copy);
+            followed
+        }
         Err(_) => false,
     }
 }
@@ -171,7 +183,11 @@ fn is_followed(alloc: Global, dispatch: &mut Dispatch) -> bool {
 /// The same on a new dispatch. Want of memory is a no.
 fn are_copies_right(alloc: Global) -> bool {
     match dispatch_of(alloc, Bundle::Sources, &builders_alone("m - - 2")) {
-        Ok(mut dispatch) => is_followed(alloc, &mut dispatch),
+        Ok(mut dispatch) => {
+            let right = is_followed(alloc, &mut dispatch);
+            close(dispatch);
+            right
+        }
         Err(_) => false,
     }
 }

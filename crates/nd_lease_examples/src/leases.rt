@@ -1,7 +1,7 @@
 //! The worked examples of choices, starts, ends and failures.
 
 use crate::graphs::Bundle;
-use crate::playing::{Park, builders_alone, dispatch_of, gives};
+use crate::playing::{Park, builders_alone, close, dispatch_of, gives};
 use nd_ledger::Dispatch;
 use std::alloc::Global;
 
@@ -156,7 +156,11 @@ fn goes_down(dispatch: &mut Dispatch) -> bool {
 /// The same on a new dispatch. Want of memory is a no.
 fn is_drained(alloc: Global) -> bool {
     match dispatch_of(alloc, Bundle::Plain(2), &with_jobs("", 1)) {
-        Ok(mut dispatch) => goes_down(&mut dispatch),
+        Ok(mut dispatch) => {
+            let down = goes_down(&mut dispatch);
+            close(dispatch);
+            down
+        }
         Err(_) => false,
     }
 }

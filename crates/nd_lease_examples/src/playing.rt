@@ -100,15 +100,19 @@ fn graph_of(alloc: Global, bundle: Bundle) -> Result<Graph, Unplayed> {
 
 /// A dispatch over this bundle and this park.
 pub fn dispatch_of(alloc: Global, bundle: Bundle, park: &Park) -> Result<Dispatch, Unplayed> {
-    let graph = graph_of(alloc, bundle)?;
-    let machines = parse_builders(alloc, park.builders.as_bytes(), b"x86_64-linux")?;
     let local = local_of(alloc, park.jobs)?;
     let info = parse_info(alloc, park.info.as_bytes())?;
+    let machines = parse_builders(alloc, park.builders.as_bytes(), b"x86_64-linux")?;
+    let graph = graph_of(alloc, bundle)?;
     match Dispatch::new(alloc, graph, machines, local, info, park.keep_going) {
         Ok(dispatch) => Ok(dispatch),
         Err(_parts) => Err(Unplayed::Memory),
     }
 }
+
+/// Lets go of a dispatch. The end of so large a value is long to prove, so that whoever owns one calls
+/// this, and it is proved once.
+pub fn close(_dispatch: Dispatch) {}
 
 /// The set of the paths that a line names behind this many words.
 fn paths_behind(alloc: Global, line: &str, words: usize) -> Result<PathSet, AllocError> {
@@ -282,7 +286,9 @@ pub fn played(alloc: Global, dispatch: &mut Dispatch, script: &str) -> Result<Ve
 /// The lines of a script on a new dispatch.
 fn told(alloc: Global, bundle: Bundle, park: &Park, script: &str) -> Result<Vec<u8>, Unplayed> {
     let mut dispatch = dispatch_of(alloc, bundle, park)?;
-    played(alloc, &mut dispatch, script)
+    let lines = played(alloc, &mut dispatch, script);
+    close(dispatch);
+    lines
 }
 
 /// Whether a script, on a new dispatch, gives these lines. Want of memory is a no.

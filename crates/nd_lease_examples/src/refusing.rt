@@ -2,7 +2,7 @@
 //! memory too: `checks/allocations.sh` refuses their allocations in turn.
 
 use crate::graphs::Bundle;
-use crate::playing::{Unplayed, builders_alone, dispatch_of, make, push_entries};
+use crate::playing::{Unplayed, builders_alone, close, dispatch_of, make, push_entries};
 use nd_ledger::{Dispatch, Refusal, Why};
 use std::alloc::{AllocError, Global};
 use std::test::Fail;
@@ -108,7 +108,11 @@ fn run(alloc: Global, dispatch: &mut Dispatch) -> Result<Ending, Unplayed> {
 /// The same on a new dispatch.
 fn copies(alloc: Global) -> Result<Ending, Unplayed> {
     match dispatch_of(alloc, Bundle::Sources, &builders_alone("m - - 2")) {
-        Ok(mut dispatch) => run(alloc, &mut dispatch),
+        Ok(mut dispatch) => {
+            let ending = run(alloc, &mut dispatch);
+            close(dispatch);
+            ending
+        }
         Err(why) => Err(why),
     }
 }
