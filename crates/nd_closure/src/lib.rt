@@ -7,8 +7,6 @@ pub mod info_text;
 pub mod machine_sets;
 pub mod output_refs;
 pub mod ref_table;
-#[cfg(test)]
-mod tests;
 
 pub use closures::{missing, reach};
 pub use info_error::InfoError;

@@ -14,6 +14,3 @@ pub use board::Board;
 pub use edges::Edges;
 pub use node_set::NodeSet;
 pub use status::{Counts, Mark, Status};
-
-#[cfg(test)]
-mod tests;

@@ -28,8 +28,3 @@ pub use drv_paths::drv_path;
 pub use fault::GraphError;
 pub use graph::{Graph, Input};
 pub use line::{LineNode, NamedInput};
-
-#[cfg(test)]
-mod bundle_tests;
-#[cfg(test)]
-mod line_tests;

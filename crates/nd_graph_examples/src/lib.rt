@@ -1,0 +1,18 @@
+//! Tests of graphs, boards and closures, by their public calls: the worked examples, and sizes that no
+//! contract speaks of.
+#![tactic(auto)]
+
+#[cfg(test)]
+mod boards;
+#[cfg(test)]
+mod bundles;
+#[cfg(test)]
+mod closures;
+#[cfg(test)]
+mod lines;
+#[cfg(test)]
+mod long_bundles;
+#[cfg(test)]
+mod reading;
+#[cfg(test)]
+mod shapes;

@@ -1,0 +1,104 @@
+//! Reading bundles with both readers, and the parts of their lines.
+
+use nd_graph::{Graph, GraphError, plain, read_bundle};
+use std::alloc::{AllocError, Global};
+use std::thread::Threads;
+
+/// The path of the derivation `n0`.
+pub const N0: &[u8] = b"/nix/store/00000000000000000000000000000000-n0.drv";
+
+/// The text of `n0`, which needs nothing.
+pub const N0_TEXT: &[u8] =
+    b"Derive([(\"out\",\"/nix/store/aaaaaaaaaaaaaaaaaaaaaaaaaaaaaaaa-n0\",\"\",\"\")],[],[],\"x86_64-linux\",\"/bin/sh\",[],[])";
+
+/// The line of `n0`, which needs nothing.
+pub const N0_LINE: &[u8] =
+    b"/nix/store/00000000000000000000000000000000-n0.drv Derive([(\"out\",\"/nix/store/aaaaaaaaaaaaaaaaaaaaaaaaaaaaaaaa-n0\",\"\",\"\")],[],[],\"x86_64-linux\",\"/bin/sh\",[],[])\n";
+
+/// The line of `n0` up to its inputs.
+pub const N0_ON: &[u8] =
+    b"/nix/store/00000000000000000000000000000000-n0.drv Derive([(\"out\",\"/nix/store/aaaaaaaaaaaaaaaaaaaaaaaaaaaaaaaa-n0\",\"\",\"\")],[";
+
+/// The line of `n1` up to its inputs.
+pub const N1_ON: &[u8] =
+    b"/nix/store/11111111111111111111111111111111-n1.drv Derive([(\"out\",\"/nix/store/bbbbbbbbbbbbbbbbbbbbbbbbbbbbbbbb-n1\",\"\",\"\")],[";
+
+/// What stands behind the inputs of a line.
+pub const END: &[u8] = b"],[],\"x86_64-linux\",\"/bin/sh\",[],[])\n";
+
+/// The input on `n0`.
+pub const NEEDS_N0: &[u8] = b"(\"/nix/store/00000000000000000000000000000000-n0.drv\",[\"out\"])";
+
+/// The input on an output of `n0` that it hasn't.
+pub const NEEDS_DEV: &[u8] = b"(\"/nix/store/00000000000000000000000000000000-n0.drv\",[\"dev\"])";
+
+/// The parts, one behind the other.
+pub fn joined(alloc: Global, parts: &[&[u8]]) -> Result<Vec<u8>, AllocError> {
+    let mut bytes = Vec::new(alloc);
+    for part in parts {
+        bytes.extend_from_slice(part)?;
+    }
+    Ok(bytes)
+}
+
+/// Whether both readers, which check paths or don't, refuse a text for this reason, or take it where
+/// there is none.
+pub fn both_answer<R: Threads + Sync>(
+    rt: &R,
+    alloc: Global,
+    text: &[u8],
+    check: bool,
+    want: Option<GraphError>,
+) -> bool {
+    plain::read_bundle(alloc, text, check).err() == want
+        && read_bundle(rt, alloc, text, check).err() == want
+}
+
+/// Whether they do so of these parts, and check no paths. Want of memory is a no.
+pub fn answer<R: Threads + Sync>(
+    rt: &R,
+    alloc: Global,
+    parts: &[&[u8]],
+    want: Option<GraphError>,
+) -> bool {
+    match joined(alloc, parts) {
+        Ok(text) => both_answer(rt, alloc, text.as_slice(), false, want),
+        Err(_) => false,
+    }
+}
+
+/// The number of nodes of an answer, or none where the text is refused.
+pub fn size_of(read: Result<Graph, GraphError>) -> Option<usize> {
+    match read {
+        Ok(graph) => Some(graph.len()),
+        Err(_) => None,
+    }
+}
+
+/// Whether both readers, which check paths or don't, find this many nodes in a text.
+pub fn both_find<R: Threads + Sync>(
+    rt: &R,
+    alloc: Global,
+    text: &[u8],
+    check: bool,
+    nodes: usize,
+) -> bool {
+    size_of(plain::read_bundle(alloc, text, check)) == Some(nodes)
+        && size_of(read_bundle(rt, alloc, text, check)) == Some(nodes)
+}
+
+/// Whether they do so in these parts, and check no paths. Want of memory is a no.
+pub fn find<R: Threads + Sync>(rt: &R, alloc: Global, parts: &[&[u8]], nodes: usize) -> bool {
+    match joined(alloc, parts) {
+        Ok(text) => both_find(rt, alloc, text.as_slice(), false, nodes),
+        Err(_) => false,
+    }
+}
+
+/// The graph of these parts, or none where they are refused or memory is wanting.
+pub fn graph_of(alloc: Global, parts: &[&[u8]]) -> Option<Graph> {
+    match joined(alloc, parts) {
+        Ok(text) => plain::read_bundle(alloc, text.as_slice(), false).ok(),
+        Err(_) => None,
+    }
+}
