@@ -1,7 +1,6 @@
 //! What `run` is given.
 
-ghost use Rattle.std.specs.Prelude.{◌≡◌, ◌+◌, ◌≤◌, false, length, IfOk, IfErr};
-ghost use Rattle.nd_cli.specs.Parks.{IsParkFault};
+ghost use Rattle.std.specs.Prelude.{◌≡◌, false, IfOk, IfErr};
 ghost use Rattle.nd_run.specs.Given.{HasRules, IsGiven, IsStandFault, IsGivenFault};
 
 use nd_cli::{CliFault, LIMIT, ParkOptions, Place, read_input, read_park};
