@@ -1,2 +1,4 @@
+pub mod Counts
+pub mod Going
 pub mod Leaving
-pub mod Telling
+pub mod Stints

@@ -1,7 +1,3 @@
 pub mod Abandoned
-pub mod Answers
-pub mod Calls
-pub mod Logs
-pub mod Services
-pub mod StandIns
-pub mod Standing
+pub mod Ends
+pub mod Served

@@ -23,7 +23,7 @@ pub fn abandon(dispatch: &mut Dispatch, manned: &[(u32, u32)])
 }
 
 /// The number of machines of the park.
-fn machine_count(dispatch: &Dispatch) -> u32
+pub(crate) fn machine_count(dispatch: &Dispatch) -> u32
     ensures { result ≡ machines_in dispatch.now.inputs }
 {
     dispatch.machines().len() as u32 + 1
@@ -41,7 +41,7 @@ fn stop(dispatch: &mut Dispatch)
 }
 
 /// How many builds may run at once on this machine.
-fn jobs_on(dispatch: &Dispatch, machine: u32) -> u32
+pub(crate) fn jobs_on(dispatch: &Dispatch, machine: u32) -> u32
     ensures { result ≡ jobs_of dispatch.now.inputs machine }
 {
     if machine == 0 {

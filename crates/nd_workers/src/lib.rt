@@ -1,21 +1,17 @@
-//! Transports to the machines, and the workers that serve leases through them.
+//! The workers that serve leases through their transports.
 #![tactic(auto)]
 
 pub mod abandoning;
-pub mod boxed;
-pub mod call_log;
-pub mod kinds;
-pub mod serving;
-pub mod stand_in;
-pub mod transport;
+mod desk;
+mod hand;
+mod leasing;
+pub mod seat;
+mod working;
 
 pub use abandoning::abandon;
-pub use call_log::CallLog;
-pub use kinds::{Answer, Call, Ended, Phase};
-pub use nd_script::Rule;
-pub use serving::{Fetch, Outcome, serve_build, serve_copy};
-pub use stand_in::StandIn;
-pub use transport::Transport;
-
-#[cfg(test)]
-mod tests;
+pub use nd_receipts::{Kind, Receipt};
+pub use nd_transports::{
+    Answer, Call, CallLog, Ended, Fetch, Outcome, Phase, Rule, StandIn, Transport, serve_build,
+    serve_copy,
+};
+pub use seat::{Seat, Worker};

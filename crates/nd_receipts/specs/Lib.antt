@@ -1,0 +1,4 @@
+pub mod Made
+pub mod Noted
+pub mod NotesKept
+pub mod Receipts

@@ -1,0 +1,15 @@
+-- Lemmas on what a stand-in answers.
+use Rattle.std.proofs.Common.{◌≡◌, ℕ, Bool, List, subst}
+use Rattle.std.specs.List.{find}
+use Rattle.nd_transports.specs.declared.kinds.Answer.{Answer}
+use Rattle.nd_script.specs.declared.rule.Rule.{Rule}
+use Rattle.nd_script.specs.Rules.{is_about}
+use Rattle.nd_transports.specs.StandIns.{answer_by, IsTold}
+
+-- the answer by the same rules about the same derivation
+pub told_as : (outputs d e : ℕ) (xs ys : List Rule) (answer : Answer) (p q : Bool) → p ≡ q → d ≡ e → xs ≡ ys → IsTold p (answer_by outputs (find (is_about d) xs)) answer → IsTold q (answer_by outputs (find (is_about e) ys)) answer
+told_as outputs d e xs ys answer p q pq de xy h =
+    let P : Bool → Type 0 = λ b. IsTold b (answer_by outputs (find (is_about e) ys)) answer in
+    let D : ℕ → Type 0 = λ n. IsTold p (answer_by outputs (find (is_about n) ys)) answer in
+    let X : List Rule → Type 0 = λ rs. IsTold p (answer_by outputs (find (is_about d) rs)) answer in
+    subst P pq (subst D de (subst X xy h))

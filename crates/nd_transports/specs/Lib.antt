@@ -1,0 +1,6 @@
+pub mod Answers
+pub mod Calls
+pub mod Logs
+pub mod Services
+pub mod StandIns
+pub mod Standing

@@ -1,0 +1,20 @@
+-- How the calls of a transport are stored.
+use Rattle.std.specs.Prelude.{ℕ, ◌+◌, ◌≤◌, vec_len, vec_capacity}
+use Rattle.nd_transports.specs.declared.call_log.CallLog.TheInside.{Inside}
+use Rattle.nd_transports.specs.declared.kinds.Phase.{Phase}
+use Rattle.nd_transports.specs.declared.kinds.Phase.TheVariants.{Idle, Prepared, Connected, Copied}
+use Rattle.nd_transports.specs.Calls.{State}
+
+abbrev pub state_of : Inside → State
+state_of l = record { phase = l.phase; drv = l.drv; paths = l.paths; calls = l.calls.items }
+
+-- how many calls may still come before the next job
+abbrev pub calls_left : Phase → ℕ
+calls_left Idle = 0
+calls_left Prepared = 3
+calls_left Connected = 2
+calls_left Copied = 1
+
+-- there is room for them
+abbrev pub HasRoom : Inside → Type 0
+HasRoom l = vec_len l.calls + calls_left l.phase ≤ vec_capacity l.calls

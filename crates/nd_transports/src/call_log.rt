@@ -1,0 +1,135 @@
+//! The calls of a transport, and how far it is.
+
+ghost use Rattle.std.specs.Prelude.{◌≡◌, ℕ, List, [], IfOk, OnOk, OnErr};
+ghost use Rattle.nd_transports.specs.Calls.{prepared, IsIdleAgain, connected, copied, built, Reports};
+
+use crate::kinds::{Answer, Call, Phase};
+use nd_closure::Refs;
+use nd_ledger::Job;
+use nd_path::PathSet;
+use std::alloc::{AllocError, Global};
+use std::marker::Model;
+use std::mem;
+
+/// What a transport stores: its calls with their answers, its phase, and the prepared job's
+/// derivation and paths. Room for the records of a prepared job's calls is made beforehand.
+/// Contracts see what they see of a transport.
+#[derive(Drop, Debug)]
+pub struct CallLog {
+    phase: Phase,
+    drv: u32,
+    paths: PathSet,
+    calls: Vec<Call>,
+}
+
+impl Model for CallLog {
+    ghost use Rattle.nd_transports.specs.Calls.{State};
+
+    ghost Value = { State };
+
+    ghost use Rattle.nd_transports.specs.Logs.{state_of, HasRoom};
+
+    ghost view = { state_of };
+
+    ghost invariant = { HasRoom };
+}
+
+impl CallLog {
+    /// No calls, and no job. It takes no memory.
+    pub fn new(alloc: Global) -> CallLog
+        ensures { result ≡ record { phase = Phase.Idle; drv = 0; paths = []; calls = [] } }
+    {
+        CallLog {
+            phase: Phase::Idle,
+            drv: 0,
+            paths: PathSet::new(alloc),
+            calls: Vec::new(alloc),
+        }
+    }
+
+    /// A job is prepared. Where memory is refused the phase is `Idle`.
+    pub fn prepare(&mut self, job: &Job) -> Result<(), AllocError>
+        ensures ok { OnOk result (self.new ≡ prepared self.old job.now.ticket.drv job.now.paths) }
+        ensures err { OnErr result (IsIdleAgain self.old self.new) }
+    {
+        self.phase = Phase::Idle;
+        let paths = job.paths.try_clone()?;
+        self.calls.reserve(3)?;
+        self.paths = paths;
+        self.drv = job.ticket.drv;
+        self.phase = Phase::Prepared;
+        Ok(())
+    }
+
+    /// The machine was called, and answered or not. It takes no memory.
+    pub fn connected(&mut self, answered: bool)
+        requires { self.old.phase ≡ Phase.Prepared }
+        ensures { self.new ≡ connected self.old answered }
+    {
+        self.phase = if answered {
+            Phase::Connected
+        } else {
+            Phase::Idle
+        };
+        self.calls.push_reserved(Call::Connect(answered));
+    }
+
+    /// The paths were to be copied, which worked or not. It takes no memory.
+    pub fn copied(&mut self, alloc: Global, done: bool)
+        requires { self.old.phase ≡ Phase.Connected }
+        ensures { self.new ≡ copied self.old done }
+    {
+        self.phase = if done { Phase::Copied } else { Phase::Idle };
+        let paths = mem::replace(&mut self.paths, PathSet::new(alloc));
+        self.calls.push_reserved(Call::Copy { paths, done });
+    }
+
+    /// The derivation was to be built, and the build ended so. It takes no memory.
+    pub fn built(&mut self, answer: Answer)
+        requires { self.old.phase ≡ Phase.Copied }
+        ensures { self.new ≡ built self.old answer }
+    {
+        self.phase = Phase::Idle;
+        self.calls.push_reserved(Call::Build {
+            drv: self.drv,
+            answer,
+        });
+    }
+
+    /// The references that the last call, a build that ended with its outputs, reported.
+    pub fn reported(&self) -> Result<Refs, AllocError>
+        requires { (refs : List (List (List ℕ))) × Reports self.now refs }
+        ensures { IfOk result (Reports self.now) }
+    {
+        match self.calls.last() {
+            Some(
+                Call::Build {
+                    answer: Answer::Built(refs),
+                    ..
+                },
+            ) => refs.try_clone(),
+            _ => unreachable!(),
+        }
+    }
+
+    /// The derivation of the job that was prepared last.
+    pub fn drv(&self) -> u32
+        ensures { result ≡ self.now.drv }
+    {
+        self.drv
+    }
+
+    /// How far the transport is.
+    pub fn phase(&self) -> Phase
+        ensures { result ≡ self.now.phase }
+    {
+        self.phase
+    }
+
+    /// The calls so far, oldest first, with their answers.
+    pub fn calls(&self) -> &[Call]
+        ensures { result.now ≡ self.now.calls }
+    {
+        self.calls.as_slice()
+    }
+}

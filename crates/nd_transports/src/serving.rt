@@ -1,0 +1,64 @@
+//! How a lease is served through a transport.
+
+ghost use Rattle.std.specs.Prelude.{◌≡◌, ◌++◌, ◌∷◌, [], true, false};
+ghost use Rattle.nd_transports.specs.Services.{Fetches, Serves};
+
+use crate::kinds::{Ended, Phase};
+use crate::transport::Transport;
+use nd_closure::Refs;
+use nd_ledger::Job;
+
+/// How the copy before a build went.
+#[derive(Clone, Copy, Debug, PartialEq, Eq)]
+pub enum Fetch {
+    /// The job's paths were copied.
+    Copied,
+    /// The last of this many calls, 1 or 2, was answered no.
+    Refused(u8),
+    /// Memory was refused before the first call.
+    Memory,
+}
+
+/// How a build went.
+#[derive(Drop, Debug)]
+pub enum Outcome {
+    /// It ended with its outputs, which have these references.
+    Built(Refs),
+    /// The builder ended with this status.
+    Status(u8),
+    /// The transport was lost.
+    Lost,
+    /// It ended with its outputs, but memory was refused for their references.
+    Memory,
+}
+
+/// Prepares a job, calls its machine and copies its paths.
+pub fn serve_copy(transport: &mut dyn Transport, job: &Job) -> Fetch
+    ensures { Fetches (state transport.old) job.now.ticket.drv job.now.paths result (state transport.new) }
+{
+    if transport.prepare(job).is_err() {
+        return Fetch::Memory;
+    }
+    if !transport.connect() {
+        return Fetch::Refused(1);
+    }
+    if !transport.copy() {
+        return Fetch::Refused(2);
+    }
+    Fetch::Copied
+}
+
+/// Builds what was prepared and copied, and takes the references that the build reported.
+pub fn serve_build(transport: &mut dyn Transport) -> Outcome
+    requires { (state transport.old).phase ≡ Phase.Copied }
+    ensures { Serves (state transport.old) result (state transport.new) }
+{
+    match transport.build() {
+        Ended::Built => match transport.reported() {
+            Ok(refs) => Outcome::Built(refs),
+            Err(_) => Outcome::Memory,
+        },
+        Ended::Status(code) => Outcome::Status(code),
+        Ended::Lost => Outcome::Lost,
+    }
+}

@@ -1,0 +1,206 @@
+//! A transport that follows rules.
+
+ghost use Rattle.std.specs.Prelude.{◌≡◌, ◌++◌, ◌∷◌, [], ℕ, List, Option, Some, None, IfOk, OnOk, OnErr, replicate, not};
+ghost use Rattle.std.specs.List.{find, list_any};
+ghost use Rattle.nd_transports.specs.Answers.{ended_of};
+ghost use Rattle.nd_transports.specs.Calls.{prepared, connected, copied, built, Reports, IsIdleAgain};
+ghost use Rattle.nd_script.specs.Rules.{is_no_connect, is_no_copy, is_about};
+ghost use Rattle.nd_transports.specs.StandIns.{answer_by, answer_of, lets_pass, burnt, connects, copies, IsTold, StandInBuilds};
+
+use crate::call_log::CallLog;
+use crate::kinds::{Answer, Ended, Phase};
+use crate::transport::Transport;
+use nd_closure::Refs;
+use nd_ledger::Job;
+use nd_path::PathSet;
+use nd_script::Rule;
+use std::alloc::{AllocError, Global};
+use std::marker::Model;
+
+/// A transport without a machine behind it, which follows rules. Of several rules about a build the
+/// first decides. Where none fits, a connect and a copy answer yes, and a build reports an empty list
+/// for each output. A stand-in that finds no memory for the references of a build answers that it was
+/// lost.
+#[derive(Drop, Debug)]
+pub struct StandIn {
+    alloc: Global,
+    machine: u32,
+    outputs: usize,
+    rules: Vec<Rule>,
+    passes: Option<u32>,
+    log: CallLog,
+}
+
+impl Model for StandIn {
+    ghost use Rattle.nd_transports.specs.StandIns.{Stood};
+
+    ghost Value = { Stood };
+
+    ghost use Rattle.nd_transports.specs.Standing.{stood};
+
+    ghost view = { stood };
+}
+
+impl StandIn {
+    /// A stand-in for this machine, without a fuse. It takes no memory.
+    pub fn new(machine: u32, rules: Vec<Rule>) -> StandIn
+        ensures { result ≡ record { machine = machine; outputs = 0; rules = rules.items; fuse = None; state = record { phase = Phase.Idle; drv = 0; paths = []; calls = [] } } }
+    {
+        let alloc = *rules.allocator();
+        StandIn {
+            alloc,
+            machine,
+            outputs: 0,
+            rules,
+            passes: None,
+            log: CallLog::new(alloc),
+        }
+    }
+
+    /// Sets a fuse: after `passes` more calls of `connect`, `copy` and `build` each of them answers no,
+    /// or that the transport was lost. It takes no memory.
+    pub fn fuse(&mut self, passes: u32)
+        ensures { self.new ≡ record self.old { fuse = Some passes } }
+    {
+        self.passes = Some(passes);
+    }
+
+    /// The calls so far and how far it is.
+    pub fn log(&self) -> &CallLog
+        ensures { result.now ≡ self.now.state }
+    {
+        &self.log
+    }
+}
+
+/// Whether the fuse lets one more call pass, which burns it down by one.
+fn burn(fuse: &mut Option<u32>) -> bool
+    ensures passes { result ≡ lets_pass fuse.old }
+    ensures burnt { fuse.new ≡ burnt fuse.old }
+{
+    match *fuse {
+        None => true,
+        Some(0) => false,
+        Some(passes) => {
+            *fuse = Some(passes - 1);
+            true
+        }
+    }
+}
+
+/// Whether one of these rules refuses each connect on this machine.
+fn refuses_connect(rules: &[Rule], machine: u32) -> bool
+    ensures { result ≡ list_any (is_no_connect machine) rules.now }
+{
+    rules.iter().any(|rule| rule.is_no_connect(machine))
+}
+
+/// Whether one of these rules refuses each copy on this machine.
+fn refuses_copy(rules: &[Rule], machine: u32) -> bool
+    ensures { result ≡ list_any (is_no_copy machine) rules.now }
+{
+    rules.iter().any(|rule| rule.is_no_copy(machine))
+}
+
+/// How the build of derivation `drv` ends: it is lost where the fuse doesn't let it pass, or where no
+/// memory is found for its references.
+fn told(alloc: Global, rules: &[Rule], drv: u32, outputs: usize, passes: bool) -> Answer
+    ensures { IsTold passes (answer_by outputs (find (is_about drv) rules.now)) result }
+{
+    if !passes {
+        return Answer::Lost;
+    }
+    match answer(alloc, rules, drv, outputs) {
+        Ok(answer) => answer,
+        Err(_) => Answer::Lost,
+    }
+}
+
+/// How the build of derivation `drv` ends by the first of these rules about it.
+fn answer(alloc: Global, rules: &[Rule], drv: u32, outputs: usize) -> Result<Answer, AllocError>
+    ensures { IfOk result (λ answer. answer ≡ answer_by outputs (find (is_about drv) rules.now)) }
+{
+    for rule in rules {
+        if rule.is_about(drv) {
+            return answer_by(alloc, rule, outputs);
+        }
+    }
+    Ok(Answer::Built(empty_lists(alloc, outputs)?))
+}
+
+/// How a build ends by this rule.
+fn answer_by(alloc: Global, rule: &Rule, outputs: usize) -> Result<Answer, AllocError>
+    ensures { IfOk result (λ answer. answer ≡ answer_by outputs (Some rule.now)) }
+{
+    match rule {
+        Rule::Fail(_, code) => Ok(Answer::Status(*code)),
+        Rule::Lose(_) => Ok(Answer::Lost),
+        Rule::Built(_, refs) => Ok(Answer::Built(refs.try_clone()?)),
+        Rule::NoConnect(_) | Rule::NoCopy(_) => Ok(Answer::Built(empty_lists(alloc, outputs)?)),
+    }
+}
+
+/// An empty list for each output.
+fn empty_lists(alloc: Global, outputs: usize) -> Result<Refs, AllocError>
+    ensures { IfOk result (λ refs. refs ≡ replicate outputs []) }
+{
+    Ok(Refs::new(vec![in alloc; PathSet::new(alloc); outputs]?))
+}
+
+impl Transport for StandIn {
+    ghost state = { λ s. s.state };
+
+    fn prepare(&mut self, job: &Job) -> Result<(), AllocError>
+        ensures ok { OnOk result (self.new ≡ record self.old { outputs = job.now.outputs; state = prepared self.old.state job.now.ticket.drv job.now.paths }) }
+        ensures err { OnErr result (IsIdleAgain self.old.state self.new.state) }
+        ensures kept { OnErr result (self.new ≡ record self.old { state = self.new.state }) }
+    {
+        self.log.prepare(job)?;
+        self.outputs = job.outputs;
+        Ok(())
+    }
+
+    fn connect(&mut self) -> bool
+        requires { self.old.state.phase ≡ Phase.Prepared }
+        ensures answer { result ≡ connects self.old }
+        ensures after { self.new ≡ record self.old { fuse = burnt self.old.fuse; state = connected self.old.state result } }
+    {
+        let refused = refuses_connect(self.rules.as_slice(), self.machine);
+        let passes = burn(&mut self.passes);
+        let answered = passes && !refused;
+        self.log.connected(answered);
+        answered
+    }
+
+    fn copy(&mut self) -> bool
+        requires { self.old.state.phase ≡ Phase.Connected }
+        ensures answer { result ≡ copies self.old }
+        ensures after { self.new ≡ record self.old { fuse = burnt self.old.fuse; state = copied self.old.state result } }
+    {
+        let refused = refuses_copy(self.rules.as_slice(), self.machine);
+        let passes = burn(&mut self.passes);
+        let done = passes && !refused;
+        self.log.copied(self.alloc, done);
+        done
+    }
+
+    fn build(&mut self) -> Ended
+        requires { self.old.state.phase ≡ Phase.Copied }
+        ensures { StandInBuilds self.old result self.new }
+    {
+        let drv = self.log.drv();
+        let passes = burn(&mut self.passes);
+        let answer = told(self.alloc, self.rules.as_slice(), drv, self.outputs, passes);
+        let ended = answer.ended();
+        self.log.built(answer);
+        ended
+    }
+
+    fn reported(&self) -> Result<Refs, AllocError> {
+        self.log.reported()
+    }
+
+    fn phase(&self) -> Phase {
+        self.log.phase()
+    }
+}

@@ -1,0 +1,48 @@
+//! The way to a machine.
+
+ghost use Rattle.std.specs.Prelude.{◌≡◌, ℕ, List, IfOk, OnOk, OnErr};
+ghost use Rattle.nd_transports.specs.Calls.{State, prepared, IsIdleAgain, connected, copied, Builds, Reports};
+
+use crate::kinds::{Ended, Phase};
+use nd_closure::Refs;
+use nd_ledger::Job;
+use std::alloc::AllocError;
+
+/// A way to a machine: it serves one lease after another by preparing its job, calling the machine,
+/// copying the paths and building. Contracts see its phase, with the derivation and the paths of the
+/// prepared job, and the list of its calls with their answers, which it stores.
+pub trait Transport: Send + Drop {
+    ghost state: { Self → State };
+
+    /// Prepares a job: it makes room for the records of three calls, and a copy of the job's paths.
+    /// No call is recorded by it. Where memory is refused the phase is `Idle`.
+    fn prepare(&mut self, job: &Job) -> Result<(), AllocError>
+        ensures ok { OnOk result (state self.new ≡ prepared (state self.old) job.now.ticket.drv job.now.paths) }
+        ensures err { OnErr result (IsIdleAgain (state self.old) (state self.new)) };
+
+    /// Calls the machine of the prepared job. It answers whether the machine answered, and takes no
+    /// memory.
+    fn connect(&mut self) -> bool
+        requires { (state self.old).phase ≡ Phase.Prepared }
+        ensures { state self.new ≡ connected (state self.old) result };
+
+    /// Copies the paths of the prepared job to the machine. It answers whether that worked, and takes
+    /// no memory.
+    fn copy(&mut self) -> bool
+        requires { (state self.old).phase ≡ Phase.Connected }
+        ensures { state self.new ≡ copied (state self.old) result };
+
+    /// Builds the derivation of the prepared job.
+    fn build(&mut self) -> Ended
+        requires { (state self.old).phase ≡ Phase.Copied }
+        ensures { Builds (state self.old) result (state self.new) };
+
+    /// The references that the last call, a build that ended with its outputs, reported.
+    fn reported(&self) -> Result<Refs, AllocError>
+        requires { (refs : List (List (List ℕ))) × Reports (state self.now) refs }
+        ensures { IfOk result (Reports (state self.now)) };
+
+    /// How far it is with the lease that it serves.
+    fn phase(&self) -> Phase
+        ensures { result ≡ (state self.now).phase };
+}

@@ -1,0 +1,44 @@
+-- Lemmas on what a worker is known to have done.
+use Rattle.std.proofs.Common.{◌≡◌, List, [], ◌++◌, refl, sym, subst}
+use Rattle.std.proofs.lemmas.List.{append-nil}
+use Rattle.nd_history.specs.declared.entry.Entry.{Entry}
+use Rattle.nd_receipts.specs.declared.receipt.Receipt.{Receipt}
+use Rattle.nd_workers.specs.declared.working.End.{End}
+use Rattle.nd_workers.specs.declared.working.End.TheVariants.{Again, Finished, Left, Refused}
+use Rattle.nd_receipts.specs.Receipts.AreCallsOfAll.{none}
+use Rattle.nd_receipts.specs.Noted.{Noted, Track, track, GoesOn}
+use Rattle.nd_workers.specs.Ends.{EndsWell}
+use Rattle.nd_workers.specs.Served.{Seated, IsServed}
+use Rattle.nd_workers.proofs.Going.{goes_further}
+
+-- a worker that did nothing
+pub served_idle : (b : Seated) (notes : Noted) → notes.receipts ≡ [] → notes.copies ≡ [] → IsServed b Left b notes
+served_idle b notes rs es = record {
+  machine = refl;
+  slot = refl;
+  goes = record {
+    receipts = [];
+    copies = [];
+    calls = [];
+    receipts_are = rs;
+    copies_are = es;
+    calls_are = sym (append-nil b.calls);
+    agree = none;
+  };
+}
+
+-- a worker that began without receipts
+pub served_by : (b a : Seated) (how : End) (old notes : Noted) → old.receipts ≡ [] → old.copies ≡ [] → EndsWell how (track old b.calls) (track notes a.calls) → a.machine ≡ b.machine → a.slot ≡ b.slot → IsServed b how a notes
+served_by b a how old notes rs es ends machine slot =
+    let P : List Receipt → Type 0 = λ r. EndsWell how (record { receipts = r; copies = old.copies; calls = b.calls }) (track notes a.calls) in
+    let Q : List Entry → Type 0 = λ e. EndsWell how (record { receipts = []; copies = e; calls = b.calls }) (track notes a.calls) in
+    record { machine = machine; slot = slot; goes = subst Q es (subst P rs ends) }
+
+pub ruleset servings = (served_idle, served_by)
+
+-- one end after another
+pub ends_further : (how : End) (s t u : Track) → GoesOn s t → EndsWell how t u → EndsWell how s u
+ends_further Again s t u one two = goes_further s t u one two
+ends_further Finished s t u one two = goes_further s t u one two
+ends_further Left s t u one two = goes_further s t u one two
+ends_further Refused s t u one two = tt

@@ -1,0 +1,192 @@
+//! What lies under the lock: the dispatch, and how many entries the workers made.
+
+ghost use Rattle.std.specs.Prelude.{◌≡◌, ◌+◌, ◌<◌, ◌≤◌, true, IfErr, OnOk, OnErr, IsTrue};
+ghost use Rattle.nd_receipts.specs.Made.{made, is_worker_cause};
+
+use crate::abandoning::abandon;
+use nd_closure::Refs;
+use nd_history::{Ticket, Why};
+use nd_ledger::{Dispatch, Job, Refusal, Refused};
+use nd_path::PathSet;
+use std::alloc::Global;
+use std::sync::ledger::{Book, Ledger, Share};
+
+/// The dispatch with the book of what the workers made, and the places that workers serve.
+#[derive(Drop)]
+pub(crate) struct Desk<L: Ledger> {
+    pub(crate) dispatch: Dispatch,
+    pub(crate) book: Book<L>,
+    pub(crate) manned: Vec<(u32, u32)>,
+    pub(crate) short: bool,
+    pub(crate) threadless: bool,
+    ghost counted: { made dispatch.history ≡ book.total },
+}
+
+/// What there is to do for a worker.
+#[derive(Drop)]
+pub(crate) enum Next {
+    /// Nothing is leased or waits any more.
+    Finished,
+    /// Its slot has no lease.
+    Wait,
+    /// Its slot's lease.
+    Serve(Job),
+    /// There was no memory for the job of its slot's lease.
+    Short(Ticket),
+}
+
+#[tactic(auto, using(crate::proofs::Counts::made_one, crate::proofs::Counts::pumped_made, crate::proofs::Counts::pumped_by_made, crate::proofs::Counts::abandoned_made))]
+impl<L: Ledger> Desk<L> {
+    /// Records a start.
+    pub(crate) fn start(
+        &mut self,
+        alloc: Global,
+        ticket: Ticket,
+        paths: PathSet,
+        mine: &mut Share<L>,
+    ) -> Result<usize, Refused<PathSet>>
+        requires { 0 < mine.old.parts }
+        ensures ok { OnOk result (mine.new.amount ≡ mine.old.amount + 1) }
+        ensures err { OnErr result (mine.new.amount ≡ mine.old.amount) }
+        ensures parts { mine.new.parts ≡ mine.old.parts }
+        ensures back { IfErr result (λ r. r.value ≡ paths) }
+    {
+        let Desk { dispatch, book, .. } = self;
+        let index = dispatch.history().len();
+        match dispatch.started(alloc, ticket, paths) {
+            Ok(()) => {
+                book.add(mine, 1);
+                Ok(index)
+            }
+            Err(refused) => Err(refused),
+        }
+    }
+
+    /// Records that a lease is given back.
+    pub(crate) fn down(&mut self, ticket: Ticket, mine: &mut Share<L>) -> Result<usize, Refusal>
+        requires { 0 < mine.old.parts }
+        ensures ok { OnOk result (mine.new.amount ≡ mine.old.amount + 1) }
+        ensures err { OnErr result (mine.new.amount ≡ mine.old.amount) }
+        ensures parts { mine.new.parts ≡ mine.old.parts }
+    {
+        let Desk { dispatch, book, .. } = self;
+        let index = dispatch.history().len();
+        match dispatch.down(ticket) {
+            Ok(()) => {
+                book.add(mine, 1);
+                Ok(index)
+            }
+            Err(refusal) => Err(refusal),
+        }
+    }
+
+    /// Records the end of a build with its outputs.
+    pub(crate) fn end(
+        &mut self,
+        alloc: Global,
+        ticket: Ticket,
+        refs: Refs,
+        mine: &mut Share<L>,
+    ) -> Result<usize, Refusal>
+        requires { 0 < mine.old.parts }
+        ensures ok { OnOk result (mine.new.amount ≡ mine.old.amount + 1) }
+        ensures err { OnErr result (mine.new.amount ≡ mine.old.amount) }
+        ensures parts { mine.new.parts ≡ mine.old.parts }
+    {
+        let Desk { dispatch, book, .. } = self;
+        let index = dispatch.history().len();
+        match dispatch.built(alloc, ticket, refs) {
+            Ok(()) => {
+                book.add(mine, 1);
+                Ok(index)
+            }
+            Err(refused) => Err(refused.why),
+        }
+    }
+
+    /// Records the end of a lease without outputs.
+    pub(crate) fn fail(
+        &mut self,
+        ticket: Ticket,
+        why: Why,
+        mine: &mut Share<L>,
+    ) -> Result<usize, Refusal>
+        requires part { 0 < mine.old.parts }
+        requires cause { is_worker_cause why ≡ true }
+        ensures ok { OnOk result (mine.new.amount ≡ mine.old.amount + 1) }
+        ensures err { OnErr result (mine.new.amount ≡ mine.old.amount) }
+        ensures parts { mine.new.parts ≡ mine.old.parts }
+    {
+        let Desk { dispatch, book, .. } = self;
+        let index = dispatch.history().len();
+        match dispatch.failed(ticket, why) {
+            Ok(()) => {
+                book.add(mine, 1);
+                Ok(index)
+            }
+            Err(refusal) => Err(refusal),
+        }
+    }
+
+    /// Before the first of so many workers. Where there is none the calling thread pumps once.
+    pub(crate) fn begin(&mut self, workers: usize) {
+        if workers == 0 {
+            self.pump();
+        }
+    }
+
+    /// Makes the choices that can be made. Where memory is refused nothing more is begun.
+    pub(crate) fn pump(&mut self) {
+        let Desk {
+            dispatch,
+            manned,
+            short,
+            ..
+        } = self;
+        if dispatch.pump().is_err() {
+            *short = true;
+            abandon(dispatch, manned.as_slice());
+        }
+    }
+
+    /// The worker of this place leaves for want of memory, and nothing more is begun.
+    pub(crate) fn leave(&mut self, machine: u32, slot: u32) {
+        let Desk {
+            dispatch,
+            manned,
+            short,
+            ..
+        } = self;
+        *short = true;
+        manned.retain(|place| machine != place.0 || slot != place.1);
+        abandon(dispatch, manned.as_slice());
+    }
+
+    /// Only the first `started` workers have threads, and nothing more is begun.
+    pub(crate) fn unstarted(&mut self, started: usize) {
+        let Desk {
+            dispatch,
+            manned,
+            threadless,
+            ..
+        } = self;
+        *threadless = true;
+        manned.truncate(started);
+        abandon(dispatch, manned.as_slice());
+    }
+
+    /// What there is to do for the worker of this place.
+    pub(crate) fn next(&mut self, alloc: Global, machine: u32, slot: u32) -> Next {
+        self.pump();
+        if self.dispatch.finished() {
+            return Next::Finished;
+        }
+        let Some(ticket) = self.dispatch.current(machine, slot) else {
+            return Next::Wait;
+        };
+        match self.dispatch.job(alloc, &ticket) {
+            Ok(job) => Next::Serve(job),
+            Err(_) => Next::Short(ticket),
+        }
+    }
+}

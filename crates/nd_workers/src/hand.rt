@@ -1,0 +1,166 @@
+//! What a worker holds: its share of the entries that were made, and its notes.
+
+ghost use Rattle.std.specs.Prelude.{◌≡◌, ◌+◌, ◌<◌, ◌≤◌, [], length, true, IfErr, OnOk, OnErr};
+ghost use Rattle.nd_receipts.specs.Made.{is_worker_cause};
+ghost use Rattle.nd_receipts.specs.Noted.{HasNoted};
+
+use crate::desk::Desk;
+use nd_closure::Refs;
+use nd_history::{Entry, Ticket, Why};
+use nd_ledger::{Refusal, Refused};
+use nd_path::PathSet;
+use nd_receipts::notes::Notes;
+use nd_receipts::receipt::{Kind, Receipt};
+use std::alloc::{AllocError, Global};
+use std::sync::ledger::{Ledger, Share};
+
+/// A worker's share, which is the number of its receipts, and its notes.
+#[derive(Drop)]
+pub(crate) struct Hand<L: Ledger> {
+    pub(crate) share: Share<L>,
+    pub(crate) notes: Notes,
+    ghost part: { share.parts ≡ 1 },
+    ghost counted: { share.amount ≡ length notes.receipts },
+}
+
+impl<L: Ledger> Hand<L> {
+    /// A hand without receipts. It takes no memory.
+    pub(crate) fn new(alloc: Global, share: Share<L>) -> Hand<L>
+        requires part { share.parts ≡ 1 }
+        requires none { share.amount ≡ 0 }
+        ensures receipts { result.notes.receipts ≡ [] }
+        ensures copies { result.notes.copies ≡ [] }
+    {
+        Hand {
+            share,
+            notes: Notes::new(alloc),
+        }
+    }
+
+    /// Makes room for two receipts.
+    pub(crate) fn make_room(&mut self) -> Result<(), AllocError>
+        ensures receipts { self.new.notes.receipts ≡ self.old.notes.receipts }
+        ensures copies { self.new.notes.copies ≡ self.old.notes.copies }
+        ensures made { OnOk result (1 < self.new.notes.room) }
+    {
+        self.notes.make_room(2)
+    }
+
+    /// Makes a start, and notes it.
+    pub(crate) fn start(
+        &mut self,
+        alloc: Global,
+        desk: &mut Desk<L>,
+        ticket: Ticket,
+        paths: PathSet,
+        copy: Entry,
+    ) -> Result<(), Refused<PathSet>>
+        requires room { 0 < self.old.notes.room }
+        requires copy { copy ≡ Entry.Started ticket.drv paths }
+        ensures ok { OnOk result (HasNoted self.old.notes self.new.notes Kind.Started 2 [] (Entry.Started ticket.drv paths)) }
+        ensures err { OnErr result (self.new.notes ≡ self.old.notes) }
+        ensures back { IfErr result (λ r. r.value ≡ paths) }
+    {
+        let Hand { share, notes } = self;
+        match desk.start(alloc, ticket, paths, share) {
+            Ok(index) => {
+                let receipt = Receipt {
+                    index,
+                    kind: Kind::Started,
+                    calls: 2,
+                    paths: PathSet::new(alloc),
+                };
+                notes.note(receipt, copy);
+                Ok(())
+            }
+            Err(refused) => Err(refused),
+        }
+    }
+
+    /// Gives a lease back, and notes it.
+    pub(crate) fn down(
+        &mut self,
+        desk: &mut Desk<L>,
+        ticket: Ticket,
+        calls: u8,
+        paths: PathSet,
+    ) -> Result<(), Refusal>
+        requires room { 0 < self.old.notes.room }
+        ensures ok { OnOk result (HasNoted self.old.notes self.new.notes Kind.Down calls paths (Entry.Down ticket.drv)) }
+    {
+        let Hand { share, notes } = self;
+        match desk.down(ticket, share) {
+            Ok(index) => {
+                let receipt = Receipt {
+                    index,
+                    kind: Kind::Down,
+                    calls,
+                    paths,
+                };
+                notes.note(receipt, Entry::Down { drv: ticket.drv });
+                Ok(())
+            }
+            Err(refusal) => Err(refusal),
+        }
+    }
+
+    /// Ends a build with its outputs, and notes it.
+    pub(crate) fn end(
+        &mut self,
+        alloc: Global,
+        desk: &mut Desk<L>,
+        ticket: Ticket,
+        refs: Refs,
+        copy: Entry,
+    ) -> Result<(), Refusal>
+        requires room { 0 < self.old.notes.room }
+        requires copy { copy ≡ Entry.Built ticket.drv refs }
+        ensures ok { OnOk result (HasNoted self.old.notes self.new.notes Kind.Built 1 [] (Entry.Built ticket.drv refs)) }
+        ensures err { OnErr result (self.new.notes ≡ self.old.notes) }
+    {
+        let Hand { share, notes } = self;
+        match desk.end(alloc, ticket, refs, share) {
+            Ok(index) => {
+                let receipt = Receipt {
+                    index,
+                    kind: Kind::Built,
+                    calls: 1,
+                    paths: PathSet::new(alloc),
+                };
+                notes.note(receipt, copy);
+                Ok(())
+            }
+            Err(refusal) => Err(refusal),
+        }
+    }
+
+    /// Ends a lease without outputs, and notes it.
+    pub(crate) fn fail(
+        &mut self,
+        desk: &mut Desk<L>,
+        ticket: Ticket,
+        why: Why,
+        calls: u8,
+        paths: PathSet,
+    ) -> Result<(), Refusal>
+        requires room { 0 < self.old.notes.room }
+        requires cause { is_worker_cause why ≡ true }
+        ensures ok { OnOk result (HasNoted self.old.notes self.new.notes Kind.Failed calls paths (Entry.Failed ticket.drv why)) }
+    {
+        let Hand { share, notes } = self;
+        match desk.fail(ticket, why, share) {
+            Ok(index) => {
+                let receipt = Receipt {
+                    index,
+                    kind: Kind::Failed,
+                    calls,
+                    paths,
+                };
+                let drv = ticket.drv;
+                notes.note(receipt, Entry::Failed { drv, why });
+                Ok(())
+            }
+            Err(refusal) => Err(refusal),
+        }
+    }
+}

@@ -1,0 +1,356 @@
+//! How a worker serves a lease: under the lock it makes entries, and with the lock free it calls its
+//! transport.
+
+ghost use Rattle.std.specs.Prelude.{◌≡◌, ◌+◌, ◌<◌, ◌≤◌, [], true, IfOk, IfErr, OnOk, OnErr, ℕ, List};
+ghost use Rattle.nd_receipts.specs.Made.{is_worker_cause};
+ghost use Rattle.nd_receipts.specs.Noted.{HasNoted, HasBegun, HasEnded, GoesOn, track};
+ghost use Rattle.nd_transports.specs.Services.{Fetches, Serves};
+
+use crate::desk::Desk;
+use crate::hand::Hand;
+use nd_closure::Refs;
+use nd_history::{Entry, Ticket, Why};
+use nd_ledger::{Job, Refusal, Refused};
+use nd_path::PathSet;
+use nd_receipts::receipt::Kind;
+use nd_transports::kinds::{Ended, Phase};
+use nd_transports::serving::{Fetch, Outcome};
+use nd_transports::transport::Transport;
+use std::alloc::Global;
+use std::sync::ledger::Ledger;
+use std::sync::{Condvar, Mutex, Wait};
+
+/// What the workers share.
+#[derive(Drop)]
+pub(crate) struct Shared<L: Ledger> {
+    pub(crate) desk: Mutex<Desk<L>>,
+    pub(crate) changed: Condvar,
+}
+
+/// As [`nd_transports::serving::serve_copy`], through a transport of any type.
+fn fetch<T: Transport>(transport: &mut T, job: &Job) -> Fetch
+    ensures { Fetches (T.state transport.old) job.now.ticket.drv job.now.paths result (T.state transport.new) }
+{
+    if transport.prepare(job).is_err() {
+        return Fetch::Memory;
+    }
+    if !transport.connect() {
+        return Fetch::Refused(1);
+    }
+    if !transport.copy() {
+        return Fetch::Refused(2);
+    }
+    Fetch::Copied
+}
+
+/// As [`nd_transports::serving::serve_build`], through a transport of any type.
+fn build<T: Transport>(transport: &mut T) -> Outcome
+    requires { (T.state transport.old).phase ≡ Phase.Copied }
+    ensures { Serves (T.state transport.old) result (T.state transport.new) }
+{
+    match transport.build() {
+        Ended::Built => match transport.reported() {
+            Ok(refs) => Outcome::Built(refs),
+            Err(_) => Outcome::Memory,
+        },
+        Ended::Status(code) => Outcome::Status(code),
+        Ended::Lost => Outcome::Lost,
+    }
+}
+
+/// Under the lock, gives a lease back.
+fn down<L: Ledger, R: Wait>(
+    rt: &R,
+    shared: &Shared<L>,
+    hand: &mut Hand<L>,
+    ticket: Ticket,
+    calls: u8,
+    paths: PathSet,
+) -> Result<(), Refusal>
+    requires room { 0 < hand.old.notes.room }
+    ensures ok { OnOk result (HasNoted hand.old.notes hand.new.notes Kind.Down calls paths (Entry.Down ticket.drv)) }
+{
+    let mut desk = shared.desk.lock(rt);
+    let made = hand.down(&mut *desk, ticket, calls, paths);
+    shared.changed.notify_all();
+    made
+}
+
+/// Under the lock, ends a lease without outputs.
+pub(crate) fn fail<L: Ledger, R: Wait>(
+    rt: &R,
+    shared: &Shared<L>,
+    hand: &mut Hand<L>,
+    ticket: Ticket,
+    why: Why,
+    calls: u8,
+    paths: PathSet,
+) -> Result<(), Refusal>
+    requires room { 0 < hand.old.notes.room }
+    requires cause { is_worker_cause why ≡ true }
+    ensures ok { OnOk result (HasNoted hand.old.notes hand.new.notes Kind.Failed calls paths (Entry.Failed ticket.drv why)) }
+{
+    let mut desk = shared.desk.lock(rt);
+    let made = hand.fail(&mut *desk, ticket, why, calls, paths);
+    shared.changed.notify_all();
+    made
+}
+
+/// Under the lock, makes a start. It gives nobody work, so it wakes nobody.
+fn start<L: Ledger, R: Wait>(
+    rt: &R,
+    alloc: Global,
+    shared: &Shared<L>,
+    hand: &mut Hand<L>,
+    ticket: Ticket,
+    paths: PathSet,
+    copy: Entry,
+) -> Result<(), Refused<PathSet>>
+    requires room { 0 < hand.old.notes.room }
+    requires copy { copy ≡ Entry.Started ticket.drv paths }
+    ensures ok { OnOk result (HasNoted hand.old.notes hand.new.notes Kind.Started 2 [] (Entry.Started ticket.drv paths)) }
+    ensures err { OnErr result (hand.new.notes ≡ hand.old.notes) }
+    ensures back { IfErr result (λ r. r.value ≡ paths) }
+{
+    let mut desk = shared.desk.lock(rt);
+    hand.start(alloc, &mut *desk, ticket, paths, copy)
+}
+
+/// Under the lock, ends a build with its outputs.
+fn end<L: Ledger, R: Wait>(
+    rt: &R,
+    alloc: Global,
+    shared: &Shared<L>,
+    hand: &mut Hand<L>,
+    ticket: Ticket,
+    refs: Refs,
+    copy: Entry,
+) -> Result<(), Refusal>
+    requires room { 0 < hand.old.notes.room }
+    requires copy { copy ≡ Entry.Built ticket.drv refs }
+    ensures ok { OnOk result (HasNoted hand.old.notes hand.new.notes Kind.Built 1 [] (Entry.Built ticket.drv refs)) }
+    ensures err { OnErr result (hand.new.notes ≡ hand.old.notes) }
+{
+    let mut desk = shared.desk.lock(rt);
+    let made = hand.end(alloc, &mut *desk, ticket, refs, copy);
+    shared.changed.notify_all();
+    made
+}
+
+/// Makes a start with the paths that were copied. The answer is whether there was memory for it; where
+/// there was none the lease failed.
+fn begin<L: Ledger, R: Wait>(
+    rt: &R,
+    alloc: Global,
+    shared: &Shared<L>,
+    hand: &mut Hand<L>,
+    ticket: Ticket,
+    paths: PathSet,
+) -> Result<bool, Refusal>
+    requires { 0 < hand.old.notes.room }
+    ensures { IfOk result (HasBegun hand.old.notes hand.new.notes ticket.drv paths) }
+{
+    let copy = match paths.try_clone() {
+        Ok(paths) => Entry::Started {
+            drv: ticket.drv,
+            paths,
+        },
+        Err(_) => return match fail(rt, shared, hand, ticket, Why::Memory, 2, paths) {
+            Ok(()) => Ok(false),
+            Err(refusal) => Err(refusal),
+        },
+    };
+    match start(rt, alloc, shared, hand, ticket, paths, copy) {
+        Ok(()) => Ok(true),
+        Err(Refused { why, value }) => unstarted(rt, shared, hand, ticket, why, value),
+    }
+}
+
+/// What becomes of a start that was refused: for want of memory the lease failed.
+fn unstarted<L: Ledger, R: Wait>(
+    rt: &R,
+    shared: &Shared<L>,
+    hand: &mut Hand<L>,
+    ticket: Ticket,
+    why: Refusal,
+    paths: PathSet,
+) -> Result<bool, Refusal>
+    requires { 0 < hand.old.notes.room }
+    ensures { IfOk result (HasBegun hand.old.notes hand.new.notes ticket.drv paths) }
+{
+    if why != Refusal::Memory {
+        return Err(why);
+    }
+    match fail(rt, shared, hand, ticket, Why::Memory, 2, paths) {
+        Ok(()) => Ok(false),
+        Err(refusal) => Err(refusal),
+    }
+}
+
+/// Ends a build that reported these references. Where it may not have them, or where there is no
+/// memory for them, the lease failed.
+#[tactic(auto, using(crate::proofs::Going::endings))]
+fn finish<L: Ledger, R: Wait>(
+    rt: &R,
+    alloc: Global,
+    shared: &Shared<L>,
+    hand: &mut Hand<L>,
+    ticket: Ticket,
+    refs: Refs,
+) -> Result<(), Refusal>
+    requires { 0 < hand.old.notes.room }
+    ensures { OnOk result (HasEnded hand.old.notes hand.new.notes ticket.drv refs) }
+{
+    let copy = match refs.try_clone() {
+        Ok(refs) => Entry::Built {
+            drv: ticket.drv,
+            refs,
+        },
+        Err(_) => {
+            let none = PathSet::new(alloc);
+            fail(rt, shared, hand, ticket, Why::Memory, 1, none)?;
+            return Ok(());
+        }
+    };
+    let Err(refusal) = end(rt, alloc, shared, hand, ticket, refs, copy) else {
+        return Ok(());
+    };
+    unfinished(rt, alloc, shared, hand, ticket, refusal)?;
+    Ok(())
+}
+
+/// What becomes of an end that was refused: for wrong references and for want of memory the lease
+/// failed.
+#[tactic(auto, using(crate::proofs::Going::endings))]
+fn unfinished<L: Ledger, R: Wait>(
+    rt: &R,
+    alloc: Global,
+    shared: &Shared<L>,
+    hand: &mut Hand<L>,
+    ticket: Ticket,
+    refusal: Refusal,
+) -> Result<(), Refusal>
+    requires { 0 < hand.old.notes.room }
+    ensures { (refs : List (List (List ℕ))) → OnOk result (HasEnded hand.old.notes hand.new.notes ticket.drv refs) }
+{
+    let none = PathSet::new(alloc);
+    if refusal == Refusal::BadReferences {
+        fail(rt, shared, hand, ticket, Why::BadReferences, 1, none)?;
+        return Ok(());
+    }
+    if refusal == Refusal::Memory {
+        fail(rt, shared, hand, ticket, Why::Memory, 1, none)?;
+        return Ok(());
+    }
+    Err(refusal)
+}
+
+/// Builds what was copied, and makes the entry of its end.
+#[tactic(auto, using(crate::proofs::Going::goings))]
+fn build_lease<L: Ledger, T: Transport, R: Wait>(
+    rt: &R,
+    alloc: Global,
+    shared: &Shared<L>,
+    hand: &mut Hand<L>,
+    transport: &mut T,
+    ticket: Ticket,
+) -> Result<(), Refusal>
+    requires room { 0 < hand.old.notes.room }
+    requires phase { (T.state transport.old).phase ≡ Phase.Copied }
+    requires drv { (T.state transport.old).drv ≡ ticket.drv }
+    ensures { OnOk result (GoesOn (track hand.old.notes (T.state transport.old).calls) (track hand.new.notes (T.state transport.new).calls)) }
+{
+    match build(transport) {
+        Outcome::Built(refs) => {
+            finish(rt, alloc, shared, hand, ticket, refs)?;
+            Ok(())
+        }
+        Outcome::Status(code) => {
+            let none = PathSet::new(alloc);
+            fail(rt, shared, hand, ticket, Why::Status(code), 1, none)?;
+            Ok(())
+        }
+        Outcome::Lost => {
+            let none = PathSet::new(alloc);
+            fail(rt, shared, hand, ticket, Why::Lost, 1, none)?;
+            Ok(())
+        }
+        Outcome::Memory => {
+            let none = PathSet::new(alloc);
+            fail(rt, shared, hand, ticket, Why::Memory, 1, none)?;
+            Ok(())
+        }
+    }
+}
+
+/// Copies what a lease needs, and makes the entry of its start. The answer is whether it started.
+#[tactic(auto, using(crate::proofs::Going::goings))]
+fn fetch_lease<L: Ledger, T: Transport, R: Wait>(
+    rt: &R,
+    alloc: Global,
+    shared: &Shared<L>,
+    hand: &mut Hand<L>,
+    transport: &mut T,
+    job: Job,
+) -> Result<bool, Refusal>
+    requires { 0 < hand.old.notes.room }
+    ensures goes { OnOk result (GoesOn (track hand.old.notes (T.state transport.old).calls) (track hand.new.notes (T.state transport.new).calls)) }
+    ensures phase { result ≡ Ok true → (T.state transport.new).phase ≡ Phase.Copied }
+    ensures drv { result ≡ Ok true → (T.state transport.new).drv ≡ job.ticket.drv }
+    ensures room { OnOk result (hand.old.notes.room ≤ hand.new.notes.room + 1) }
+{
+    let fetched = fetch(transport, &job);
+    let Job {
+        ticket,
+        path: _,
+        outputs: _,
+        paths,
+    } = job;
+    match fetched {
+        Fetch::Copied => {
+            let begun = begin(rt, alloc, shared, hand, ticket, paths)?;
+            Ok(begun)
+        }
+        Fetch::Refused(calls) => {
+            let kept = copied_paths(alloc, calls, paths);
+            down(rt, shared, hand, ticket, calls, kept)?;
+            Ok(false)
+        }
+        Fetch::Memory => {
+            let none = PathSet::new(alloc);
+            fail(rt, shared, hand, ticket, Why::Memory, 0, none)?;
+            Ok(false)
+        }
+    }
+}
+
+/// The paths of a copy among this many calls: there is none where the first call was refused.
+fn copied_paths(alloc: Global, calls: u8, paths: PathSet) -> PathSet
+    ensures { calls ≡ 2 → result ≡ paths }
+{
+    if calls == 2 {
+        return paths;
+    }
+    PathSet::new(alloc)
+}
+
+/// Serves a lease to its end.
+#[tactic(auto, using(crate::proofs::Going::goings))]
+pub(crate) fn serve<L: Ledger, T: Transport, R: Wait>(
+    rt: &R,
+    alloc: Global,
+    shared: &Shared<L>,
+    hand: &mut Hand<L>,
+    transport: &mut T,
+    job: Job,
+) -> Result<(), Refusal>
+    requires { 1 < hand.old.notes.room }
+    ensures { OnOk result (GoesOn (track hand.old.notes (T.state transport.old).calls) (track hand.new.notes (T.state transport.new).calls)) }
+{
+    let ticket = job.ticket;
+    if !fetch_lease(rt, alloc, shared, hand, transport, job)? {
+        return Ok(());
+    }
+    build_lease(rt, alloc, shared, hand, transport, ticket)?;
+    Ok(())
+}

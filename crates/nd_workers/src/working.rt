@@ -1,0 +1,136 @@
+//! The loop of a worker.
+
+ghost use Rattle.std.specs.Prelude.{◌≡◌, ◌<◌, [], ℕ, List};
+ghost use Rattle.nd_receipts.specs.Noted.{GoesOn, track};
+ghost use Rattle.nd_workers.specs.Ends.{EndsWell};
+
+use crate::desk::Next;
+use crate::hand::Hand;
+use crate::leasing::{Shared, fail, serve};
+use crate::seat::Seat;
+use nd_history::Why;
+use nd_path::PathSet;
+use nd_transports::transport::Transport;
+use std::alloc::Global;
+use std::sync::Wait;
+use std::sync::ledger::Ledger;
+
+/// How a worker ended, or that it goes on.
+#[derive(Clone, Copy, Debug, PartialEq, Eq)]
+pub(crate) enum End {
+    /// It served a lease, and goes on.
+    Again,
+    /// Nothing is leased or waits any more.
+    Finished,
+    /// It found no room for more receipts.
+    Left,
+    /// An entry of its own was refused.
+    Refused,
+}
+
+/// What a worker hands back.
+#[derive(Drop)]
+pub(crate) struct Done<L: Ledger, T: Transport> {
+    pub(crate) seat: Seat<T>,
+    pub(crate) hand: Hand<L>,
+    pub(crate) end: End,
+}
+
+/// Waits until there is something to do for the worker of this place.
+fn take<L: Ledger, R: Wait>(
+    rt: &R,
+    alloc: Global,
+    shared: &Shared<L>,
+    machine: u32,
+    slot: u32,
+) -> Next {
+    let mut desk = shared.desk.lock(rt);
+    for _ in rt.forever() {
+        match desk.next(alloc, machine, slot) {
+            Next::Wait => {}
+            Next::Finished => {
+                // Those who wait may not know yet.
+                shared.changed.notify_all();
+                return Next::Finished;
+            }
+            Next::Serve(job) => return Next::Serve(job),
+            Next::Short(ticket) => return Next::Short(ticket),
+        }
+        desk = shared.changed.wait(rt, desk);
+    }
+    unreachable!()
+}
+
+/// The worker of this place leaves, and nothing more is begun.
+pub(crate) fn leave<L: Ledger, R: Wait>(rt: &R, shared: &Shared<L>, machine: u32, slot: u32) {
+    let mut desk = shared.desk.lock(rt);
+    desk.leave(machine, slot);
+    shared.changed.notify_all();
+}
+
+/// One lease of a worker.
+#[tactic(auto, using(crate::proofs::Going::goings))]
+fn turn<L: Ledger, T: Transport, R: Wait>(
+    rt: &R,
+    alloc: Global,
+    shared: &Shared<L>,
+    hand: &mut Hand<L>,
+    seat: &mut Seat<T>,
+) -> End
+    ensures goes { EndsWell result (track hand.old.notes (T.state seat.old.transport).calls) (track hand.new.notes (T.state seat.new.transport).calls) }
+    ensures machine { seat.new.machine ≡ seat.old.machine }
+    ensures slot { seat.new.slot ≡ seat.old.slot }
+{
+    if hand.make_room().is_err() {
+        leave(rt, shared, seat.machine, seat.slot);
+        return End::Left;
+    }
+    match take(rt, alloc, shared, seat.machine, seat.slot) {
+        Next::Finished => End::Finished,
+        Next::Serve(job) => match serve(rt, alloc, shared, hand, &mut seat.transport, job) {
+            Ok(()) => End::Again,
+            Err(_) => {
+                leave(rt, shared, seat.machine, seat.slot);
+                End::Refused
+            }
+        },
+        Next::Short(ticket) => {
+            let none = PathSet::new(alloc);
+            match fail(rt, shared, hand, ticket, Why::Memory, 0, none) {
+                Ok(()) => End::Again,
+                Err(_) => {
+                    leave(rt, shared, seat.machine, seat.slot);
+                    End::Refused
+                }
+            }
+        }
+        Next::Wait => {
+            leave(rt, shared, seat.machine, seat.slot);
+            End::Refused
+        }
+    }
+}
+
+/// Serves the leases of a place until nothing is leased or waits any more.
+#[tactic(auto, using(crate::proofs::Going::goings))]
+pub(crate) fn work<L: Ledger, T: Transport, R: Wait>(
+    rt: &R,
+    alloc: Global,
+    shared: &Shared<L>,
+    hand: Hand<L>,
+    seat: Seat<T>,
+) -> Done<L, T>
+    ensures goes { EndsWell result.end (track hand.notes (T.state seat.transport).calls) (track result.hand.notes (T.state result.seat.transport).calls) }
+    ensures machine { result.seat.machine ≡ seat.machine }
+    ensures slot { result.seat.slot ≡ seat.slot }
+{
+    let mut hand = hand;
+    let mut seat = seat;
+    'serving: for _ in rt.forever() {
+        let end = turn(rt, alloc, shared, &mut hand, &mut seat);
+        if end != End::Again {
+            return Done { seat, hand, end };
+        }
+    }
+    unreachable!()
+}
