@@ -1,73 +1,141 @@
 //! What the commands answer, for the tests beside this file.
 
 use nd_bytes::ByteString;
-use nd_cli::{ParkOptions, ask_engine, path_engine};
+use nd_cli::{CliFault, ParkOptions, ask_engine, path_engine};
 use nd_hook::Told;
 use std::alloc::{AllocError, Global};
 use std::thread::Threads;
 
-/// What a command answered: its exit status, or its status and the line of its fault; and what it
-/// wrote.
-#[derive(Debug, Drop)]
-pub struct Answer {
-    pub said: String,
-    pub written: Vec<u8>,
+/// What a command is to answer.
+#[derive(Clone, Copy)]
+pub enum Want<'a> {
+    /// It writes this, and its status is 0.
+    Written(&'a [u8]),
+    /// It writes nothing, its status is 3, and this is the line of its fault.
+    Refused(&'a str),
 }
 
-impl Answer {
-    /// Whether it said and wrote just this.
-    pub fn is(&self, said: &str, written: &str) -> bool {
-        self.said.as_str() == said && self.written.as_slice() == written.as_bytes()
+/// The options of `ask` that the tests choose.
+#[derive(Clone, Copy)]
+pub struct Park<'a> {
+    /// The builders list.
+    pub builders: &'a [u8],
+    /// The number of local jobs.
+    pub jobs: u16,
+    /// Whether the paths of the bundle are checked.
+    pub check_paths: bool,
+}
+
+/// These builders and one local job.
+pub fn builders(builders: &[u8]) -> Park<'_> {
+    Park {
+        builders,
+        jobs: 1,
+        check_paths: false,
     }
 }
 
-/// The options of a command with these builders and this number of local jobs.
-pub fn options(alloc: Global, builders: &str, jobs: u16) -> Result<ParkOptions, AllocError> {
-    Ok(ParkOptions {
-        builders: ByteString::from_slice(alloc, builders.as_bytes())?,
-        system: ByteString::from_slice(alloc, b"x86_64-linux")?,
-        extra: ByteString::from_slice(alloc, b"")?,
-        features: ByteString::from_slice(alloc, b"")?,
-        jobs,
-        keep_going: false,
+/// These builders and no local job.
+pub fn builders_alone(builders: &[u8]) -> Park<'_> {
+    Park {
+        builders,
+        jobs: 0,
         check_paths: false,
-        info: ByteString::from_slice(alloc, b"")?,
+    }
+}
+
+/// The options of `ask` on a park.
+pub fn options(alloc: Global, park: Park) -> Result<ParkOptions, AllocError> {
+    let builders = ByteString::from_slice(alloc, park.builders)?;
+    let system = ByteString::from_slice(alloc, b"x86_64-linux")?;
+    Ok(ParkOptions {
+        builders,
+        system,
+        extra: ByteString::new(Vec::new(alloc)),
+        features: ByteString::new(Vec::new(alloc)),
+        jobs: park.jobs,
+        keep_going: false,
+        check_paths: park.check_paths,
+        info: ByteString::new(Vec::new(alloc)),
     })
 }
 
-/// What `ask` answers.
-pub fn asked<R: Threads + Sync>(
+/// The parts, one behind the other.
+pub fn joined(alloc: Global, parts: &[&[u8]]) -> Result<Vec<u8>, AllocError> {
+    let mut bytes = Vec::new(alloc);
+    for part in parts {
+        bytes.extend_from_slice(part)?;
+    }
+    Ok(bytes)
+}
+
+/// Whether a fault has this line. Want of memory is a no.
+pub fn has_line(alloc: Global, fault: &CliFault, line: &str) -> bool {
+    match format!(in alloc; "{fault}") {
+        Ok(said) => said.as_str() == line,
+        Err(_) => false,
+    }
+}
+
+/// Whether a command answered as it is to, and wrote this.
+fn is_answer(alloc: Global, answer: Result<u8, CliFault>, written: &[u8], want: Want) -> bool {
+    match (&answer, want) {
+        (Ok(status), Want::Written(text)) => *status == 0 && written == text,
+        (Err(fault), Want::Refused(line)) => {
+            written.is_empty() && fault.status() == 3 && has_line(alloc, fault, line)
+        }
+        _ => false,
+    }
+}
+
+/// Whether `ask` answers so with these options.
+fn answers<R: Threads + Sync>(
     rt: &R,
     alloc: Global,
     options: &ParkOptions,
     bundle: &[u8],
-) -> Result<Answer, AllocError> {
+    want: Want,
+) -> bool {
     let mut output = Told::new(Vec::new(alloc));
-    let said = match ask_engine(rt, alloc, options, &mut Told::new(bundle), &mut output) {
-        Ok(status) => format!(in alloc; "{status}")?,
-        Err(fault) => {
-            let status = fault.status();
-            format!(in alloc; "{status} {fault}")?
-        }
-    };
-    Ok(Answer {
-        said,
-        written: output.into_inner(),
-    })
+    let answer = ask_engine(rt, alloc, options, &mut Told::new(bundle), &mut output);
+    is_answer(alloc, answer, output.into_inner().as_slice(), want)
 }
 
-/// What `path` answers.
-pub fn path_of(alloc: Global, name: &str, text: &[u8]) -> Result<Answer, AllocError> {
+/// Whether `ask` answers so on a park. Want of memory is a no.
+pub fn asks<R: Threads + Sync>(
+    rt: &R,
+    alloc: Global,
+    park: Park,
+    bundle: &[u8],
+    want: Want,
+) -> bool {
+    match options(alloc, park) {
+        Ok(options) => answers(rt, alloc, &options, bundle, want),
+        Err(_) => false,
+    }
+}
+
+/// Whether `ask` answers so for the bundle of these parts, on a park with the one builder `m`. Want of
+/// memory is a no.
+pub fn asks_of<R: Threads + Sync>(rt: &R, alloc: Global, parts: &[&[u8]], want: Want) -> bool {
+    match joined(alloc, parts) {
+        Ok(bundle) => asks(rt, alloc, builders(b"m"), bundle.as_slice(), want),
+        Err(_) => false,
+    }
+}
+
+/// Whether `path` answers so.
+pub fn path_answers(alloc: Global, name: &[u8], text: &[u8], want: Want) -> bool {
     let mut output = Told::new(Vec::new(alloc));
-    let said = match path_engine(alloc, name.as_bytes(), &mut Told::new(text), &mut output) {
-        Ok(status) => format!(in alloc; "{status}")?,
-        Err(fault) => {
-            let status = fault.status();
-            format!(in alloc; "{status} {fault}")?
-        }
-    };
-    Ok(Answer {
-        said,
-        written: output.into_inner(),
-    })
+    let answer = path_engine(alloc, name, &mut Told::new(text), &mut output);
+    is_answer(alloc, answer, output.into_inner().as_slice(), want)
+}
+
+/// What `path` writes, or none where it refuses.
+pub fn path_of(alloc: Global, name: &[u8], text: &[u8]) -> Option<Vec<u8>> {
+    let mut output = Told::new(Vec::new(alloc));
+    match path_engine(alloc, name, &mut Told::new(text), &mut output) {
+        Ok(0) => Some(output.into_inner()),
+        _ => None,
+    }
 }

@@ -1,57 +1,36 @@
-//! The bundles of the worked examples.
+//! The bundles of the worked examples, in parts.
 
-use std::alloc::{AllocError, Global};
+/// The path of node 0.
+pub const N0: &[u8] = b"/nix/store/00000000000000000000000000000000-n0.drv";
 
-/// The path of node `number` of an example, from 0.
-pub fn node_path(number: u8) -> &'static str {
-    match number {
-        0 => "/nix/store/00000000000000000000000000000000-n0.drv",
-        1 => "/nix/store/11111111111111111111111111111111-n1.drv",
-        2 => "/nix/store/22222222222222222222222222222222-n2.drv",
-        3 => "/nix/store/33333333333333333333333333333333-n3.drv",
-        _ => "/nix/store/44444444444444444444444444444444-n4.drv",
-    }
-}
+/// The text of node 0, with no inputs, no sources and no environment.
+pub const N0_TEXT: &[u8] =
+    b"Derive([(\"out\",\"/nix/store/aaaaaaaaaaaaaaaaaaaaaaaaaaaaaaaa-n0\",\"\",\"\")],[],[],\"x86_64-linux\",\"/bin/sh\",[],[])";
 
-/// The output of node `number` of an example.
-pub fn output_path(number: u8) -> &'static str {
-    match number {
-        0 => "/nix/store/aaaaaaaaaaaaaaaaaaaaaaaaaaaaaaaa-n0",
-        1 => "/nix/store/bbbbbbbbbbbbbbbbbbbbbbbbbbbbbbbb-n1",
-        2 => "/nix/store/cccccccccccccccccccccccccccccccc-n2",
-        3 => "/nix/store/dddddddddddddddddddddddddddddddd-n3",
-        _ => "/nix/store/ffffffffffffffffffffffffffffffff-n4",
-    }
-}
+/// The line of node 0 with this text.
+pub const N0_LINE: &[u8] =
+    b"/nix/store/00000000000000000000000000000000-n0.drv Derive([(\"out\",\"/nix/store/aaaaaaaaaaaaaaaaaaaaaaaaaaaaaaaa-n0\",\"\",\"\")],[],[],\"x86_64-linux\",\"/bin/sh\",[],[])\n";
 
-/// The text of a node of an example, with these input derivations, sources and environment.
-pub fn text(
-    alloc: Global,
-    number: u8,
-    inputs: &str,
-    sources: &str,
-    env: &str,
-) -> Result<String, AllocError> {
-    let output = output_path(number);
-    format!(in alloc;
-        "Derive([(\"out\",\"{output}\",\"\",\"\")],[{inputs}],[{sources}],\"x86_64-linux\",\"/bin/sh\",[],[{env}])"
-    )
-}
+/// The line of node 0 up to its inputs.
+pub const N0_ON: &[u8] =
+    b"/nix/store/00000000000000000000000000000000-n0.drv Derive([(\"out\",\"/nix/store/aaaaaaaaaaaaaaaaaaaaaaaaaaaaaaaa-n0\",\"\",\"\")],[";
 
-/// The line of a node of an example, with its newline.
-pub fn line(
-    alloc: Global,
-    number: u8,
-    inputs: &str,
-    sources: &str,
-    env: &str,
-) -> Result<String, AllocError> {
-    let path = node_path(number);
-    let text = text(alloc, number, inputs, sources, env)?;
-    format!(in alloc; "{path} {text}\n")
-}
+/// The line of node 1 up to its inputs.
+pub const N1_ON: &[u8] =
+    b"/nix/store/11111111111111111111111111111111-n1.drv Derive([(\"out\",\"/nix/store/bbbbbbbbbbbbbbbbbbbbbbbbbbbbbbbb-n1\",\"\",\"\")],[";
 
-/// The line of a node with no inputs, no sources and no environment.
-pub fn plain(alloc: Global, number: u8) -> Result<String, AllocError> {
-    line(alloc, number, "", "", "")
-}
+/// The input on node 0.
+pub const NEEDS_N0: &[u8] = b"(\"/nix/store/00000000000000000000000000000000-n0.drv\",[\"out\"])";
+
+/// The input on node 1.
+pub const NEEDS_N1: &[u8] = b"(\"/nix/store/11111111111111111111111111111111-n1.drv\",[\"out\"])";
+
+/// What stands behind the inputs of a line.
+pub const END: &[u8] = b"],[],\"x86_64-linux\",\"/bin/sh\",[],[])\n";
+
+/// The line of node 0, up to the text of its structured attributes.
+pub const JSON: &[u8] =
+    b"/nix/store/00000000000000000000000000000000-n0.drv Derive([(\"out\",\"/nix/store/aaaaaaaaaaaaaaaaaaaaaaaaaaaaaaaa-n0\",\"\",\"\")],[],[],\"x86_64-linux\",\"/bin/sh\",[],[(\"__json\",\"";
+
+/// What stands behind that text.
+pub const JSON_END: &[u8] = b"\")])\n";

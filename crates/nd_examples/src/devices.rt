@@ -1,11 +1,12 @@
 //! Devices that fail, and inputs that are too large.
 
-use crate::asking::options;
-use crate::bundles::{plain, text};
-use nd_cli::{CliFault, ask_engine, path_engine};
+use crate::asking::{builders, has_line, options};
+use crate::bundles::{N0_LINE, N0_TEXT};
+use nd_cli::{CliFault, ParkOptions, ask_engine, path_engine};
 use nd_hook::Told;
+use std::alloc::Global;
 use std::io::{self, Read, Write};
-use std::test::Fail;
+use std::thread::Threads;
 
 /// A reader over memory that gives a byte at a time and fails at a read with a given number.
 #[derive(Drop)]
@@ -65,88 +66,109 @@ impl Read for Endless {
     }
 }
 
-#[test]
-fn failing_readers(rt: HostRuntime) -> Result<(), Fail> {
-    let alloc = rt.alloc();
-    let bundle = plain(alloc, 0)?;
-    let options = options(alloc, "m", 1)?;
-    for good in 0..=bundle.len() {
-        let mut input = Told::new(FailingReader {
-            bytes: bundle.as_bytes(),
-            good,
-        });
-        let mut output = Told::new(Vec::new(alloc));
-        let answer = ask_engine(&rt, alloc, &options, &mut input, &mut output);
-        assert!(rt; matches!(answer, Err(CliFault::Read)));
-        assert!(rt; output.into_inner().is_empty());
-    }
-    let text = text(alloc, 0, "", "", "")?;
-    for good in 0..=text.len() {
-        let mut input = Told::new(FailingReader {
-            bytes: text.as_bytes(),
-            good,
-        });
-        let mut output = Told::new(Vec::new(alloc));
-        let answer = path_engine(alloc, b"n0.drv", &mut input, &mut output);
-        assert!(rt; matches!(answer, Err(CliFault::Read)));
-        assert!(rt; output.into_inner().is_empty());
-    }
-    Ok(())
-}
-
-#[test]
-fn failing_writers(rt: HostRuntime) -> Result<(), Fail> {
-    let alloc = rt.alloc();
-    let bundle = plain(alloc, 0)?;
-    let options = options(alloc, "m", 1)?;
-    let whole = b"# accept\nssh://m\n";
-    for good in 0..6usize {
-        let mut output = Told::new(FailingWriter {
-            written: Vec::new(alloc),
-            good,
-        });
-        let answer = ask_engine(
-            &rt,
-            alloc,
-            &options,
-            &mut Told::new(bundle.as_bytes()),
-            &mut output,
-        );
-        let written = output.into_inner().written;
-        assert!(rt; whole.starts_with(written.as_slice()));
-        match answer {
-            Ok(status) => {
-                assert_eq!(rt; status, 0);
-                assert_eq!(rt; written.len(), whole.len());
-                assert!(rt; good >= 3);
-            }
-            Err(fault) => {
-                assert!(rt; matches!(fault, CliFault::Write));
-                assert!(rt; good < 6);
-            }
-        }
-    }
-    Ok(())
-}
-
-#[test]
-fn endless_input(rt: HostRuntime) -> Result<(), Fail> {
-    let alloc = rt.alloc();
+/// Whether `ask` answers that its reader failed, and writes nothing, where this many reads are good.
+fn ask_is_stopped<R: Threads + Sync>(
+    rt: &R,
+    alloc: Global,
+    options: &ParkOptions,
+    good: usize,
+) -> bool {
+    let mut input = Told::new(FailingReader {
+        bytes: N0_LINE,
+        good,
+    });
     let mut output = Told::new(Vec::new(alloc));
-    let answer = ask_engine(
-        &rt,
-        alloc,
-        &options(alloc, "m", 1)?,
-        &mut Told::new(Endless),
-        &mut output,
-    );
-    match answer {
-        Ok(_) => assert!(rt; false),
-        Err(fault) => {
-            let line = format!(in alloc; "{fault}")?;
-            assert_eq!(rt; line.as_str(), "nix-dispatch: drvs: TooLarge");
+    let answer = ask_engine(rt, alloc, options, &mut input, &mut output);
+    matches!(answer, Err(CliFault::Read)) && output.into_inner().is_empty()
+}
+
+/// Whether it does so wherever the reader fails. Want of memory is a no.
+fn ask_is_always_stopped<R: Threads + Sync>(rt: &R, alloc: Global) -> bool {
+    let Ok(options) = options(alloc, builders(b"m")) else {
+        return false;
+    };
+    for good in 0..=N0_LINE.len() {
+        if !ask_is_stopped(rt, alloc, &options, good) {
+            return false;
         }
     }
-    assert!(rt; output.into_inner().is_empty());
-    Ok(())
+    true
+}
+
+/// Whether `path` answers that its reader failed, and writes nothing, where this many reads are good.
+fn path_is_stopped(alloc: Global, good: usize) -> bool {
+    let mut input = Told::new(FailingReader {
+        bytes: N0_TEXT,
+        good,
+    });
+    let mut output = Told::new(Vec::new(alloc));
+    let answer = path_engine(alloc, b"n0.drv", &mut input, &mut output);
+    matches!(answer, Err(CliFault::Read)) && output.into_inner().is_empty()
+}
+
+#[test]
+fn failing_readers(rt: HostRuntime) {
+    assert!(rt; ask_is_always_stopped(&rt, rt.alloc()));
+    for good in 0..=N0_TEXT.len() {
+        assert!(rt; path_is_stopped(rt.alloc(), good));
+    }
+}
+
+/// The replies that are to be written.
+const REPLIES: &[u8] = b"# accept\nssh://m\n";
+
+/// Whether this much of the replies is right for this answer, where this many writes are good.
+fn is_part(answer: Result<u8, CliFault>, written: &[u8], good: usize) -> bool {
+    if !REPLIES.starts_with(written) {
+        return false;
+    }
+    match answer {
+        Ok(status) => status == 0 && written.len() == REPLIES.len() && good >= 3,
+        Err(fault) => matches!(fault, CliFault::Write) && good < 6,
+    }
+}
+
+/// Whether `ask` writes the replies, or a part of them where its writer fails. Want of memory is a no.
+fn ask_writes<R: Threads + Sync>(rt: &R, alloc: Global, good: usize) -> bool {
+    let Ok(options) = options(alloc, builders(b"m")) else {
+        return false;
+    };
+    let mut output = Told::new(FailingWriter {
+        written: Vec::new(alloc),
+        good,
+    });
+    let answer = ask_engine(rt, alloc, &options, &mut Told::new(N0_LINE), &mut output);
+    is_part(answer, output.into_inner().written.as_slice(), good)
+}
+
+#[test]
+fn failing_writers(rt: HostRuntime) {
+    for good in 0..6usize {
+        assert!(rt; ask_writes(&rt, rt.alloc(), good));
+    }
+}
+
+/// Whether `ask` refuses an input without an end for its size, and writes nothing. Want of memory is a no.
+fn ask_ends<R: Threads + Sync>(rt: &R, alloc: Global, options: &ParkOptions) -> bool {
+    let mut output = Told::new(Vec::new(alloc));
+    match ask_engine(rt, alloc, options, &mut Told::new(Endless), &mut output) {
+        Ok(_) => false,
+        Err(fault) => {
+            output.into_inner().is_empty()
+                && has_line(alloc, &fault, "nix-dispatch: drvs: TooLarge")
+        }
+    }
+}
+
+/// The same with the one builder `m`. Want of memory is a no.
+fn ask_ends_on_one<R: Threads + Sync>(rt: &R, alloc: Global) -> bool {
+    match options(alloc, builders(b"m")) {
+        Ok(options) => ask_ends(rt, alloc, &options),
+        Err(_) => false,
+    }
+}
+
+#[test]
+fn endless_input(rt: HostRuntime) {
+    assert!(rt; ask_ends_on_one(&rt, rt.alloc()));
 }

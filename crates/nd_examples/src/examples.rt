@@ -1,266 +1,182 @@
 //! The worked examples of replies, bundles and paths.
 
-use crate::asking::{asked, options, path_of};
-use crate::bundles::{line, node_path, output_path, plain, text};
-use std::alloc::{AllocError, Global};
-use std::test::Fail;
+use crate::asking::{
+    Park, Want, asks, asks_of, builders, builders_alone, joined, path_answers, path_of,
+};
+use crate::bundles::{END, JSON, JSON_END, N0, N0_LINE, N0_ON, N0_TEXT, N1_ON, NEEDS_N0, NEEDS_N1};
+use std::alloc::Global;
 use std::thread::Threads;
 
+/// The reply for one derivation that the builder `m` is to build.
+const ON_M: Want<'static> = Want::Written(b"# accept\nssh://m\n");
+
+/// The reply for one derivation that is to be built elsewhere.
+const DECLINED: Want<'static> = Want::Written(b"# decline\n");
+
 #[test]
-fn idle_replies(rt: HostRuntime) -> Result<(), Fail> {
+fn idle_replies(rt: HostRuntime) {
     let alloc = rt.alloc();
-    let bundle = plain(alloc, 0)?;
-    let none = asked(&rt, alloc, &options(alloc, "", 1)?, bundle.as_bytes())?;
-    assert!(rt; none.is("0", "# decline-permanently\n"));
-    let other = asked(
-        &rt,
-        alloc,
-        &options(alloc, "m aarch64-linux", 1)?,
-        bundle.as_bytes(),
-    )?;
-    assert!(rt; other.is("0", "# decline\n"));
-    let machine = asked(&rt, alloc, &options(alloc, "m", 1)?, bundle.as_bytes())?;
-    assert!(rt; machine.is("0", "# accept\nssh://m\n"));
-    Ok(())
+    let none = Want::Written(b"# decline-permanently\n");
+    assert!(rt; asks(&rt, alloc, builders(b""), N0_LINE, none));
+    assert!(rt; asks(&rt, alloc, builders(b"m aarch64-linux"), N0_LINE, DECLINED));
+    assert!(rt; asks(&rt, alloc, builders(b"m"), N0_LINE, ON_M));
 }
 
 #[test]
-fn earliest_of_equals(rt: HostRuntime) -> Result<(), Fail> {
+fn earliest_of_equals(rt: HostRuntime) {
     let alloc = rt.alloc();
-    let bundle = plain(alloc, 0)?;
-    let full = asked(
-        &rt,
-        alloc,
-        &options(alloc, "m - - 0", 0)?,
-        bundle.as_bytes(),
-    )?;
-    assert!(rt; full.is("0", "# decline\n"));
-    let equal = asked(&rt, alloc, &options(alloc, "m;n", 0)?, bundle.as_bytes())?;
-    assert!(rt; equal.is("0", "# accept\nssh://m\n"));
-    Ok(())
-}
-
-/// Whether `ask` refuses the bundle with this line.
-fn is_refused<R: Threads + Sync + AllocGlobal>(
-    rt: &R,
-    bundle: &str,
-    fault: &str,
-) -> Result<bool, AllocError> {
-    let alloc = rt.alloc();
-    let answer = asked(rt, alloc, &options(alloc, "m", 1)?, bundle.as_bytes())?;
-    let said = format!(in alloc; "3 nix-dispatch: drvs: {fault}")?;
-    Ok(answer.is(said.as_str(), ""))
+    assert!(rt; asks(&rt, alloc, builders_alone(b"m - - 0"), N0_LINE, DECLINED));
+    assert!(rt; asks(&rt, alloc, builders_alone(b"m;n"), N0_LINE, ON_M));
 }
 
 #[test]
-fn bundle_faults(rt: HostRuntime) -> Result<(), Fail> {
+fn bundle_faults(rt: HostRuntime) {
     let alloc = rt.alloc();
-    assert!(rt; asked(&rt, alloc, &options(alloc, "m", 1)?, b"")?.is("0", ""));
-    assert!(rt; are_line_faults(&rt)?);
-    assert!(rt; are_text_faults(&rt)?);
-    assert!(rt; are_whole_faults(&rt)?);
-    assert!(rt; are_input_faults(&rt)?);
-    Ok(())
+    assert!(rt; asks_of(&rt, alloc, &[], Want::Written(b"")));
+    assert!(rt; are_line_faults(&rt, alloc));
+    assert!(rt; are_text_faults(&rt, alloc));
+    assert!(rt; are_whole_faults(&rt, alloc));
+    assert!(rt; are_input_faults(&rt, alloc));
 }
 
 /// Lines that are cut wrongly, and paths that are none of a derivation.
-fn are_line_faults<R: Threads + Sync + AllocGlobal>(rt: &R) -> Result<bool, AllocError> {
-    let alloc = rt.alloc();
-    let whole = text(alloc, 0, "", "", "")?;
-    let second = plain(alloc, 1)?;
-    let not_drv = format!(in alloc; "/nix/store/00000000000000000000000000000000-n0 {whole}")?;
-    Ok(
-        is_refused(rt, node_path(0), "BadLine 1")?
-            && is_refused(
-                rt,
-                format!(in alloc; "{second}{second}\n")?.as_str(),
-                "BadLine 3",
-            )?
-            && is_refused(rt, not_drv.as_str(), "BadPath 1")?,
-    )
+fn are_line_faults<R: Threads + Sync>(rt: &R, alloc: Global) -> bool {
+    let first = Want::Refused("nix-dispatch: drvs: BadLine 1");
+    let third = Want::Refused("nix-dispatch: drvs: BadLine 3");
+    let path = Want::Refused("nix-dispatch: drvs: BadPath 1");
+    let not_drv = b"/nix/store/00000000000000000000000000000000-n0 ".as_slice();
+    asks_of(rt, alloc, &[N0], first)
+        && asks_of(rt, alloc, &[N1_ON, END, N1_ON, END, b"\n"], third)
+        && asks_of(rt, alloc, &[not_drv, N0_TEXT], path)
 }
 
 /// Texts that are no derivation's, or have an output that isn't known.
-fn are_text_faults<R: Threads + Sync + AllocGlobal>(rt: &R) -> Result<bool, AllocError> {
-    let alloc = rt.alloc();
-    let path = node_path(0);
-    let whole = text(alloc, 0, "", "", "")?;
-    let source = line(alloc, 0, "", "\"x\"", "")?;
-    let unknown = "Derive([(\"out\",\"\",\"\",\"\")],[],[],\"x86_64-linux\",\"/bin/sh\",[],[])";
-    Ok(
-        is_refused(
-            rt,
-            format!(in alloc; "{path}  {whole}")?.as_str(),
-            "BadDerivation 1",
-        )? && is_refused(rt, source.as_str(), "BadDerivation 1")?
-            && is_refused(
-                rt,
-                format!(in alloc; "{path} {unknown}")?.as_str(),
-                "UnknownOutput 1",
-            )?,
-    )
+fn are_text_faults<R: Threads + Sync>(rt: &R, alloc: Global) -> bool {
+    let text = Want::Refused("nix-dispatch: drvs: BadDerivation 1");
+    let output = Want::Refused("nix-dispatch: drvs: UnknownOutput 1");
+    let source = b"],[\"x\"],\"x86_64-linux\",\"/bin/sh\",[],[])\n".as_slice();
+    let unknown =
+        b" Derive([(\"out\",\"\",\"\",\"\")],[],[],\"x86_64-linux\",\"/bin/sh\",[],[])".as_slice();
+    asks_of(rt, alloc, &[N0, b"  ", N0_TEXT], text)
+        && asks_of(rt, alloc, &[N0_ON, source], text)
+        && asks_of(rt, alloc, &[N0, unknown], output)
 }
 
 /// Lines that are no graph together.
-fn are_whole_faults<R: Threads + Sync + AllocGlobal>(rt: &R) -> Result<bool, AllocError> {
-    let alloc = rt.alloc();
-    let first = plain(alloc, 0)?;
-    let on_second = line(alloc, 0, ON_SECOND, "", "")?;
-    let on_first = line(alloc, 1, ON_FIRST, "", "")?;
-    Ok(
-        is_refused(
-            rt,
-            format!(in alloc; "{on_second}{on_first}")?.as_str(),
-            "Cycle",
-        )? && is_refused(
-            rt,
-            format!(in alloc; "{first}{first}")?.as_str(),
-            "Duplicate 2",
-        )? && is_refused(rt, on_second.as_str(), "MissingInput 1")?,
-    )
+fn are_whole_faults<R: Threads + Sync>(rt: &R, alloc: Global) -> bool {
+    let cycle = Want::Refused("nix-dispatch: drvs: Cycle");
+    let twice = Want::Refused("nix-dispatch: drvs: Duplicate 2");
+    let missing = Want::Refused("nix-dispatch: drvs: MissingInput 1");
+    asks_of(
+        rt,
+        alloc,
+        &[N0_ON, NEEDS_N1, END, N1_ON, NEEDS_N0, END],
+        cycle,
+    ) && asks_of(rt, alloc, &[N0_LINE, N0_LINE], twice)
+        && asks_of(rt, alloc, &[N0_ON, NEEDS_N1, END], missing)
 }
 
 /// Outputs that are named of an input.
-fn are_input_faults<R: Threads + Sync + AllocGlobal>(rt: &R) -> Result<bool, AllocError> {
-    let alloc = rt.alloc();
-    let first = plain(alloc, 0)?;
-    let dev = line(
-        alloc,
-        1,
-        "(\"/nix/store/00000000000000000000000000000000-n0.drv\",[\"dev\"])",
-        "",
-        "",
-    )?;
-    let none = line(
-        alloc,
-        1,
-        "(\"/nix/store/00000000000000000000000000000000-n0.drv\",[])",
-        "",
-        "",
-    )?;
-    let taken = asked(
-        rt,
-        alloc,
-        &options(alloc, "m", 1)?,
-        format!(in alloc; "{first}{none}")?.as_bytes(),
-    )?;
-    Ok(
-        is_refused(
-            rt,
-            format!(in alloc; "{first}{dev}")?.as_str(),
-            "MissingOutput 2",
-        )? && taken.is("0", "# accept\nssh://m\n# accept\nssh://m\n"),
-    )
+fn are_input_faults<R: Threads + Sync>(rt: &R, alloc: Global) -> bool {
+    let output = Want::Refused("nix-dispatch: drvs: MissingOutput 2");
+    let taken = Want::Written(b"# accept\nssh://m\n# accept\nssh://m\n");
+    let dev = b"(\"/nix/store/00000000000000000000000000000000-n0.drv\",[\"dev\"])".as_slice();
+    let none = b"(\"/nix/store/00000000000000000000000000000000-n0.drv\",[])".as_slice();
+    asks_of(rt, alloc, &[N0_LINE, N1_ON, dev, END], output)
+        && asks_of(rt, alloc, &[N0_LINE, N1_ON, none, END], taken)
 }
 
-/// The input derivations of a node that needs the first node, or the second.
-const ON_FIRST: &str = "(\"/nix/store/00000000000000000000000000000000-n0.drv\",[\"out\"])";
+/// The one builder `m` and one local job, with checked paths.
+const CHECKING: Park<'static> = Park {
+    builders: b"m",
+    jobs: 1,
+    check_paths: true,
+};
 
-const ON_SECOND: &str = "(\"/nix/store/11111111111111111111111111111111-n1.drv\",[\"out\"])";
+/// Whether `ask`, which checks paths, takes the line of node 0 under the path that was written, with a
+/// newline. Want of memory is a no.
+fn is_own_path<R: Threads + Sync>(rt: &R, alloc: Global, written: &[u8]) -> bool {
+    let [path @ .., b'\n'] = written else {
+        return false;
+    };
+    match joined(alloc, &[path, b" ", N0_TEXT]) {
+        Ok(bundle) => asks(rt, alloc, CHECKING, bundle.as_slice(), ON_M),
+        Err(_) => false,
+    }
+}
 
-#[test]
-fn checked_paths(rt: HostRuntime) -> Result<(), Fail> {
-    let alloc = rt.alloc();
-    let mut checking = options(alloc, "m", 1)?;
-    checking.check_paths = true;
-    let refused = asked(&rt, alloc, &checking, plain(alloc, 0)?.as_bytes())?;
-    assert!(rt; refused.is("3 nix-dispatch: drvs: WrongPath 1", ""));
-    let text = text(alloc, 0, "", "", "")?;
-    let own = path_of(alloc, "n0.drv", text.as_bytes())?;
-    assert_eq!(rt; own.said.as_str(), "0");
-    let mut bundle = own.written;
-    assert_eq!(rt; bundle.pop(), Some(b'\n'));
-    bundle.push(b' ')?;
-    bundle.extend_from_slice(text.as_bytes())?;
-    let taken = asked(&rt, alloc, &checking, bundle.as_slice())?;
-    assert!(rt; taken.is("0", "# accept\nssh://m\n"));
-    Ok(())
+/// Whether it does so under the path that `path` writes. Want of memory is a no.
+fn is_path_taken<R: Threads + Sync>(rt: &R, alloc: Global) -> bool {
+    match path_of(alloc, b"n0.drv", N0_TEXT) {
+        Some(written) => is_own_path(rt, alloc, written.as_slice()),
+        None => false,
+    }
 }
 
 #[test]
-fn path_faults(rt: HostRuntime) -> Result<(), Fail> {
+fn checked_paths(rt: HostRuntime) {
     let alloc = rt.alloc();
-    let text = text(alloc, 0, "", "", "")?;
-    let name = path_of(alloc, "n0", text.as_bytes())?;
-    assert!(rt; name.is("3 nix-dispatch: derivation: BadPath", ""));
-    let bad = path_of(alloc, "n0.drv", b"Derive()")?;
-    assert!(rt; bad.is("3 nix-dispatch: derivation: BadDerivation", ""));
-    let both = path_of(alloc, "n0", b"Derive()")?;
-    assert!(rt; both.is("3 nix-dispatch: derivation: BadPath", ""));
-    Ok(())
+    let wrong = Want::Refused("nix-dispatch: drvs: WrongPath 1");
+    assert!(rt; asks(&rt, alloc, CHECKING, N0_LINE, wrong));
+    assert!(rt; is_path_taken(&rt, alloc));
 }
 
 #[test]
-fn builders_faults(rt: HostRuntime) -> Result<(), Fail> {
+fn path_faults(rt: HostRuntime) {
     let alloc = rt.alloc();
-    let bundle = plain(alloc, 0)?;
-    let uri = asked(
-        &rt,
-        alloc,
-        &options(alloc, "- x86_64-linux", 1)?,
-        bundle.as_bytes(),
-    )?;
-    assert!(rt; uri.is("3 nix-dispatch: builders: Uri 1", ""));
-    let jobs = asked(
-        &rt,
-        alloc,
-        &options(alloc, "a;;b - - x", 1)?,
-        bundle.as_bytes(),
-    )?;
-    assert!(rt; jobs.is("3 nix-dispatch: builders: Jobs 2", ""));
-    let bundle_first = asked(&rt, alloc, &options(alloc, "- x86_64-linux", 1)?, b"x")?;
-    assert!(rt; bundle_first.is("3 nix-dispatch: drvs: BadLine 1", ""));
-    assert_eq!(rt;
-        output_path(4),
-        "/nix/store/ffffffffffffffffffffffffffffffff-n4"
-    );
-    Ok(())
-}
-
-/// The line of a node whose environment is `__json` with this value, as it stands in the text.
-fn structured(alloc: Global, json: &str) -> Result<String, AllocError> {
-    let env = format!(in alloc; "(\"__json\",\"{json}\")")?;
-    line(alloc, 0, "", "", env.as_str())
+    let path = Want::Refused("nix-dispatch: derivation: BadPath");
+    let text = Want::Refused("nix-dispatch: derivation: BadDerivation");
+    assert!(rt; path_answers(alloc, b"n0", N0_TEXT, path));
+    assert!(rt; path_answers(alloc, b"n0.drv", b"Derive()", text));
+    assert!(rt; path_answers(alloc, b"n0", b"Derive()", path));
 }
 
 #[test]
-fn structured_attributes(rt: HostRuntime) -> Result<(), Fail> {
+fn builders_faults(rt: HostRuntime) {
     let alloc = rt.alloc();
-    let wishes = structured(
-        alloc,
-        "{\\\"preferLocalBuild\\\":true,\\\"requiredSystemFeatures\\\":[\\\"kvm\\\"]}",
-    )?;
-    let kvm = asked(
-        &rt,
-        alloc,
-        &options(alloc, "m - - 1 1 kvm", 1)?,
-        wishes.as_bytes(),
-    )?;
-    assert!(rt; kvm.is("0", "# accept\nssh://m\n"));
-    let without = asked(&rt, alloc, &options(alloc, "m", 1)?, wishes.as_bytes())?;
-    assert!(rt; without.is("0", "# decline\n"));
-    let empty = asked(
-        &rt,
-        alloc,
-        &options(alloc, "m", 1)?,
-        structured(alloc, "{}")?.as_bytes(),
-    )?;
-    assert!(rt; empty.is("0", "# accept\nssh://m\n"));
-    assert!(rt; is_refused(&rt, structured(alloc, "{")?.as_str(), "BadAttribute 1")?);
-    assert!(rt; is_refused(&rt, structured(alloc, "[]")?.as_str(), "BadAttribute 1")?);
-    assert!(rt;
-        is_refused(
-            &rt,
-            structured(alloc, "{\\\"preferLocalBuild\\\":1}")?.as_str(),
-            "BadAttribute 1"
-        )?
-    );
-    assert!(rt;
-        is_refused(
-            &rt,
-            structured(alloc, "{\\\"requiredSystemFeatures\\\":\\\"kvm\\\"}")?.as_str(),
-            "BadAttribute 1"
-        )?
-    );
-    Ok(())
+    let uri = Want::Refused("nix-dispatch: builders: Uri 1");
+    assert!(rt; asks(&rt, alloc, builders(b"- x86_64-linux"), N0_LINE, uri));
+    let jobs = Want::Refused("nix-dispatch: builders: Jobs 2");
+    assert!(rt; asks(&rt, alloc, builders(b"a;;b - - x"), N0_LINE, jobs));
+    let bundle = Want::Refused("nix-dispatch: drvs: BadLine 1");
+    assert!(rt; asks(&rt, alloc, builders(b"- x86_64-linux"), b"x", bundle));
 }
+
+/// Whether `ask` answers so for the line of node 0 with these structured attributes, as they stand in
+/// the text, on a park with the one builder `m`. Want of memory is a no.
+fn asks_json<R: Threads + Sync>(rt: &R, alloc: Global, json: &[u8], want: Want) -> bool {
+    asks_of(rt, alloc, &[JSON, json, JSON_END], want)
+}
+
+/// Structured attributes that wish for a local build and for the feature `kvm`.
+const WISHES: &[u8] =
+    b"{\\\"preferLocalBuild\\\":true,\\\"requiredSystemFeatures\\\":[\\\"kvm\\\"]}";
+
+/// Whether `ask` accepts for them on a builder with this feature. Want of memory is a no.
+fn is_feature_found<R: Threads + Sync>(rt: &R, alloc: Global) -> bool {
+    let park = builders(b"m - - 1 1 kvm");
+    match joined(alloc, &[JSON, WISHES, JSON_END]) {
+        Ok(bundle) => asks(rt, alloc, park, bundle.as_slice(), ON_M),
+        Err(_) => false,
+    }
+}
+
+#[test]
+fn structured_attributes(rt: HostRuntime) {
+    let alloc = rt.alloc();
+    assert!(rt; is_feature_found(&rt, alloc));
+    assert!(rt; asks_json(&rt, alloc, WISHES, DECLINED));
+    assert!(rt; asks_json(&rt, alloc, b"{}", ON_M));
+    let bad = Want::Refused("nix-dispatch: drvs: BadAttribute 1");
+    for json in BAD_ATTRIBUTES {
+        assert!(rt; asks_json(&rt, alloc, json, bad));
+    }
+}
+
+/// Structured attributes that can't be read.
+const BAD_ATTRIBUTES: &[&[u8]] = &[
+    b"{",
+    b"[]",
+    b"{\\\"preferLocalBuild\\\":1}",
+    b"{\\\"requiredSystemFeatures\\\":\\\"kvm\\\"}",
+];
