@@ -36,9 +36,9 @@ fn ask_command<'a>(alloc: Global) -> Result<Command<'a>, AllocError> {
 }
 
 fn sim_command<'a>(alloc: Global) -> Result<Command<'a>, AllocError> {
-    let script = text_option(alloc, "script", "FILE")
-        .required(true)
-        .help("The script: one command a line, as start 0, built 0, fail 0 1, down 0, stop, ask 1");
+    let script = text_option(alloc, "script", "FILE").required(true).help(
+        "The script: one command a line, as start 0, built 0, fail 0 1, down 0, stop, ask 1",
+    );
     let command = Command::new(alloc, "sim").about(
         "Does what a script says over the bundle on standard input, and writes each step and a report",
     );
