@@ -7,14 +7,18 @@ use clap::error::ErrorKind;
 use nd_bytes::ByteString;
 use nd_cli::{CliFault, ParkOptions, ask_engine, path_engine};
 use nd_hook::Told;
-use std::alloc::Global;
+use nd_run::{RunInputs, places, run_engine, run_inputs};
+use nd_script::Rule;
+use nd_workers::{StandIn, Transport, Worker};
+use std::alloc::{AllocError, Global};
 use std::io::{self, BufWriter};
 use std::rt::Files;
+use std::sync::Wait;
 use std::thread::Threads;
 
 /// Runs the command that the words name, and answers the exit status. Help that is asked for goes
 /// to standard output with status 0, a word that isn't understood to standard error with status 2.
-pub fn run<'a, R: Files + Input + Print + Eprint + AllocGlobal + Threads + Sync>(
+pub fn run<'a, R: Files + Input + Print + Eprint + AllocGlobal + Threads + Wait + Sync>(
     rt: &R,
     alloc: Global,
     given: &'a [String],
@@ -34,6 +38,7 @@ pub fn run<'a, R: Files + Input + Print + Eprint + AllocGlobal + Threads + Sync>
     };
     let answer = match matches.subcommand() {
         Some(("path", options)) => path(rt, alloc, options),
+        Some(("run", options)) => run_stand_ins(rt, alloc, options),
         Some((_, options)) => ask(rt, alloc, options),
         None => Ok(0),
     };
@@ -81,6 +86,55 @@ fn ask<R: Files + Input + Print + AllocGlobal + Threads + Sync>(
         &mut Told::new(rt.reader()),
         &mut output,
     )
+}
+
+/// A run with a stand-in for each slot of the park.
+fn run_stand_ins<R: Files + Input + Print + AllocGlobal + Threads + Wait + Sync>(
+    rt: &R,
+    alloc: Global,
+    options: &ArgMatches,
+) -> Result<u8, CliFault> {
+    let park = park_options(rt, alloc, options)?;
+    let stand = match options.get_str("stand") {
+        Some(name) => read_file(rt, alloc, name)?,
+        None => ByteString::new(Vec::new(alloc)),
+    };
+    let RunInputs { dispatch, rules } = run_inputs(
+        rt,
+        alloc,
+        &park,
+        stand.as_slice(),
+        &mut Told::new(rt.reader()),
+    )?;
+    let mut workers = Vec::new(alloc);
+    for (machine, slot) in places(alloc, &dispatch)? {
+        let Ok(stand_in) = Box::new(alloc, StandIn::new(machine, copies(alloc, &rules)?)) else {
+            return Err(CliFault::Memory);
+        };
+        let transport: Box<dyn Transport + Send> = stand_in;
+        let worker = Worker {
+            machine,
+            slot,
+            transport,
+        };
+        if workers.push(worker).is_err() {
+            return Err(CliFault::Memory);
+        }
+    }
+    let Ok(buffered) = BufWriter::new(alloc, io::writer(rt)) else {
+        return Err(CliFault::Memory);
+    };
+    let report = options.get_flag("report");
+    run_engine(rt, dispatch, workers, report, &mut Told::new(buffered))
+}
+
+/// A copy of these rules.
+fn copies(alloc: Global, rules: &[Rule]) -> Result<Vec<Rule>, AllocError> {
+    let mut copies = Vec::new(alloc);
+    for rule in rules {
+        copies.push(rule.try_clone()?)?;
+    }
+    Ok(copies)
 }
 
 /// The options of a command over a bundle. The files that they name are read here, the builders list

@@ -11,7 +11,8 @@ pub fn command_line<'a>(alloc: Global) -> Result<Command<'a>, AllocError> {
         .about("Hands the derivations of a graph to local slots and remote builders")
         .subcommand_required(true)
         .subcommand(path_command(alloc)?)?
-        .subcommand(ask_command(alloc)?)
+        .subcommand(ask_command(alloc)?)?
+        .subcommand(run_command(alloc)?)
 }
 
 fn path_command<'a>(alloc: Global) -> Result<Command<'a>, AllocError> {
@@ -31,6 +32,20 @@ fn ask_command<'a>(alloc: Global) -> Result<Command<'a>, AllocError> {
         "Writes, per derivation of the bundle on standard input, the hook's reply on an idle park",
     );
     with_park_options(alloc, command)
+}
+
+fn run_command<'a>(alloc: Global) -> Result<Command<'a>, AllocError> {
+    let command = Command::new(alloc, "run").about(
+        "Builds the bundle on standard input with stand-ins for the machines, and writes the history",
+    );
+    let stand = text_option(alloc, "stand", "FILE").help(
+        "What the stand-ins answer: a line for each rule",
+    );
+    let report = Arg::new(alloc, "report")
+        .long("report")
+        .action(ArgAction::SetTrue)
+        .help("Writes the report behind the history");
+    with_park_options(alloc, command)?.arg(stand)?.arg(report)
 }
 
 /// The options of the commands over a bundle.
