@@ -44,8 +44,8 @@ too_many_there i m slot before places h full within =
       ap length h.so_far,
       length-append before (map (λ s. (m, s)) (range_with_len 0 slot)),
       length-append before (places_on i m),
-      length-map-range_with_len (λ s. (m, s)) 0 slot,
-      length-map-range_with_len (λ s. (m, s)) 0 (jobs_of i m),
+      length-map-range_with_len {X = ℕ × ℕ} (λ s. (m, s)) 0 slot,
+      length-map-range_with_len {X = ℕ × ℕ} (λ s. (m, s)) 0 (jobs_of i m),
     )
 
 flat_map_last : (f : ℕ → List (ℕ × ℕ)) (m : ℕ) → flat_map f (range_with_len 0 (m + 1)) ≡ flat_map f (range_with_len 0 m) ++ f m
@@ -67,24 +67,30 @@ one_machine i m places more h added few = record {
 
 -- the places of some machines are no more than those of all
 no_more : (f : ℕ → List (ℕ × ℕ)) (m gap : ℕ) → length (flat_map f (range_with_len 0 m)) ≤ length (flat_map f (range_with_len 0 (m + gap)))
-no_more f m zero = subst (λ (n : ℕ). length (flat_map f (range_with_len 0 m)) ≤ length (flat_map f (range_with_len 0 n))) (omega arith) (omega arith)
+no_more f m zero =
+    let same : m ≡ m + 0 = omega arith in
+    let here : length (flat_map f (range_with_len 0 m)) ≤ length (flat_map f (range_with_len 0 m)) = omega arith in
+    subst (λ (n : ℕ). length (flat_map f (range_with_len 0 m)) ≤ length (flat_map f (range_with_len 0 n))) same here
 no_more f m (suc gap) =
     let before = no_more f m gap in
     let last : length (flat_map f (range_with_len 0 (m + gap + 1))) ≡ length (flat_map f (range_with_len 0 (m + gap)) ++ f (m + gap)) = ap length (flat_map_last f (m + gap)) in
-    subst (λ (n : ℕ). length (flat_map f (range_with_len 0 m)) ≤ length (flat_map f (range_with_len 0 n))) (omega arith)
-    (let goal : length (flat_map f (range_with_len 0 m)) ≤ length (flat_map f (range_with_len 0 (m + gap + 1))) =
-    omega (arith, before, last, length-append (flat_map f (range_with_len 0 (m + gap))) (f (m + gap))) in goal)
+    let whole : length (flat_map f (range_with_len 0 m)) ≤ length (flat_map f (range_with_len 0 (m + gap + 1))) =
+    omega (arith, before, last, length-append (flat_map f (range_with_len 0 (m + gap))) (f (m + gap))) in
+    let next : m + gap + 1 ≡ m + suc gap = omega arith in
+    subst (λ (n : ℕ). length (flat_map f (range_with_len 0 m)) ≤ length (flat_map f (range_with_len 0 n))) next whole
 
 -- too many with a machine are too many in all
 pub too_many : (i : Premises) (m : ℕ) (places : List (ℕ × ℕ)) (fault : CliFault) → AreSeated i m places → m < machines_in i → AreTooMany (places ++ places_on i m) fault → AreTooMany (places_of i) fault
 too_many i m places TooManySlots h within many =
     let here : flat_map (places_on i) (range_with_len 0 (m + 1)) ≡ places ++ places_on i m = flat_map_last (places_on i) m ∙ ap (λ (ps : List (ℕ × ℕ)). ps ++ places_on i m) (sym h.so_far) in
-    gap_of (machines_in i) within (omega (arith, many, ap length here))
+    let full : 1024 < length (flat_map (places_on i) (range_with_len 0 (m + 1))) = omega (arith, many, ap length here) in
+    gap_of (machines_in i) within full
   where
     gap_of : (n : ℕ) → m < n → 1024 < length (flat_map (places_on i) (range_with_len 0 (m + 1))) → 1024 < length (flat_map (places_on i) (range_with_len 0 n))
     gap_of n less many =
         let rest : m + 1 + (n - (m + 1)) ≡ n = omega arith in
-        subst (λ (k : ℕ). 1024 < length (flat_map (places_on i) (range_with_len 0 k))) rest (omega (arith, many, no_more (places_on i) (m + 1) (n - (m + 1))))
+        let more : 1024 < length (flat_map (places_on i) (range_with_len 0 (m + 1 + (n - (m + 1))))) = omega (arith, many, no_more (places_on i) (m + 1) (n - (m + 1))) in
+        subst (λ (k : ℕ). 1024 < length (flat_map (places_on i) (range_with_len 0 k))) rest more
 too_many i m places Memory h within many = tt
 too_many i m places (Derivation e) h within many = many
 too_many i m places (Drvs e) h within many = many
