@@ -1,13 +1,13 @@
 //! A run, and what is written of it.
 
-ghost use Rattle.std.specs.Prelude.{◌≡◌, [], false, reverse, map, IfOk, IfErr, OnOk, OnErr};
+ghost use Rattle.std.specs.Prelude.{◌≡◌, [], false, reverse, map, IfOk, IfErr};
 ghost use Rattle.nd_history.specs.History.{live};
-ghost use Rattle.nd_run.specs.Ran.{RunsTo, IsRunFault, WritesEnd, WritesEndPart, IsStatusOf};
+ghost use Rattle.nd_run.specs.Ran.{RunsTo, IsRunFault};
 
+use crate::ending::{exit_status, write_end};
 use nd_cli::CliFault;
 use nd_hook::Told;
 use nd_ledger::Dispatch;
-use nd_report::{write_history, write_report};
 use nd_workers::{RunFault, RunRefusal, Worker, run};
 use std::io::Write;
 use std::sync::Wait;
@@ -57,39 +57,4 @@ fn refusal(why: RunRefusal) -> CliFault {
         RunRefusal::TooManySlots => CliFault::TooManySlots,
         RunRefusal::Memory => CliFault::Memory,
     }
-}
-
-/// Writes the history, and then where asked the report; then it has the writer pass on what it holds
-/// back.
-fn write_end<W: Write>(
-    dispatch: &Dispatch,
-    report: bool,
-    output: &mut Told<W>,
-) -> Result<(), CliFault>
-    ensures written { OnOk result (WritesEnd dispatch.now report (W.contents output.old.device) (W.contents output.new.device)) }
-    ensures partly { OnErr result (WritesEndPart dispatch.now report (W.contents output.old.device) (W.contents output.new.device)) }
-    ensures mark { OnErr result (output.new.is_marked ≡ true) }
-    ensures fault { IfErr result (λ e. e ≡ CliFault.Write) }
-{
-    if write_history(dispatch.history(), output).is_err() {
-        return Err(CliFault::Write);
-    }
-    if report && write_report(dispatch, output).is_err() {
-        return Err(CliFault::Write);
-    }
-    match output.flush() {
-        Ok(()) => Ok(()),
-        Err(_) => Err(CliFault::Write),
-    }
-}
-
-/// 1 where a derivation failed or was cancelled, and else 0.
-fn exit_status(dispatch: &Dispatch) -> u8
-    ensures { IsStatusOf dispatch.now result }
-{
-    let counts = dispatch.counts();
-    if counts.failed > 0 || counts.cancelled > 0 {
-        return 1;
-    }
-    0
 }

@@ -2,6 +2,7 @@
 //! stand-ins on threads.
 #![tactic(auto)]
 
+mod ending;
 pub mod engine;
 pub mod given;
 pub mod seating;
