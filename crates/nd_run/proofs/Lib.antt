@@ -1,3 +1,3 @@
 pub mod Giving
 pub mod Seated
-pub mod Ending
+pub mod Closed

@@ -14,7 +14,7 @@ use std::io::Write;
 /// back.
 ///
 /// `Write`: the writer refused, and is marked; a part of the text, from its beginning, is out.
-#[tactic(auto, using(crate::proofs::Ending::alone, crate::proofs::Ending::both, crate::proofs::Ending::torn_history, crate::proofs::Ending::torn_report, crate::proofs::Ending::torn_end))]
+#[tactic(auto, using(crate::proofs::Closed::alone, crate::proofs::Closed::both, crate::proofs::Closed::torn_history, crate::proofs::Closed::torn_report, crate::proofs::Closed::torn_end))]
 pub fn write_end<W: Write>(
     dispatch: &Dispatch,
     report: bool,
