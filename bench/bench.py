@@ -7,6 +7,9 @@ The bundles come from a generator with a fixed seed, so each run measures the sa
 the table has the seconds and the peak memory of one run, how both compare to the next smaller size
 (per doubling), and the memory as a multiple of the input's bytes. A growth of 2.0 per doubling is
 linear.
+
+After `ask` come the commands over a dispatch, on plain lines: `sim` with a script that starts and
+builds every derivation, and `audit` of the history that this simulation wrote.
 """
 
 import base64
@@ -21,6 +24,7 @@ import time
 
 LETTERS = "0123456789abcdfghijklmnpqrsvwxyz"
 SIZES = (1_024, 8_192, 65_536)
+DISPATCH_SIZES = (256, 512, 1_024)
 COMMANDS = (("ask",), ("ask", "--check-paths"))
 
 
@@ -132,11 +136,11 @@ CASES = (
 )
 
 
-def measured(program, words, bundle):
+def measured(program, words, bundle, output=os.devnull):
     """The wall time in seconds and the peak memory in bytes of one run."""
-    with open(bundle, "rb") as stdin:
+    with open(bundle, "rb") as stdin, open(output, "wb") as stdout:
         began = time.monotonic()
-        child = subprocess.Popen([program, *words], stdin=stdin, stdout=subprocess.DEVNULL)
+        child = subprocess.Popen([program, *words], stdin=stdin, stdout=stdout)
         _, status, usage = os.wait4(child.pid, 0)
         took = time.monotonic() - began
     if status:
@@ -154,6 +158,76 @@ def growth(new, old, doublings):
     return f"{(new / old) ** (1 / doublings):.2f}"
 
 
+def head():
+    print(f"{'input':28} {'command':18} {'lines':>7} {'MB':>6} {'s':>8} {'x':>5} {'peak MB':>8} {'x':>5} {'of input':>8}")
+
+
+class Table:
+    """The lines of the table, each beside the last one of its command."""
+
+    def __init__(self, name):
+        self.name = name
+        self.last = {}
+
+    def line(self, command, size, bytes_in, took, peak):
+        times = memory = ""
+        if command in self.last:
+            before, took_before, peak_before = self.last[command]
+            doublings = math.log2(size / before)
+            times = growth(took, took_before, doublings)
+            memory = growth(peak, peak_before, doublings)
+        self.last[command] = (size, took, peak)
+        print(
+            f"{self.name:28} {command:18} {size:7} {bytes_in / 1e6:6.1f} {took:8.3f} {times:>5} "
+            f"{peak / 1e6:8.1f} {memory:>5} {peak / bytes_in:8.2f}"
+        )
+        sys.stdout.flush()
+
+
+def best_of(program, words, bundle, output=os.devnull):
+    return min(measured(program, words, bundle, output) for _ in range(3))
+
+
+def ask(program, folder):
+    for name, _, builders, sizes in CASES:
+        table = Table(name)
+        for size in sizes:
+            bundle = os.path.join(folder, "bundle")
+            make_bundle(name, size, bundle)
+            bytes_in = os.path.getsize(bundle)
+            for command in COMMANDS:
+                took, peak = best_of(program, [*command, "--builders", builders()], bundle)
+                table.line(" ".join(command), size, bytes_in, took, peak)
+
+
+def history_of(simulated):
+    """The history text of a simulation that no command of which was refused or asked."""
+    entries = simulated[: simulated.index(b"total ")]
+    return b"nix-dispatch-history 1\n" + entries
+
+
+def dispatched(program, folder):
+    bundle, script, written, history = (
+        os.path.join(folder, file) for file in ("bundle", "script", "written", "history")
+    )
+    table = Table("plain lines")
+    for size in DISPATCH_SIZES:
+        make_bundle("plain lines", size, bundle)
+        bytes_in = os.path.getsize(bundle)
+        with open(script, "w", encoding="ascii") as out:
+            out.write("".join(f"start {k}\nbuilt {k}\n" for k in range(size)))
+        words = ["sim", "--builders", eight_builders(), "--script", script]
+        table.line("sim", size, bytes_in, *best_of(program, words, bundle, written))
+        with open(written, "rb") as made, open(history, "wb") as out:
+            out.write(history_of(made.read()))
+        words = ["audit", "--builders", eight_builders(), "--history", history]
+        table.line("audit", size, bytes_in, *best_of(program, words, bundle, written))
+        with open(written, "rb") as verdict:
+            said = verdict.read()
+        if said != f"legal {3 * size}\n".encode():
+            sys.exit(f"audit: {said!r}")
+
+
 def main():
     if sys.argv[1:2] == ["--make"]:
         name, size, file = sys.argv[2:]
@@ -164,29 +238,10 @@ def main():
     here = os.path.dirname(os.path.abspath(__file__))
     default = os.path.join(here, "..", "crates", "nix_dispatch", "out", "nix_dispatch")
     program = os.path.abspath(sys.argv[1] if len(sys.argv) > 1 else default)
-    print(f"{'input':28} {'command':18} {'lines':>7} {'MB':>6} {'s':>8} {'x':>5} {'peak MB':>8} {'x':>5} {'of input':>8}")
+    head()
     with tempfile.TemporaryDirectory() as folder:
-        for name, _, builders, sizes in CASES:
-            last = {}
-            for size in sizes:
-                bundle = os.path.join(folder, "bundle")
-                make_bundle(name, size, bundle)
-                bytes_in = os.path.getsize(bundle)
-                for command in COMMANDS:
-                    words = [*command, "--builders", builders()]
-                    took, peak = min(measured(program, words, bundle) for _ in range(3))
-                    times = memory = ""
-                    if command in last:
-                        before, took_before, peak_before = last[command]
-                        doublings = math.log2(size / before)
-                        times = growth(took, took_before, doublings)
-                        memory = growth(peak, peak_before, doublings)
-                    last[command] = (size, took, peak)
-                    print(
-                        f"{name:28} {' '.join(command):18} {size:7} {bytes_in / 1e6:6.1f} {took:8.3f} {times:>5} "
-                        f"{peak / 1e6:8.1f} {memory:>5} {peak / bytes_in:8.2f}"
-                    )
-                    sys.stdout.flush()
+        ask(program, folder)
+        dispatched(program, folder)
 
 
 if __name__ == "__main__":

@@ -1,7 +1,8 @@
 #!/bin/sh
 # Refuses the first, second, third allocation of the built program and so on, until a run meets none,
-# for `ask` and for `path`. Each run must end with the ample output and status 0, or with status 5, the
-# line "nix-dispatch: out of memory" and no output. Then it does so to the built test
+# for `ask`, `path`, `sim` and `audit`. Each run must end with the ample output and its status, or with
+# status 5, the line "nix-dispatch: out of memory" and no output, or for `sim` the beginning of the ample
+# output. Then it does so to the built test
 # `allocations_refused` of `nd_lease_examples`, which looks at what a refused call on a dispatch leaves: each
 # run of it must pass. It needs a C compiler, the program, and the tests that `rt test` leaves.
 set -u
@@ -11,19 +12,30 @@ work=$(mktemp -d)
 trap 'rm -rf "$work"' EXIT
 cc -shared -fPIC -O1 -o "$work/refuse.so" checks/refuse.c -ldl || exit 2
 
+# Whether this is what a command may leave where it finds no memory.
+is_left() {
+  case $1 in
+    sim) head -c "$(wc -c < "$work/out")" "$work/ample" | cmp -s - "$work/out" ;;
+    *) [ ! -s "$work/out" ] ;;
+  esac
+}
+
 sweep() {
   input=$1
   shift
-  "$program" "$@" < "$input" > "$work/ample" || exit 1
+  "$program" "$@" < "$input" > "$work/ample"
+  wanted=$?
+  [ "$wanted" -le 1 ] || exit 1
   number=1
+  last=0
   refused=0
   while [ "$number" -le 5000 ]; do
     REFUSE=$number LD_PRELOAD="$work/refuse.so" "$program" "$@" < "$input" > "$work/out" 2> "$work/err"
     status=$?
-    if [ "$status" -eq 5 ] && [ ! -s "$work/out" ] && [ "$(cat "$work/err")" = 'nix-dispatch: out of memory' ]; then
+    if [ "$status" -eq 5 ] && is_left "$1" && [ "$(cat "$work/err")" = 'nix-dispatch: out of memory' ]; then
       refused=$((refused + 1))
-    elif [ "$status" -eq 0 ] && cmp -s "$work/out" "$work/ample"; then
-      [ "$number" -gt $((${last:-0} + 50)) ] && break
+    elif [ "$status" -eq "$wanted" ] && cmp -s "$work/out" "$work/ample"; then
+      [ "$number" -gt $((last + 50)) ] && break
     else
       echo "$1: allocation $number refused: status $status"
       cat "$work/out" "$work/err"
@@ -32,13 +44,14 @@ sweep() {
     [ "$status" -eq 5 ] && last=$number
     number=$((number + 1))
   done
-  echo "$1: $refused refusals, the last at allocation ${last:-0}, each answered"
+  echo "$1: $refused refusals, the last at allocation $last, each answered"
 }
 
 sweep crates/nix_dispatch/stdin ask --builders m
 sed 's/^[^ ]* //' crates/nix_dispatch/stdin | tr -d '\n' > "$work/text"
-last=0
 sweep "$work/text" path n0.drv
+sweep examples/farm/bundle sim --builders @examples/farm/builders --keep-going --script examples/farm/script
+sweep examples/farm/bundle audit --builders @examples/farm/builders --keep-going --history examples/farm/history
 
 tests=crates/nd_lease_examples/out/nd_lease_examples_tests
 number=1
