@@ -27,10 +27,10 @@ fn stored_park() -> Park<'static> {
 fn another_place_than_the_best(rt: HostRuntime) {
     let builder = b"nix-dispatch-history 1\nchosen 0 2 0\n";
     let outcome = audited(rt.alloc(), &one_plain("m;n"), builder);
-    assert!(rt; outcome == Some(Outcome::Illegal(0, Rule::Best)));
+    assert!(rt; outcome == Outcome::Illegal(0, Rule::Best));
     let slot = b"nix-dispatch-history 1\nchosen 0 1 1\n";
     let outcome = audited(rt.alloc(), &one_plain("m - - 2"), slot);
-    assert!(rt; outcome == Some(Outcome::Illegal(0, Rule::Slot)));
+    assert!(rt; outcome == Outcome::Illegal(0, Rule::Slot));
 }
 
 #[test]
@@ -42,7 +42,7 @@ fn a_builder_where_home_is_decided(rt: HostRuntime) {
     };
     let text = b"nix-dispatch-history 1\nchosen 0 1 0\n";
     let outcome = audited(rt.alloc(), &park, text);
-    assert!(rt; outcome == Some(Outcome::Illegal(0, Rule::Decision)));
+    assert!(rt; outcome == Outcome::Illegal(0, Rule::Decision));
 }
 
 #[test]
@@ -50,11 +50,11 @@ fn what_is_not_there(rt: HostRuntime) {
     let alloc = rt.alloc();
     let park = one_plain("m;n");
     let lease = audited(alloc, &park, b"nix-dispatch-history 1\nstarted 0\n");
-    assert!(rt; lease == Some(Outcome::Illegal(0, Rule::Live)));
+    assert!(rt; lease == Outcome::Illegal(0, Rule::Live));
     let drv = audited(alloc, &park, b"nix-dispatch-history 1\ndown 1\n");
-    assert!(rt; drv == Some(Outcome::Illegal(0, Rule::Range)));
+    assert!(rt; drv == Outcome::Illegal(0, Rule::Range));
     let machine = audited(alloc, &park, b"nix-dispatch-history 2\ndrain 3\n");
-    assert!(rt; machine == Some(Outcome::Illegal(0, Rule::Range)));
+    assert!(rt; machine == Outcome::Illegal(0, Rule::Range));
 }
 
 #[test]
@@ -62,12 +62,12 @@ fn after_a_stop(rt: HostRuntime) {
     let alloc = rt.alloc();
     let park = one_plain("m;n");
     let text = b"nix-dispatch-history 1\nchosen 0 1 0\ndown 0\nchosen 0 2 0\nstop\ndown 0\n";
-    assert!(rt; audited(alloc, &park, text) == Some(Outcome::Legal(5)));
+    assert!(rt; audited(alloc, &park, text) == Outcome::Legal(5));
     let again = b"nix-dispatch-history 1\nchosen 0 1 0\ndown 0\nchosen 0 2 0\nstop\ndown 0\nstop\n";
-    assert!(rt; audited(alloc, &park, again) == Some(Outcome::Illegal(5, Rule::Stopped)));
+    assert!(rt; audited(alloc, &park, again) == Outcome::Illegal(5, Rule::Stopped));
     let late =
         b"nix-dispatch-history 1\nchosen 0 1 0\ndown 0\nchosen 0 2 0\nstop\ndown 0\nchosen 0 1 0\n";
-    assert!(rt; audited(alloc, &park, late) == Some(Outcome::Illegal(5, Rule::Ready)));
+    assert!(rt; audited(alloc, &park, late) == Outcome::Illegal(5, Rule::Ready));
 }
 
 #[test]
@@ -79,18 +79,18 @@ fn copies_in_flight(rt: HostRuntime) {
         jobs: 0,
     };
     let bare = b"nix-dispatch-history 1\nchosen 0 1 0\nstarted 0\n";
-    assert!(rt; audited(alloc, &park, bare) == Some(Outcome::Illegal(1, Rule::Paths)));
+    assert!(rt; audited(alloc, &park, bare) == Outcome::Illegal(1, Rule::Paths));
     let early = b"nix-dispatch-history 1\nchosen 0 1 0\nbuilt 0 o\n";
-    assert!(rt; audited(alloc, &park, early) == Some(Outcome::Illegal(1, Rule::Started)));
+    assert!(rt; audited(alloc, &park, early) == Outcome::Illegal(1, Rule::Started));
     let no_list =
         b"nix-dispatch-history 1\nchosen 0 1 0\nstarted 0 /nix/store/pppppppppppppppppppppppppppppppp-s1 /nix/store/qqqqqqqqqqqqqqqqqqqqqqqqqqqqqqqq-s2\nbuilt 0\n";
-    assert!(rt; audited(alloc, &park, no_list) == Some(Outcome::Illegal(2, Rule::References)));
+    assert!(rt; audited(alloc, &park, no_list) == Outcome::Illegal(2, Rule::References));
 }
 
 #[test]
 fn stored_run(rt: HostRuntime) {
     let outcome = audited(rt.alloc(), &stored_park(), STORED);
-    assert!(rt; outcome == Some(Outcome::Legal(9)));
+    assert!(rt; outcome == Outcome::Legal(9));
 }
 
 #[test]
@@ -101,9 +101,9 @@ fn drain_and_enable(rt: HostRuntime) {
         jobs: 0,
     };
     let second = audited(rt.alloc(), &park, DRAINED_AS_SECOND);
-    assert!(rt; second == Some(Outcome::Legal(12)));
+    assert!(rt; second == Outcome::Legal(12));
     let first = audited(rt.alloc(), &park, DRAINED_AS_FIRST);
-    assert!(rt; first == Some(Outcome::BadLine(4)));
+    assert!(rt; first == Outcome::BadLine(4));
 }
 
 /// What the first bytes of the stored run's history come to: no version within the first line of 23
@@ -125,6 +125,6 @@ fn truncations(rt: HostRuntime) {
     for length in 0..STORED.len() {
         let (front, _) = STORED.split_at(length);
         let outcome = audited(rt.alloc(), &park, front);
-        assert!(rt; outcome == Some(cut_as(front)));
+        assert!(rt; outcome == cut_as(front));
     }
 }

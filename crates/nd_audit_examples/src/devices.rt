@@ -1,7 +1,7 @@
 //! Writers that refuse a write.
 
 use crate::bundles::CHAIN;
-use crate::parks::{Park, replayed};
+use crate::parks::{Park, close, replayed};
 use crate::reports::STORED_REPORT;
 use crate::texts::STORED;
 use nd_hook::{Told, WriteError};
@@ -82,7 +82,11 @@ fn breaks_stored_report(alloc: Global, left: usize) -> bool {
         jobs: 0,
     };
     match replayed(alloc, &park, STORED) {
-        Some(dispatch) => breaks_report(alloc, &dispatch, left),
+        Some(dispatch) => {
+            let breaks = breaks_report(alloc, &dispatch, left);
+            close(dispatch);
+            breaks
+        }
         None => false,
     }
 }

@@ -3,6 +3,7 @@
 use nd_bytes::ByteString;
 use nd_closure::RefTable;
 use nd_eligible::Local;
+use nd_graph::Graph;
 use nd_graph::plain::read_bundle;
 use nd_hook::Told;
 use nd_ledger::{Dispatch, Entry, Rule};
@@ -33,53 +34,88 @@ pub enum Outcome {
     Version,
     /// The line with this number is the first that is no entry's.
     BadLine(usize),
+    /// A growth or an input was refused.
+    Nothing,
 }
 
 /// A local machine with these jobs.
 fn local_of(alloc: Global, jobs: u32) -> Option<Local> {
-    let system = ByteString::from_slice(alloc, b"x86_64-linux").ok()?;
-    let extra = FeatureSet::new(Vec::new(alloc));
-    let features = FeatureSet::new(Vec::new(alloc));
-    Local::new(system, extra, features, jobs)
-}
-
-/// What these entries come to over a park.
-fn audited_entries(alloc: Global, park: &Park, entries: &[Entry]) -> Option<Outcome> {
-    let graph = read_bundle(alloc, park.bundle.as_bytes(), false).ok()?;
-    let machines = parse_builders(alloc, park.builders.as_bytes(), b"x86_64-linux").ok()?;
-    let local = local_of(alloc, park.jobs)?;
-    let info = RefTable::new(alloc);
-    match audit(
-        alloc,
-        &graph,
-        machines.as_slice(),
-        &local,
-        &info,
-        false,
-        entries,
-    ) {
-        Ok(()) => Some(Outcome::Legal(entries.len())),
-        Err(AuditError::Illegal { index, rule }) => Some(Outcome::Illegal(index, rule)),
-        Err(AuditError::Memory) => None,
+    match ByteString::from_slice(alloc, b"x86_64-linux") {
+        Ok(system) => Local::new(
+            system,
+            FeatureSet::new(Vec::new(alloc)),
+            FeatureSet::new(Vec::new(alloc)),
+            jobs,
+        ),
+        Err(_) => None,
     }
 }
 
-/// What the text of a history comes to over a park; nothing where a growth or an input is refused.
-pub fn audited(alloc: Global, park: &Park, text: &[u8]) -> Option<Outcome> {
-    match read_history(alloc, text) {
-        Ok(entries) => audited_entries(alloc, park, entries.as_slice()),
-        Err(HistoryError::Version) => Some(Outcome::Version),
-        Err(HistoryError::BadLine(line)) => Some(Outcome::BadLine(line)),
-        Err(HistoryError::Memory) => None,
+/// A dispatch over a graph and a local machine, with these builders.
+fn dispatch_with(alloc: Global, builders: &str, graph: Graph, local: Local) -> Option<Dispatch> {
+    match parse_builders(alloc, builders.as_bytes(), b"x86_64-linux") {
+        Ok(machines) => {
+            match Dispatch::new(alloc, graph, machines, local, RefTable::new(alloc), false) {
+                Ok(dispatch) => Some(dispatch),
+                Err(_) => None,
+            }
+        }
+        Err(_) => None,
     }
 }
 
 /// A dispatch over a park.
-fn dispatch_of(alloc: Global, park: &Park) -> Option<Dispatch> {
-    let graph = read_bundle(alloc, park.bundle.as_bytes(), false).ok()?;
-    let machines = parse_builders(alloc, park.builders.as_bytes(), b"x86_64-linux").ok()?;
-    let local = local_of(alloc, park.jobs)?;
-    Dispatch::new(alloc, graph, machines, local, RefTable::new(alloc), false).ok()
+pub fn dispatch_of(alloc: Global, park: &Park) -> Option<Dispatch> {
+    match (
+        read_bundle(alloc, park.bundle.as_bytes(), false),
+        local_of(alloc, park.jobs),
+    ) {
+        (Ok(graph), Some(local)) => dispatch_with(alloc, park.builders, graph, local),
+        _ => None,
+    }
+}
+
+/// Lets go of a dispatch. The end of so large a value is long to prove, so that whoever owns one calls
+/// this, and it is proved once.
+pub fn close(_dispatch: Dispatch) {}
+
+/// What these entries come to over the inputs of a dispatch, which are those of a park.
+fn audited_entries(alloc: Global, dispatch: &Dispatch, entries: &[Entry]) -> Outcome {
+    match audit(
+        alloc,
+        dispatch.graph(),
+        dispatch.machines(),
+        dispatch.local(),
+        &RefTable::new(alloc),
+        false,
+        entries,
+    ) {
+        Ok(()) => Outcome::Legal(entries.len()),
+        Err(AuditError::Illegal { index, rule }) => Outcome::Illegal(index, rule),
+        Err(AuditError::Memory) => Outcome::Nothing,
+    }
+}
+
+/// What the text of a history comes to over the inputs of a dispatch.
+fn audited_text(alloc: Global, dispatch: &Dispatch, text: &[u8]) -> Outcome {
+    match read_history(alloc, text) {
+        Ok(entries) => audited_entries(alloc, dispatch, entries.as_slice()),
+        Err(HistoryError::Version) => Outcome::Version,
+        Err(HistoryError::BadLine(line)) => Outcome::BadLine(line),
+        Err(HistoryError::Memory) => Outcome::Nothing,
+    }
+}
+
+/// What the text of a history comes to over a park.
+pub fn audited(alloc: Global, park: &Park, text: &[u8]) -> Outcome {
+    match dispatch_of(alloc, park) {
+        Some(dispatch) => {
+            let outcome = audited_text(alloc, &dispatch, text);
+            close(dispatch);
+            outcome
+        }
+        None => Outcome::Nothing,
+    }
 }
 
 /// Whether a dispatch admits all of these entries.
@@ -92,21 +128,26 @@ fn admits_all(alloc: Global, dispatch: &mut Dispatch, entries: &[Entry]) -> bool
     true
 }
 
-/// A dispatch over a park that admitted these entries.
-fn admitted(alloc: Global, park: &Park, entries: &[Entry]) -> Option<Dispatch> {
-    let mut dispatch = dispatch_of(alloc, park)?;
-    if admits_all(alloc, &mut dispatch, entries) {
-        Some(dispatch)
-    } else {
-        None
+/// Whether a dispatch admits the history of this text.
+fn admits_text(alloc: Global, dispatch: &mut Dispatch, text: &[u8]) -> bool {
+    match read_history(alloc, text) {
+        Ok(entries) => admits_all(alloc, dispatch, entries.as_slice()),
+        Err(_) => false,
     }
 }
 
 /// A dispatch over a park with the history of this text.
 pub fn replayed(alloc: Global, park: &Park, text: &[u8]) -> Option<Dispatch> {
-    match read_history(alloc, text) {
-        Ok(entries) => admitted(alloc, park, entries.as_slice()),
-        Err(_) => None,
+    match dispatch_of(alloc, park) {
+        Some(mut dispatch) => {
+            if admits_text(alloc, &mut dispatch, text) {
+                Some(dispatch)
+            } else {
+                close(dispatch);
+                None
+            }
+        }
+        None => None,
     }
 }
 
@@ -122,7 +163,11 @@ fn is_report_of(alloc: Global, dispatch: &Dispatch, report: &[u8]) -> bool {
 /// Whether this is the report of a dispatch over a park with the history of this text.
 pub fn reports(alloc: Global, park: &Park, text: &[u8], report: &[u8]) -> bool {
     match replayed(alloc, park, text) {
-        Some(dispatch) => is_report_of(alloc, &dispatch, report),
+        Some(dispatch) => {
+            let is = is_report_of(alloc, &dispatch, report);
+            close(dispatch);
+            is
+        }
         None => false,
     }
 }
