@@ -1,7 +1,7 @@
 //! Writers that refuse a write.
 
 use crate::bundles::CHAIN;
-use crate::parks::{Park, close, replayed};
+use crate::parks::{Park, replayed};
 use crate::reports::STORED_REPORT;
 use crate::texts::STORED;
 use nd_hook::{Told, WriteError};
@@ -9,6 +9,7 @@ use nd_ledger::{Dispatch, Entry};
 use nd_report::{read_history, write_history, write_report};
 use std::alloc::{AllocError, Global};
 use std::io;
+use std::mem::drop;
 
 /// A writer that takes at most 100 bytes at a call, and after `left` calls refuses.
 #[derive(Drop)]
@@ -60,7 +61,11 @@ fn breaks_history(alloc: Global, entries: &[Entry], left: usize) -> bool {
 /// Whether the stored history is refused after so many writes.
 fn breaks_stored(alloc: Global, left: usize) -> bool {
     match read_history(alloc, STORED) {
-        Ok(entries) => breaks_history(alloc, entries.as_slice(), left),
+        Ok(entries) => {
+            let breaks = breaks_history(alloc, entries.as_slice(), left);
+            drop(entries);
+            breaks
+        }
         Err(_) => false,
     }
 }
@@ -84,7 +89,7 @@ fn breaks_stored_report(alloc: Global, left: usize) -> bool {
     match replayed(alloc, &park, STORED) {
         Some(dispatch) => {
             let breaks = breaks_report(alloc, &dispatch, left);
-            close(dispatch);
+            drop(dispatch);
             breaks
         }
         None => false,

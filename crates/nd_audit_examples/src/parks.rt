@@ -1,5 +1,8 @@
 //! Histories, as texts, that are audited over a park, and reports of dispatches.
 
+ghost use Rattle.std.specs.Prelude.{◌≤◌};
+ghost use Rattle.std.specs.Vec.{vec_len};
+
 use nd_bytes::ByteString;
 use nd_closure::RefTable;
 use nd_eligible::Local;
@@ -7,9 +10,10 @@ use nd_graph::Graph;
 use nd_graph::plain::read_bundle;
 use nd_hook::Told;
 use nd_ledger::{Dispatch, Entry, Rule};
-use nd_machines::{FeatureSet, parse_builders};
+use nd_machines::{FeatureSet, Machine, parse_builders};
 use nd_report::{AuditError, HistoryError, audit, read_history, write_report};
 use std::alloc::Global;
+use std::mem::drop;
 
 /// What a dispatch is made of. There is no info text, and nothing goes on after a failure.
 #[derive(Clone, Copy)]
@@ -23,7 +27,7 @@ pub struct Park<'a> {
 }
 
 /// What the text of a history comes to.
-#[derive(Clone, Copy, Debug, PartialEq, Eq)]
+#[derive(Clone, Copy, PartialEq)]
 pub enum Outcome {
     /// It is legal, with as many entries.
     Legal(usize),
@@ -51,33 +55,55 @@ fn local_of(alloc: Global, jobs: u32) -> Option<Local> {
     }
 }
 
-/// A dispatch over a graph and a local machine, with these builders.
-fn dispatch_with(alloc: Global, builders: &str, graph: Graph, local: Local) -> Option<Dispatch> {
-    match parse_builders(alloc, builders.as_bytes(), b"x86_64-linux") {
-        Ok(machines) => {
-            match Dispatch::new(alloc, graph, machines, local, RefTable::new(alloc), false) {
-                Ok(dispatch) => Some(dispatch),
-                Err(_) => None,
-            }
+/// A dispatch over these inputs, without an info text.
+fn dispatch_with(
+    alloc: Global,
+    graph: Graph,
+    machines: Vec<Machine>,
+    local: Local,
+) -> Option<Dispatch>
+    requires { vec_len machines ≤ 1024 }
+{
+    match Dispatch::new(alloc, graph, machines, local, RefTable::new(alloc), false) {
+        Ok(dispatch) => Some(dispatch),
+        Err(parts) => {
+            drop(parts);
+            None
         }
-        Err(_) => None,
     }
 }
 
-/// A dispatch over a park.
-pub fn dispatch_of(alloc: Global, park: &Park) -> Option<Dispatch> {
-    match (
-        read_bundle(alloc, park.bundle.as_bytes(), false),
-        local_of(alloc, park.jobs),
-    ) {
-        (Ok(graph), Some(local)) => dispatch_with(alloc, park.builders, graph, local),
-        _ => None,
+/// A dispatch over a graph and a local machine, with these builders.
+fn dispatch_over(alloc: Global, builders: &str, graph: Graph, local: Local) -> Option<Dispatch> {
+    match parse_builders(alloc, builders.as_bytes(), b"x86_64-linux") {
+        Ok(machines) => dispatch_with(alloc, graph, machines, local),
+        Err(_) => {
+            drop(graph);
+            drop(local);
+            None
+        }
     }
 }
 
-/// Lets go of a dispatch. The end of so large a value is long to prove, so that whoever owns one calls
-/// this, and it is proved once.
-pub fn close(_dispatch: Dispatch) {}
+/// A dispatch over a park with this local machine.
+fn dispatch_at(alloc: Global, park: &Park, local: Local) -> Option<Dispatch> {
+    match read_bundle(alloc, park.bundle.as_bytes(), false) {
+        Ok(graph) => dispatch_over(alloc, park.builders, graph, local),
+        Err(_) => {
+            drop(local);
+            None
+        }
+    }
+}
+
+/// A dispatch over a park. Each function of these ends in one call, and lets go of what it holds by
+/// `drop`: the end of a large value is then proved once for its type.
+fn dispatch_of(alloc: Global, park: &Park) -> Option<Dispatch> {
+    match local_of(alloc, park.jobs) {
+        Some(local) => dispatch_at(alloc, park, local),
+        None => None,
+    }
+}
 
 /// What these entries come to over the inputs of a dispatch, which are those of a park.
 fn audited_entries(alloc: Global, dispatch: &Dispatch, entries: &[Entry]) -> Outcome {
@@ -99,7 +125,11 @@ fn audited_entries(alloc: Global, dispatch: &Dispatch, entries: &[Entry]) -> Out
 /// What the text of a history comes to over the inputs of a dispatch.
 fn audited_text(alloc: Global, dispatch: &Dispatch, text: &[u8]) -> Outcome {
     match read_history(alloc, text) {
-        Ok(entries) => audited_entries(alloc, dispatch, entries.as_slice()),
+        Ok(entries) => {
+            let outcome = audited_entries(alloc, dispatch, entries.as_slice());
+            drop(entries);
+            outcome
+        }
         Err(HistoryError::Version) => Outcome::Version,
         Err(HistoryError::BadLine(line)) => Outcome::BadLine(line),
         Err(HistoryError::Memory) => Outcome::Nothing,
@@ -111,7 +141,7 @@ pub fn audited(alloc: Global, park: &Park, text: &[u8]) -> Outcome {
     match dispatch_of(alloc, park) {
         Some(dispatch) => {
             let outcome = audited_text(alloc, &dispatch, text);
-            close(dispatch);
+            drop(dispatch);
             outcome
         }
         None => Outcome::Nothing,
@@ -131,7 +161,11 @@ fn admits_all(alloc: Global, dispatch: &mut Dispatch, entries: &[Entry]) -> bool
 /// Whether a dispatch admits the history of this text.
 fn admits_text(alloc: Global, dispatch: &mut Dispatch, text: &[u8]) -> bool {
     match read_history(alloc, text) {
-        Ok(entries) => admits_all(alloc, dispatch, entries.as_slice()),
+        Ok(entries) => {
+            let admits = admits_all(alloc, dispatch, entries.as_slice());
+            drop(entries);
+            admits
+        }
         Err(_) => false,
     }
 }
@@ -143,7 +177,7 @@ pub fn replayed(alloc: Global, park: &Park, text: &[u8]) -> Option<Dispatch> {
             if admits_text(alloc, &mut dispatch, text) {
                 Some(dispatch)
             } else {
-                close(dispatch);
+                drop(dispatch);
                 None
             }
         }
@@ -165,7 +199,7 @@ pub fn reports(alloc: Global, park: &Park, text: &[u8], report: &[u8]) -> bool {
     match replayed(alloc, park, text) {
         Some(dispatch) => {
             let is = is_report_of(alloc, &dispatch, report);
-            close(dispatch);
+            drop(dispatch);
             is
         }
         None => false,

@@ -4,6 +4,7 @@ use nd_hook::Told;
 use nd_ledger::Entry;
 use nd_report::{HistoryError, read_history, write_history, write_lines};
 use std::alloc::Global;
+use std::mem::drop;
 
 /// The text of the stored run's history.
 pub const STORED: &[u8] =
@@ -36,7 +37,11 @@ fn is_text_of(alloc: Global, entries: &[Entry], text: &[u8]) -> bool {
 /// Whether this is what is written of the history that a text has.
 fn is_rewritten(alloc: Global, text: &[u8], again: &[u8]) -> bool {
     match read_history(alloc, text) {
-        Ok(entries) => is_text_of(alloc, entries.as_slice(), again),
+        Ok(entries) => {
+            let is = is_text_of(alloc, entries.as_slice(), again);
+            drop(entries);
+            is
+        }
         Err(_) => false,
     }
 }
@@ -52,9 +57,14 @@ fn are_lines_of(alloc: Global, entries: &[Entry], lines: &[u8]) -> bool {
 
 /// Whether the lines of the history that a text has are those behind the text's first.
 fn has_its_lines(alloc: Global, text: &[u8]) -> bool {
-    match (read_history(alloc, text), text.get(23..)) {
-        (Ok(entries), Some(lines)) => are_lines_of(alloc, entries.as_slice(), lines),
-        _ => false,
+    match read_history(alloc, text) {
+        Ok(entries) => {
+            let (_, lines) = text.split_at(text.len().min(23));
+            let are = are_lines_of(alloc, entries.as_slice(), lines);
+            drop(entries);
+            are
+        }
+        Err(_) => false,
     }
 }
 
