@@ -42,15 +42,21 @@ pub fn ask_engine<R: Read, W: Write>(
     };
     let park = match read_park(rt, alloc, options, text.as_slice()) {
         Ok(park) => park,
-        Err(fault) => return Err(fault),
+        Err(fault) => {
+            drop(text);
+            return Err(fault);
+        }
     };
-    match write_replies(
+    drop(text);
+    let written = write_replies(
         alloc,
         &park.machines,
         &park.local,
         park.graph.needs(),
         output,
-    ) {
+    );
+    drop(park);
+    match written {
         Ok(()) => Ok(0),
         Err(fault) => Err(fault),
     }

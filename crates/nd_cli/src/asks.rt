@@ -35,18 +35,29 @@ pub(crate) fn write_replies<W: Write>(
         return Err(CliFault::Memory);
     };
     let Ok(up) = vec![in alloc; true; machines.len()] else {
+        drop(loads);
         return Err(CliFault::Memory);
     };
     let Ok(classes) = Classes::new(alloc, machines, needs) else {
+        drop(up);
+        drop(loads);
         return Err(CliFault::Memory);
     };
     for number in 0..needs.len() {
         let among = classes.machines_of(number);
         match write_idle_reply(machines, among, &loads, &up, local, &needs[number], output) {
             Ok(()) => {}
-            Err(WriteError::Write) => return Err(CliFault::Write),
+            Err(WriteError::Write) => {
+                drop(classes);
+                drop(up);
+                drop(loads);
+                return Err(CliFault::Write);
+            }
         }
     }
+    drop(classes);
+    drop(up);
+    drop(loads);
     match output.flush() {
         Ok(()) => Ok(()),
         Err(Fault) => Err(CliFault::Write),

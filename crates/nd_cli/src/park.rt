@@ -49,11 +49,18 @@ pub fn read_park(
     };
     let machines = match read_builders(alloc, options) {
         Ok(machines) => machines,
-        Err(fault) => return Err(fault),
+        Err(fault) => {
+            drop(graph);
+            return Err(fault);
+        }
     };
     let info = match read_info(alloc, options) {
         Ok(info) => info,
-        Err(fault) => return Err(fault),
+        Err(fault) => {
+            drop(machines);
+            drop(graph);
+            return Err(fault);
+        }
     };
     match read_local(alloc, options) {
         Ok(local) => Ok(Park {
@@ -62,7 +69,12 @@ pub fn read_park(
             local,
             info,
         }),
-        Err(AllocError) => Err(CliFault::Memory),
+        Err(AllocError) => {
+            drop(info);
+            drop(machines);
+            drop(graph);
+            Err(CliFault::Memory)
+        }
     }
 }
 

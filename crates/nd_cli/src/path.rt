@@ -39,9 +39,15 @@ pub fn path_engine<R: Read, W: Write>(
     };
     let path = match derivation_path(alloc, name, text.as_slice()) {
         Ok(path) => path,
-        Err(fault) => return Err(fault),
+        Err(fault) => {
+            drop(text);
+            return Err(fault);
+        }
     };
-    match write_line(path.bytes(), output) {
+    drop(text);
+    let written = write_line(path.bytes(), output);
+    drop(path);
+    match written {
         Ok(()) => Ok(0),
         Err(Fault) => Err(CliFault::Write),
     }
