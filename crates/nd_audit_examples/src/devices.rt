@@ -9,7 +9,6 @@ use nd_ledger::{Dispatch, Entry};
 use nd_report::{read_history, write_history, write_report};
 use std::alloc::{AllocError, Global};
 use std::io;
-use std::mem::drop;
 
 /// A writer that takes at most 100 bytes at a call, and after `left` calls refuses.
 #[derive(Drop)]

@@ -13,7 +13,6 @@ use nd_ledger::{Dispatch, Entry, Rule};
 use nd_machines::{FeatureSet, Machine, parse_builders};
 use nd_report::{AuditError, HistoryError, audit, read_history, write_report};
 use std::alloc::Global;
-use std::mem::drop;
 
 /// What a dispatch is made of. There is no info text, and nothing goes on after a failure.
 #[derive(Clone, Copy)]

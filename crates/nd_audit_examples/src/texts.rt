@@ -4,7 +4,6 @@ use nd_hook::Told;
 use nd_ledger::Entry;
 use nd_report::{HistoryError, read_history, write_history, write_lines};
 use std::alloc::Global;
-use std::mem::drop;
 
 /// The text of the stored run's history.
 pub const STORED: &[u8] =

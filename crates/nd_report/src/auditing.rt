@@ -38,9 +38,13 @@ pub fn audit(
     for (index, entry) in entries.iter().enumerate() {
         match dispatch.admit(alloc, entry) {
             Ok(()) => {}
-            Err(fault) => return Err(refusal_at(index, fault)),
+            Err(fault) => {
+                drop(dispatch);
+                return Err(refusal_at(index, fault));
+            }
         }
     }
+    drop(dispatch);
     Ok(())
 }
 
