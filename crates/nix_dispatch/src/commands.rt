@@ -6,6 +6,7 @@ use clap::ArgMatches;
 use clap::error::ErrorKind;
 use nd_bytes::ByteString;
 use nd_cli::{CliFault, ParkOptions, ask_engine, path_engine};
+use nd_engines::{audit_engine, sim_engine};
 use nd_hook::Told;
 use std::alloc::Global;
 use std::io::{self, BufWriter};
@@ -34,6 +35,8 @@ pub fn run<'a, R: Files + Input + Print + Eprint + AllocGlobal + Threads + Sync>
     };
     let answer = match matches.subcommand() {
         Some(("path", options)) => path(rt, alloc, options),
+        Some(("sim", options)) => sim(rt, alloc, options),
+        Some(("audit", options)) => audit(rt, alloc, options),
         Some((_, options)) => ask(rt, alloc, options),
         None => Ok(0),
     };
@@ -78,6 +81,45 @@ fn ask<R: Files + Input + Print + AllocGlobal + Threads + Sync>(
         rt,
         alloc,
         &options,
+        &mut Told::new(rt.reader()),
+        &mut output,
+    )
+}
+
+fn sim<R: Files + Input + Print + AllocGlobal + Threads + Sync>(
+    rt: &R,
+    alloc: Global,
+    options: &ArgMatches,
+) -> Result<u8, CliFault> {
+    let park = park_options(rt, alloc, options)?;
+    let script = read_file(rt, alloc, options.get_str("script").unwrap_or(""))?;
+    let Ok(buffered) = BufWriter::new(alloc, io::writer(rt)) else {
+        return Err(CliFault::Memory);
+    };
+    let mut output = Told::new(buffered);
+    sim_engine(
+        rt,
+        alloc,
+        &park,
+        script.as_slice(),
+        &mut Told::new(rt.reader()),
+        &mut output,
+    )
+}
+
+fn audit<R: Files + Input + Print + AllocGlobal + Threads + Sync>(
+    rt: &R,
+    alloc: Global,
+    options: &ArgMatches,
+) -> Result<u8, CliFault> {
+    let park = park_options(rt, alloc, options)?;
+    let history = read_file(rt, alloc, options.get_str("history").unwrap_or(""))?;
+    let mut output = Told::new(io::writer(rt));
+    audit_engine(
+        rt,
+        alloc,
+        &park,
+        history.as_slice(),
         &mut Told::new(rt.reader()),
         &mut output,
     )

@@ -11,7 +11,9 @@ pub fn command_line<'a>(alloc: Global) -> Result<Command<'a>, AllocError> {
         .about("Hands the derivations of a graph to local slots and remote builders")
         .subcommand_required(true)
         .subcommand(path_command(alloc)?)?
-        .subcommand(ask_command(alloc)?)
+        .subcommand(ask_command(alloc)?)?
+        .subcommand(sim_command(alloc)?)?
+        .subcommand(audit_command(alloc)?)
 }
 
 fn path_command<'a>(alloc: Global) -> Result<Command<'a>, AllocError> {
@@ -31,6 +33,26 @@ fn ask_command<'a>(alloc: Global) -> Result<Command<'a>, AllocError> {
         "Writes, per derivation of the bundle on standard input, the hook's reply on an idle park",
     );
     with_park_options(alloc, command)
+}
+
+fn sim_command<'a>(alloc: Global) -> Result<Command<'a>, AllocError> {
+    let script = text_option(alloc, "script", "FILE").required(true).help(
+        "The script: one command a line, as start 0, built 0, fail 0 1, down 0, stop, ask 1",
+    );
+    let command = Command::new(alloc, "sim").about(
+        "Does what a script says over the bundle on standard input, and writes each step and a report",
+    );
+    with_park_options(alloc, command)?.arg(script)
+}
+
+fn audit_command<'a>(alloc: Global) -> Result<Command<'a>, AllocError> {
+    let history = text_option(alloc, "history", "FILE")
+        .required(true)
+        .help("The history text that is audited");
+    let command = Command::new(alloc, "audit").about(
+        "Says whether a history is a legal one over the bundle on standard input, and else why not",
+    );
+    with_park_options(alloc, command)?.arg(history)
 }
 
 /// The options of the commands over a bundle.

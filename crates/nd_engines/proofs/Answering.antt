@@ -1,0 +1,334 @@
+-- What the parts of an engine make together.
+use Rattle.std.proofs.Common.{◌≡◌, ℕ, Bool, List, [], length, reverse, Option, refl, sym, subst, append-nil, arith, inl, inr}
+use Rattle.std.specs.Io.KnownBytes.{Appends, Keeps}
+use Rattle.std.proofs.KnownBytes.{Appends-kept}
+use Rattle.nd_machines.specs.Builders.{Builder}
+use Rattle.nd_eligible.specs.Settings.{Settings}
+use Rattle.nd_graph.specs.Graphs.{Nodes}
+use Rattle.nd_hook.specs.Written.{WritesPart}
+use Rattle.nd_hook.proofs.Pieces.{part_of_first, part_after, written_after}
+use Rattle.nd_history.specs.declared.entry.Entry.{Entry}
+use Rattle.nd_history.specs.declared.rule.Rule.{Rule}
+use Rattle.nd_history.specs.Premises.{Premises}
+use Rattle.nd_history.specs.Legal.{IsLegal}
+use Rattle.nd_ledger.specs.Worlds.{World}
+use Rattle.nd_report.specs.Audits.{IsFirstIllegal}
+use Rattle.nd_script.specs.declared.command.Command.{Command}
+use Rattle.nd_cli.specs.Inputs.{ReadsWhole, IsReadFault}
+use Rattle.nd_cli.specs.Parks.{HasPark, IsParkFault, local_of}
+use Rattle.nd_cli.specs.declared.options.ParkOptions.{ParkOptions}
+use Rattle.nd_cli.specs.declared.fault.CliFault.{CliFault}
+use Rattle.nd_cli.specs.declared.fault.CliFault.TheVariants.{Derivation, Drvs, Builders, Info, Script, Stand, History, TooLarge, TooManySlots, Read, Write, Memory, Thread, Receipts}
+use Rattle.nd_history.specs.Standing.{drvs_in}
+use Rattle.nd_sim.specs.RunParts.{IsSimulationPart}
+use Rattle.nd_sim.specs.Written.{WritesSimulation, WritesSimulationPart}
+use Rattle.nd_engines.specs.Opened.{inputs_of, HasInputs, IsOpened, ReadsInputs}
+use Rattle.nd_engines.specs.Scripts.{HasScript, IsScriptFault}
+use Rattle.nd_engines.specs.Simulated.{AnswersSim, AnswersSimInPart, IsSimFault}
+use Rattle.nd_engines.specs.Audited.{HasHistory, IsHistoryFault, legal_line, illegal_line, WritesVerdict, WritesVerdictPart, AnswersAudit, AnswersAuditInPart, IsAuditFault, IsVerdictFault}
+
+-- ---- a writer passes on what it holds back
+
+pub kept_whole : (before between written : Option (List ℕ)) (text : List ℕ) → Appends before between text → Keeps between written → Appends before written text
+kept_whole = Appends-kept
+
+pub kept_part : (before between written : Option (List ℕ)) (text : List ℕ) → WritesPart before between text → Keeps between written → WritesPart before written text
+kept_part before between written text part keeps = record {
+  part = part.part;
+  rest = part.rest;
+  whole = part.whole;
+  written = Appends-kept before between written part.part part.written keeps;
+}
+
+-- the whole text is out, if only as a part
+pub kept_as_part : (before between written : Option (List ℕ)) (text : List ℕ) → Appends before between text → Keeps between written → WritesPart before written text
+kept_as_part before between written text whole keeps = record {
+  part = text;
+  rest = [];
+  whole = sym (append-nil text);
+  written = Appends-kept before between written text whole keeps;
+}
+
+pub simulation_kept : (i : Premises) (commands : List Command) (status : ℕ) (before between written : Option (List ℕ)) → WritesSimulation i commands status before between → Keeps between written
+    → WritesSimulation i commands status before written
+simulation_kept i commands status before between written whole keeps = record {
+  text = whole.text;
+  simulated = whole.simulated;
+  appended = Appends-kept before between written whole.text whole.appended keeps;
+}
+
+pub simulation_part_kept : (i : Premises) (commands : List Command) (before between written : Option (List ℕ)) → WritesSimulationPart i commands before between → Keeps between written
+    → WritesSimulationPart i commands before written
+simulation_part_kept i commands before between written some keeps = record {
+  text = some.text;
+  begun = some.begun;
+  part = kept_part before between written some.text some.part keeps;
+}
+
+-- all of it is out, if only as a part
+pub simulation_whole_kept : (i : Premises) (commands : List Command) (status : ℕ) (before between written : Option (List ℕ)) → WritesSimulation i commands status before between → Keeps between written
+    → WritesSimulationPart i commands before written
+simulation_whole_kept i commands status before between written whole keeps = record {
+  text = whole.text;
+  begun = IsSimulationPart.reporting (record {
+    history = whole.simulated.history;
+    lines = whole.simulated.lines;
+    run = whole.simulated.run;
+    n = drvs_in i;
+    some = omega arith;
+    report = whole.simulated.report;
+    reported = whole.simulated.reported;
+    is = whole.simulated.is;
+  });
+  part = kept_as_part before between written whole.text whole.appended keeps;
+}
+
+pub ruleset flushes = (kept_whole, kept_part, kept_as_part, simulation_kept, simulation_part_kept, simulation_whole_kept)
+
+pub ruleset writes = (part_of_first, part_after, written_after)
+
+-- ---- what was read
+
+pub opened : (options : ParkOptions) (text : List ℕ) (graph : Nodes) (machines : List Builder) (local : Settings) (info : List (List ℕ × List (List ℕ))) (dispatch : World)
+    → HasPark options text graph machines info → local ≡ local_of options → dispatch.inputs ≡ inputs_of options graph machines local info → dispatch.history ≡ [] → IsOpened options text dispatch
+opened options text graph machines local info dispatch has is_local made empty = record {
+  inputs = subst (HasInputs options text) (sym made) (record { park = has; local = is_local; keep_going = refl });
+  empty = empty;
+}
+
+pub inputs_read : (options : ParkOptions) (unread left : Option (List ℕ)) (text : List ℕ) (dispatch : World) → ReadsWhole unread left text → IsOpened options text dispatch
+    → ReadsInputs options unread left dispatch.inputs
+inputs_read options unread left text dispatch read opened = record { text = text; read = read; has = opened.inputs }
+
+pub park_read : (options : ParkOptions) (unread left : Option (List ℕ)) (text : List ℕ) (graph : Nodes) (machines : List Builder) (local : Settings) (info : List (List ℕ × List (List ℕ))) → ReadsWhole unread left text
+    → HasPark options text graph machines info → local ≡ local_of options → ReadsInputs options unread left (inputs_of options graph machines local info)
+park_read options unread left text graph machines local info read has is_local = record {
+  text = text;
+  read = read;
+  has = record { park = has; local = is_local; keep_going = refl };
+}
+
+-- ---- a simulation
+
+pub sim_answered : (options : ParkOptions) (script : List ℕ) (status : ℕ) (unread left before written : Option (List ℕ)) (text : List ℕ) (dispatch : World) (commands : List Command)
+    → ReadsWhole unread left text → IsOpened options text dispatch → HasScript dispatch.inputs script commands → WritesSimulation dispatch.inputs commands status before written
+    → AnswersSim options script status unread left before written
+sim_answered options script status unread left before written text dispatch commands read opened says simulated = record {
+  inputs = dispatch.inputs;
+  reads = inputs_read options unread left text dispatch read opened;
+  commands = commands;
+  says = says;
+  simulated = simulated;
+}
+
+pub sim_begun : (options : ParkOptions) (script : List ℕ) (unread left before written : Option (List ℕ)) (text : List ℕ) (dispatch : World) (commands : List Command)
+    → ReadsWhole unread left text → IsOpened options text dispatch → HasScript dispatch.inputs script commands → WritesSimulationPart dispatch.inputs commands before written
+    → AnswersSimInPart options script unread left before written
+sim_begun options script unread left before written text dispatch commands read opened says begun = record {
+  inputs = dispatch.inputs;
+  reads = inputs_read options unread left text dispatch read opened;
+  commands = commands;
+  says = says;
+  begun = begun;
+}
+
+-- the input wasn't read
+pub sim_unread : (options : ParkOptions) (script : List ℕ) (unread left : Option (List ℕ)) (reader_marked writer_marked : Bool) (e : CliFault) → IsReadFault reader_marked e
+    → IsSimFault options script unread left reader_marked writer_marked e
+sim_unread options script unread left reader_marked writer_marked (Derivation e) fault = absurd fault
+sim_unread options script unread left reader_marked writer_marked (Drvs e) fault = absurd fault
+sim_unread options script unread left reader_marked writer_marked (Builders e) fault = absurd fault
+sim_unread options script unread left reader_marked writer_marked (Info e) fault = absurd fault
+sim_unread options script unread left reader_marked writer_marked (Script e) fault = absurd fault
+sim_unread options script unread left reader_marked writer_marked (History e) fault = absurd fault
+sim_unread options script unread left reader_marked writer_marked (TooLarge place) fault = absurd fault
+sim_unread options script unread left reader_marked writer_marked Read fault = fault
+sim_unread options script unread left reader_marked writer_marked Write fault = absurd fault
+sim_unread options script unread left reader_marked writer_marked (Stand e) fault = absurd fault
+sim_unread options script unread left reader_marked writer_marked TooManySlots fault = absurd fault
+sim_unread options script unread left reader_marked writer_marked Thread fault = absurd fault
+sim_unread options script unread left reader_marked writer_marked Receipts fault = absurd fault
+sim_unread options script unread left reader_marked writer_marked Memory fault = tt
+
+pub sim_park_refused : (options : ParkOptions) (script : List ℕ) (unread left : Option (List ℕ)) (reader_marked writer_marked : Bool) (text : List ℕ) (e : CliFault) → ReadsWhole unread left text
+    → IsParkFault options text e → IsSimFault options script unread left reader_marked writer_marked e
+sim_park_refused options script unread left reader_marked writer_marked text (Derivation e) read fault = elim fault [ inl a ↦ absurd a | inr b ↦ elim b [ inl c ↦ absurd c.1 | inr d ↦ absurd d.2 ] ]
+sim_park_refused options script unread left reader_marked writer_marked text (Drvs e) read fault = record { text = text; read = read; refused = fault }
+sim_park_refused options script unread left reader_marked writer_marked text (Builders e) read fault = record { text = text; read = read; refused = fault }
+sim_park_refused options script unread left reader_marked writer_marked text (Info e) read fault = record { text = text; read = read; refused = fault }
+sim_park_refused options script unread left reader_marked writer_marked text (Script e) read fault = elim fault [ inl a ↦ absurd a | inr b ↦ elim b [ inl c ↦ absurd c.1 | inr d ↦ absurd d.2 ] ]
+sim_park_refused options script unread left reader_marked writer_marked text (History e) read fault = elim fault [ inl a ↦ absurd a | inr b ↦ elim b [ inl c ↦ absurd c.1 | inr d ↦ absurd d.2 ] ]
+sim_park_refused options script unread left reader_marked writer_marked text (TooLarge place) read fault = inl (record { text = text; read = read; refused = fault })
+sim_park_refused options script unread left reader_marked writer_marked text Read read fault = elim fault [ inl a ↦ absurd a | inr b ↦ elim b [ inl c ↦ absurd c.1 | inr d ↦ absurd d.2 ] ]
+sim_park_refused options script unread left reader_marked writer_marked text Write read fault = elim fault [ inl a ↦ absurd a | inr b ↦ elim b [ inl c ↦ absurd c.1 | inr d ↦ absurd d.2 ] ]
+sim_park_refused options script unread left reader_marked writer_marked text (Stand e) read fault = elim fault [ inl a ↦ absurd a | inr b ↦ elim b [ inl c ↦ absurd c.1 | inr d ↦ absurd d.2 ] ]
+sim_park_refused options script unread left reader_marked writer_marked text TooManySlots read fault = elim fault [ inl a ↦ absurd a | inr b ↦ elim b [ inl c ↦ absurd c.1 | inr d ↦ absurd d.2 ] ]
+sim_park_refused options script unread left reader_marked writer_marked text Thread read fault = elim fault [ inl a ↦ absurd a | inr b ↦ elim b [ inl c ↦ absurd c.1 | inr d ↦ absurd d.2 ] ]
+sim_park_refused options script unread left reader_marked writer_marked text Receipts read fault = elim fault [ inl a ↦ absurd a | inr b ↦ elim b [ inl c ↦ absurd c.1 | inr d ↦ absurd d.2 ] ]
+sim_park_refused options script unread left reader_marked writer_marked text Memory read fault = tt
+
+pub script_fault : (options : ParkOptions) (script : List ℕ) (unread left : Option (List ℕ)) (reader_marked writer_marked : Bool) (text : List ℕ) (dispatch : World) (e : CliFault) → ReadsWhole unread left text
+    → IsOpened options text dispatch → IsScriptFault dispatch.inputs script e → IsSimFault options script unread left reader_marked writer_marked e
+script_fault options script unread left reader_marked writer_marked text dispatch (Derivation e) read opened fault = absurd fault
+script_fault options script unread left reader_marked writer_marked text dispatch (Drvs e) read opened fault = absurd fault
+script_fault options script unread left reader_marked writer_marked text dispatch (Builders e) read opened fault = absurd fault
+script_fault options script unread left reader_marked writer_marked text dispatch (Info e) read opened fault = absurd fault
+script_fault options script unread left reader_marked writer_marked text dispatch (Script e) read opened fault = record {
+  inputs = dispatch.inputs;
+  reads = inputs_read options unread left text dispatch read opened;
+  refused = fault;
+}
+script_fault options script unread left reader_marked writer_marked text dispatch (History e) read opened fault = absurd fault
+script_fault options script unread left reader_marked writer_marked text dispatch (TooLarge place) read opened fault = inr (record {
+  inputs = dispatch.inputs;
+  reads = inputs_read options unread left text dispatch read opened;
+  refused = fault;
+})
+script_fault options script unread left reader_marked writer_marked text dispatch Read read opened fault = absurd fault
+script_fault options script unread left reader_marked writer_marked text dispatch Write read opened fault = absurd fault
+script_fault options script unread left reader_marked writer_marked text dispatch (Stand e) read opened fault = absurd fault
+script_fault options script unread left reader_marked writer_marked text dispatch TooManySlots read opened fault = absurd fault
+script_fault options script unread left reader_marked writer_marked text dispatch Thread read opened fault = absurd fault
+script_fault options script unread left reader_marked writer_marked text dispatch Receipts read opened fault = absurd fault
+script_fault options script unread left reader_marked writer_marked text dispatch Memory read opened fault = tt
+
+pub ruleset sims = (sim_answered, sim_begun, sim_unread, sim_park_refused, script_fault)
+
+-- ---- an audit
+
+pub says_legal : (i : Premises) (entries : List Entry) (before written : Option (List ℕ)) → IsLegal i (reverse entries) → Appends before written (legal_line (length entries))
+    → WritesVerdict i entries 0 before written
+says_legal i entries before written legal appended = record {
+  text = legal_line (length entries);
+  says = inl (record { legal = legal; status_is = refl; is = refl });
+  appended = appended;
+}
+
+pub says_legal_part : (i : Premises) (entries : List Entry) (before written : Option (List ℕ)) → IsLegal i (reverse entries) → WritesPart before written (legal_line (length entries))
+    → WritesVerdictPart i entries before written
+says_legal_part i entries before written legal part = record {
+  status = 0;
+  text = legal_line (length entries);
+  says = inl (record { legal = legal; status_is = refl; is = refl });
+  part = part;
+}
+
+pub says_illegal : (i : Premises) (entries : List Entry) (index : ℕ) (rule : Rule) (before written : Option (List ℕ)) → IsFirstIllegal i entries index rule → Appends before written (illegal_line index rule)
+    → WritesVerdict i entries 4 before written
+says_illegal i entries index rule before written illegal appended = record {
+  text = illegal_line index rule;
+  says = inr (record { index = index; rule = rule; illegal = illegal; status_is = refl; is = refl });
+  appended = appended;
+}
+
+pub says_illegal_part : (i : Premises) (entries : List Entry) (index : ℕ) (rule : Rule) (before written : Option (List ℕ)) → IsFirstIllegal i entries index rule
+    → WritesPart before written (illegal_line index rule) → WritesVerdictPart i entries before written
+says_illegal_part i entries index rule before written illegal part = record {
+  status = 4;
+  text = illegal_line index rule;
+  says = inr (record { index = index; rule = rule; illegal = illegal; status_is = refl; is = refl });
+  part = part;
+}
+
+pub ruleset verdicts = (says_legal, says_legal_part, says_illegal, says_illegal_part)
+
+pub audit_answered : (options : ParkOptions) (history : List ℕ) (status : ℕ) (unread left before written : Option (List ℕ)) (text : List ℕ) (graph : Nodes) (machines : List Builder) (local : Settings) (info : List (List ℕ × List (List ℕ)))
+    (entries : List Entry) → ReadsWhole unread left text → HasPark options text graph machines info → local ≡ local_of options → HasHistory history entries
+    → WritesVerdict (inputs_of options graph machines local info) entries status before written → AnswersAudit options history status unread left before written
+audit_answered options history status unread left before written text graph machines local info entries read has is_local is_history verdict = record {
+  inputs = inputs_of options graph machines local info;
+  reads = park_read options unread left text graph machines local info read has is_local;
+  entries = entries;
+  has = is_history;
+  verdict = verdict;
+}
+
+pub audit_begun : (options : ParkOptions) (history : List ℕ) (unread left before written : Option (List ℕ)) (text : List ℕ) (graph : Nodes) (machines : List Builder) (local : Settings) (info : List (List ℕ × List (List ℕ)))
+    (entries : List Entry) → ReadsWhole unread left text → HasPark options text graph machines info → local ≡ local_of options → HasHistory history entries
+    → WritesVerdictPart (inputs_of options graph machines local info) entries before written → AnswersAuditInPart options history unread left before written
+audit_begun options history unread left before written text graph machines local info entries read has is_local is_history verdict = record {
+  inputs = inputs_of options graph machines local info;
+  reads = park_read options unread left text graph machines local info read has is_local;
+  entries = entries;
+  has = is_history;
+  verdict = verdict;
+}
+
+pub audit_unread : (options : ParkOptions) (history : List ℕ) (unread left : Option (List ℕ)) (reader_marked writer_marked : Bool) (e : CliFault) → IsReadFault reader_marked e
+    → IsAuditFault options history unread left reader_marked writer_marked e
+audit_unread options history unread left reader_marked writer_marked (Derivation e) fault = absurd fault
+audit_unread options history unread left reader_marked writer_marked (Drvs e) fault = absurd fault
+audit_unread options history unread left reader_marked writer_marked (Builders e) fault = absurd fault
+audit_unread options history unread left reader_marked writer_marked (Info e) fault = absurd fault
+audit_unread options history unread left reader_marked writer_marked (Script e) fault = absurd fault
+audit_unread options history unread left reader_marked writer_marked (History e) fault = absurd fault
+audit_unread options history unread left reader_marked writer_marked (TooLarge place) fault = absurd fault
+audit_unread options history unread left reader_marked writer_marked Read fault = fault
+audit_unread options history unread left reader_marked writer_marked Write fault = absurd fault
+audit_unread options history unread left reader_marked writer_marked (Stand e) fault = absurd fault
+audit_unread options history unread left reader_marked writer_marked TooManySlots fault = absurd fault
+audit_unread options history unread left reader_marked writer_marked Thread fault = absurd fault
+audit_unread options history unread left reader_marked writer_marked Receipts fault = absurd fault
+audit_unread options history unread left reader_marked writer_marked Memory fault = tt
+
+pub audit_park_refused : (options : ParkOptions) (history : List ℕ) (unread left : Option (List ℕ)) (reader_marked writer_marked : Bool) (text : List ℕ) (e : CliFault) → ReadsWhole unread left text
+    → IsParkFault options text e → IsAuditFault options history unread left reader_marked writer_marked e
+audit_park_refused options history unread left reader_marked writer_marked text (Derivation e) read fault = elim fault [ inl a ↦ absurd a | inr b ↦ elim b [ inl c ↦ absurd c.1 | inr d ↦ absurd d.2 ] ]
+audit_park_refused options history unread left reader_marked writer_marked text (Drvs e) read fault = record { text = text; read = read; refused = fault }
+audit_park_refused options history unread left reader_marked writer_marked text (Builders e) read fault = record { text = text; read = read; refused = fault }
+audit_park_refused options history unread left reader_marked writer_marked text (Info e) read fault = record { text = text; read = read; refused = fault }
+audit_park_refused options history unread left reader_marked writer_marked text (Script e) read fault = elim fault [ inl a ↦ absurd a | inr b ↦ elim b [ inl c ↦ absurd c.1 | inr d ↦ absurd d.2 ] ]
+audit_park_refused options history unread left reader_marked writer_marked text (History e) read fault = elim fault [ inl a ↦ absurd a | inr b ↦ elim b [ inl c ↦ absurd c.1 | inr d ↦ absurd d.2 ] ]
+audit_park_refused options history unread left reader_marked writer_marked text (TooLarge place) read fault = inl (record { text = text; read = read; refused = fault })
+audit_park_refused options history unread left reader_marked writer_marked text Read read fault = elim fault [ inl a ↦ absurd a | inr b ↦ elim b [ inl c ↦ absurd c.1 | inr d ↦ absurd d.2 ] ]
+audit_park_refused options history unread left reader_marked writer_marked text Write read fault = elim fault [ inl a ↦ absurd a | inr b ↦ elim b [ inl c ↦ absurd c.1 | inr d ↦ absurd d.2 ] ]
+audit_park_refused options history unread left reader_marked writer_marked text (Stand e) read fault = elim fault [ inl a ↦ absurd a | inr b ↦ elim b [ inl c ↦ absurd c.1 | inr d ↦ absurd d.2 ] ]
+audit_park_refused options history unread left reader_marked writer_marked text TooManySlots read fault = elim fault [ inl a ↦ absurd a | inr b ↦ elim b [ inl c ↦ absurd c.1 | inr d ↦ absurd d.2 ] ]
+audit_park_refused options history unread left reader_marked writer_marked text Thread read fault = elim fault [ inl a ↦ absurd a | inr b ↦ elim b [ inl c ↦ absurd c.1 | inr d ↦ absurd d.2 ] ]
+audit_park_refused options history unread left reader_marked writer_marked text Receipts read fault = elim fault [ inl a ↦ absurd a | inr b ↦ elim b [ inl c ↦ absurd c.1 | inr d ↦ absurd d.2 ] ]
+audit_park_refused options history unread left reader_marked writer_marked text Memory read fault = tt
+
+pub history_fault : (options : ParkOptions) (history : List ℕ) (unread left : Option (List ℕ)) (reader_marked writer_marked : Bool) (text : List ℕ) (graph : Nodes) (machines : List Builder) (local : Settings) (info : List (List ℕ × List (List ℕ)))
+    (e : CliFault) → ReadsWhole unread left text → HasPark options text graph machines info → local ≡ local_of options → IsHistoryFault history e
+    → IsAuditFault options history unread left reader_marked writer_marked e
+history_fault options history unread left reader_marked writer_marked text graph machines local info (Derivation e) read has is_local fault = absurd fault
+history_fault options history unread left reader_marked writer_marked text graph machines local info (Drvs e) read has is_local fault = absurd fault
+history_fault options history unread left reader_marked writer_marked text graph machines local info (Builders e) read has is_local fault = absurd fault
+history_fault options history unread left reader_marked writer_marked text graph machines local info (Info e) read has is_local fault = absurd fault
+history_fault options history unread left reader_marked writer_marked text graph machines local info (Script e) read has is_local fault = absurd fault
+history_fault options history unread left reader_marked writer_marked text graph machines local info (History e) read has is_local fault = record {
+  inputs = inputs_of options graph machines local info;
+  reads = park_read options unread left text graph machines local info read has is_local;
+  refused = fault;
+}
+history_fault options history unread left reader_marked writer_marked text graph machines local info (TooLarge place) read has is_local fault = inr (record {
+  inputs = inputs_of options graph machines local info;
+  reads = park_read options unread left text graph machines local info read has is_local;
+  refused = fault;
+})
+history_fault options history unread left reader_marked writer_marked text graph machines local info Read read has is_local fault = absurd fault
+history_fault options history unread left reader_marked writer_marked text graph machines local info Write read has is_local fault = absurd fault
+history_fault options history unread left reader_marked writer_marked text graph machines local info (Stand e) read has is_local fault = absurd fault
+history_fault options history unread left reader_marked writer_marked text graph machines local info TooManySlots read has is_local fault = absurd fault
+history_fault options history unread left reader_marked writer_marked text graph machines local info Thread read has is_local fault = absurd fault
+history_fault options history unread left reader_marked writer_marked text graph machines local info Receipts read has is_local fault = absurd fault
+history_fault options history unread left reader_marked writer_marked text graph machines local info Memory read has is_local fault = tt
+
+pub verdict_fault : (options : ParkOptions) (history : List ℕ) (unread left : Option (List ℕ)) (reader_marked writer_marked : Bool) (e : CliFault) → IsVerdictFault writer_marked e
+    → IsAuditFault options history unread left reader_marked writer_marked e
+verdict_fault options history unread left reader_marked writer_marked (Derivation e) fault = absurd fault
+verdict_fault options history unread left reader_marked writer_marked (Drvs e) fault = absurd fault
+verdict_fault options history unread left reader_marked writer_marked (Builders e) fault = absurd fault
+verdict_fault options history unread left reader_marked writer_marked (Info e) fault = absurd fault
+verdict_fault options history unread left reader_marked writer_marked (Script e) fault = absurd fault
+verdict_fault options history unread left reader_marked writer_marked (History e) fault = absurd fault
+verdict_fault options history unread left reader_marked writer_marked (TooLarge place) fault = absurd fault
+verdict_fault options history unread left reader_marked writer_marked Read fault = absurd fault
+verdict_fault options history unread left reader_marked writer_marked Write fault = fault
+verdict_fault options history unread left reader_marked writer_marked (Stand e) fault = absurd fault
+verdict_fault options history unread left reader_marked writer_marked TooManySlots fault = absurd fault
+verdict_fault options history unread left reader_marked writer_marked Thread fault = absurd fault
+verdict_fault options history unread left reader_marked writer_marked Receipts fault = absurd fault
+verdict_fault options history unread left reader_marked writer_marked Memory fault = tt
+
+pub ruleset audits = (audit_answered, audit_begun, audit_unread, audit_park_refused, history_fault, verdict_fault)

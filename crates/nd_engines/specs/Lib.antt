@@ -1,0 +1,4 @@
+pub mod Opened
+pub mod Scripts
+pub mod Simulated
+pub mod Audited

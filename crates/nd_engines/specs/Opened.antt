@@ -1,0 +1,31 @@
+-- The dispatch over what a command was given.
+use Rattle.std.specs.Prelude.{◌≡◌, ℕ, List, [], Option}
+use Rattle.nd_machines.specs.Builders.{Builder}
+use Rattle.nd_eligible.specs.Settings.{Settings}
+use Rattle.nd_graph.specs.Graphs.{Nodes}
+use Rattle.nd_history.specs.Premises.{Premises}
+use Rattle.nd_ledger.specs.Worlds.{World}
+use Rattle.nd_cli.specs.Inputs.{ReadsWhole}
+use Rattle.nd_cli.specs.Parks.{HasPark, local_of}
+use Rattle.nd_cli.specs.declared.options.ParkOptions.{ParkOptions}
+
+-- the five inputs of a dispatch over these derivations, machines and references
+abbrev pub inputs_of : ParkOptions → Nodes → List Builder → Settings → List (List ℕ × List (List ℕ)) → Premises
+inputs_of options graph machines local info = record { graph = graph; machines = machines; local = local; info = info; keep_going = options.keep_going }
+
+-- the five inputs that the bundle and the options describe
+pub record HasInputs (options : ParkOptions) (text : List ℕ) (i : Premises) : Type 0 where
+  pub park : HasPark options text i.graph i.machines i.info
+  pub local : i.local ≡ local_of options
+  pub keep_going : i.keep_going ≡ options.keep_going
+
+-- a dispatch over them with the empty history
+pub record IsOpened (options : ParkOptions) (text : List ℕ) (dispatch : World) : Type 0 where
+  pub inputs : HasInputs options text dispatch.inputs
+  pub empty : dispatch.history ≡ []
+
+-- the whole input was read, and these are the five inputs
+pub record ReadsInputs (options : ParkOptions) (unread left : Option (List ℕ)) (i : Premises) : Type 0 where
+  pub text : List ℕ
+  pub read : ReadsWhole unread left text
+  pub has : HasInputs options text i

@@ -1,0 +1,64 @@
+-- What `sim` answers: the simulation of the script over the bundle that was read.
+use Rattle.std.specs.Prelude.{◌≡◌, ◌⊎◌, ℕ, Bool, true, false, List, Option}
+use Rattle.nd_history.specs.Premises.{Premises}
+use Rattle.nd_script.specs.declared.command.Command.{Command}
+use Rattle.nd_cli.specs.Asked.{RefusesPark}
+use Rattle.nd_cli.specs.declared.options.ParkOptions.{ParkOptions}
+use Rattle.nd_cli.specs.declared.fault.CliFault.{CliFault}
+use Rattle.nd_cli.specs.declared.fault.CliFault.TheVariants.{Derivation, Drvs, Builders, Info, Script, Stand, History, TooLarge, TooManySlots, Read, Write, Memory, Thread, Receipts}
+use Rattle.nd_sim.specs.Written.{WritesSimulation, WritesSimulationPart}
+use Rattle.nd_engines.specs.Opened.{ReadsInputs}
+use Rattle.nd_engines.specs.Scripts.{HasScript, IsScriptFault}
+
+-- the inputs are accepted, and the simulation was written
+pub record AnswersSim (options : ParkOptions) (script : List ℕ) (status : ℕ) (unread left before written : Option (List ℕ)) : Type 0 where
+  pub inputs : Premises
+  pub reads : ReadsInputs options unread left inputs
+  pub commands : List Command
+  pub says : HasScript inputs script commands
+  pub simulated : WritesSimulation inputs commands status before written
+
+-- .. or its beginning
+pub record AnswersSimInPart (options : ParkOptions) (script : List ℕ) (unread left before written : Option (List ℕ)) : Type 0 where
+  pub inputs : Premises
+  pub reads : ReadsInputs options unread left inputs
+  pub commands : List Command
+  pub says : HasScript inputs script commands
+  pub begun : WritesSimulationPart inputs commands before written
+
+-- nothing was written, or the beginning of a simulation
+abbrev pub LeavesSim : ParkOptions → List ℕ → Option (List ℕ) → Option (List ℕ) → Option (List ℕ) → Option (List ℕ) → Type 0
+LeavesSim options script unread left before written = (written ≡ before) ⊎ AnswersSimInPart options script unread left before written
+
+-- the bundle and the park are accepted, and the script is refused for this reason
+pub record RefusesScript (options : ParkOptions) (script : List ℕ) (unread left : Option (List ℕ)) (fault : CliFault) : Type 0 where
+  pub inputs : Premises
+  pub reads : ReadsInputs options unread left inputs
+  pub refused : IsScriptFault inputs script fault
+
+-- an input is refused
+abbrev pub RefusesSim : ParkOptions → List ℕ → Option (List ℕ) → Option (List ℕ) → CliFault → Type 0
+RefusesSim options script unread left fault = RefusesPark options unread left fault ⊎ RefusesScript options script unread left fault
+
+-- Why there is no answer: an input is refused, a device failed and is marked, or memory ran out.
+abbrev pub IsSimFault : ParkOptions → List ℕ → Option (List ℕ) → Option (List ℕ) → Bool → Bool → CliFault → Type 0
+IsSimFault options script unread left reader_marked writer_marked (Derivation e) = ⊥
+IsSimFault options script unread left reader_marked writer_marked (Drvs e) = RefusesPark options unread left (Drvs e)
+IsSimFault options script unread left reader_marked writer_marked (Builders e) = RefusesPark options unread left (Builders e)
+IsSimFault options script unread left reader_marked writer_marked (Info e) = RefusesPark options unread left (Info e)
+IsSimFault options script unread left reader_marked writer_marked (Script e) = RefusesScript options script unread left (Script e)
+IsSimFault options script unread left reader_marked writer_marked (History e) = ⊥
+IsSimFault options script unread left reader_marked writer_marked (Stand e) = ⊥
+IsSimFault options script unread left reader_marked writer_marked (TooLarge place) = RefusesSim options script unread left (TooLarge place)
+IsSimFault options script unread left reader_marked writer_marked TooManySlots = ⊥
+IsSimFault options script unread left reader_marked writer_marked Read = reader_marked ≡ true
+IsSimFault options script unread left reader_marked writer_marked Write = writer_marked ≡ true
+IsSimFault options script unread left reader_marked writer_marked Memory = Unit {0}
+IsSimFault options script unread left reader_marked writer_marked Thread = ⊥
+IsSimFault options script unread left reader_marked writer_marked Receipts = ⊥
+
+-- a simulation may have begun
+abbrev pub may_have_begun : CliFault → Bool
+may_have_begun Write = true
+may_have_begun Memory = true
+may_have_begun _ = false

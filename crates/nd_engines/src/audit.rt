@@ -1,0 +1,97 @@
+//! The command `audit`.
+
+ghost use Rattle.std.specs.Prelude.{◌≡◌, ◌≤◌, true, false, length, IfOk, IfErr, OnErr};
+ghost use Rattle.nd_cli.specs.Inputs.{is_write_fault};
+ghost use Rattle.nd_report.specs.Audits.{premises};
+ghost use Rattle.nd_engines.specs.Audited.{AnswersAudit, AnswersAuditInPart, IsAuditFault, WritesVerdict, WritesVerdictPart, IsVerdictFault};
+
+use crate::history::read_entries;
+use crate::verdict::{write_illegal, write_legal};
+use nd_cli::{CliFault, Park, ParkOptions, read_input, read_park};
+use nd_hook::{Fault, Told};
+use nd_ledger::Entry;
+use nd_report::{AuditError, audit};
+use std::alloc::Global;
+use std::io::{Read, Write};
+use std::thread::Threads;
+
+/// The exit status where a history is not legal.
+const ILLEGAL: u8 = 4;
+
+/// Writes `legal N` where the history text is that of a legal history of N entries over the bundle on
+/// the input, and the status is 0; else `illegal INDEX RULE` with the place of the first entry that is
+/// not allowed, from 0, and the first rule that refuses it, and the status is 4.
+///
+/// The first refusal in this order is answered, and nothing is written then: `Read`; `TooLarge` or
+/// `Drvs` for the bundle; `TooLarge` or `Builders` for the builders list; `TooLarge` or `Info` for the
+/// info text; `TooLarge` or `History` for the history text. `Write` leaves a part of the line, from its
+/// beginning. `Memory` may come at any point before the line is written.
+#[tactic(auto, using(crate::proofs::Answering::audits))]
+pub fn audit_engine<R: Read, W: Write>(
+    rt: &(impl Threads + Sync),
+    alloc: Global,
+    options: &ParkOptions,
+    history: &[u8],
+    input: &mut Told<R>,
+    output: &mut Told<W>,
+) -> Result<u8, CliFault>
+    requires reader { input.old.is_marked ≡ false }
+    requires writer { output.old.is_marked ≡ false }
+    ensures answer { IfOk result (λ status. AnswersAudit options.now history.now status (R.remaining input.old.device) (R.remaining input.new.device) (W.contents output.old.device) (W.contents output.new.device)) }
+    ensures fault { IfErr result (IsAuditFault options.now history.now (R.remaining input.old.device) (R.remaining input.new.device) input.new.is_marked output.new.is_marked) }
+    ensures untouched { IfErr result (λ e. is_write_fault e ≡ false → output.new ≡ output.old) }
+    ensures partly { IfErr result (λ e. is_write_fault e ≡ true → AnswersAuditInPart options.now history.now (R.remaining input.old.device) (R.remaining input.new.device) (W.contents output.old.device) (W.contents output.new.device)) }
+{
+    let text = match read_input(alloc, input) {
+        Ok(text) => text,
+        Err(fault) => return Err(fault),
+    };
+    let park = match read_park(rt, alloc, options, text.as_slice()) {
+        Ok(park) => park,
+        Err(fault) => return Err(fault),
+    };
+    let entries = match read_entries(alloc, history) {
+        Ok(entries) => entries,
+        Err(fault) => return Err(fault),
+    };
+    match write_verdict(alloc, &park, options.keep_going, &entries, output) {
+        Ok(status) => Ok(status),
+        Err(fault) => Err(fault),
+    }
+}
+
+/// Writes whether these entries are a legal history, and answers the status.
+#[tactic(auto, using(crate::proofs::Answering::verdicts))]
+fn write_verdict<W: Write>(
+    alloc: Global,
+    park: &Park,
+    keep_going: bool,
+    entries: &[Entry],
+    output: &mut Told<W>,
+) -> Result<u8, CliFault>
+    requires few { length park.now.machines.items ≤ 1024 }
+    ensures written { IfOk result (λ status. WritesVerdict (premises park.now.graph park.now.machines.items park.now.local park.now.info keep_going) entries.now status (W.contents output.old.device) (W.contents output.new.device)) }
+    ensures partly { IfErr result (λ e. is_write_fault e ≡ true → WritesVerdictPart (premises park.now.graph park.now.machines.items park.now.local park.now.info keep_going) entries.now (W.contents output.old.device) (W.contents output.new.device)) }
+    ensures fault { IfErr result (IsVerdictFault output.new.is_marked) }
+    ensures untouched { IfErr result (λ e. is_write_fault e ≡ false → output.new ≡ output.old) }
+{
+    match audit(
+        alloc,
+        &park.graph,
+        &park.machines,
+        &park.local,
+        &park.info,
+        keep_going,
+        entries,
+    ) {
+        Ok(()) => match write_legal(entries.len(), output) {
+            Ok(()) => Ok(0),
+            Err(Fault) => Err(CliFault::Write),
+        },
+        Err(AuditError::Illegal { index, rule }) => match write_illegal(index, rule, output) {
+            Ok(()) => Ok(ILLEGAL),
+            Err(Fault) => Err(CliFault::Write),
+        },
+        Err(AuditError::Memory) => Err(CliFault::Memory),
+    }
+}

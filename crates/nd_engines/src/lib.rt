@@ -1,0 +1,14 @@
+//! The engines of the commands that have a dispatch: `sim` and `audit`, as functions over a reader and a
+//! writer.
+#![tactic(auto)]
+
+pub mod audit;
+mod history;
+mod opening;
+mod script;
+pub mod sim;
+mod simulation;
+mod verdict;
+
+pub use audit::audit_engine;
+pub use sim::sim_engine;

@@ -1,0 +1,90 @@
+//! The command `sim`.
+
+ghost use Rattle.std.specs.Prelude.{◌≡◌, true, false, [], IfOk, IfErr, OnErr};
+ghost use Rattle.std.specs.List.{All};
+ghost use Rattle.nd_sim.specs.Answers.{IsNamed};
+ghost use Rattle.nd_sim.specs.Written.{WritesSimulation, WritesSimulationPart};
+ghost use Rattle.nd_sim.specs.declared.fault.SimFault.{SimFault};
+ghost use Rattle.nd_engines.specs.Simulated.{AnswersSim, LeavesSim, IsSimFault, may_have_begun};
+
+use crate::opening::open_dispatch;
+use crate::script::read_script;
+use crate::simulation::simulate;
+use nd_cli::{CliFault, ParkOptions, read_input};
+use nd_hook::{Fault, Told};
+use nd_ledger::Dispatch;
+use nd_script::Command;
+use nd_sim::SimFault;
+use std::alloc::Global;
+use std::io::{Read, Write};
+use std::thread::Threads;
+
+/// Reads the bundle on the input, does what the script says, and writes each entry's line as it is
+/// made, `refused` and its name for a command that is refused, the reply for one that asks, and last
+/// the report. The status is 1 where a derivation failed or was cancelled, and else 0.
+///
+/// The first refusal in this order is answered, and nothing is written then: `Read`; `TooLarge` or
+/// `Drvs` for the bundle; `TooLarge` or `Builders` for the builders list; `TooLarge` or `Info` for the
+/// info text; `TooLarge` or `Script` for the script. `Write` and `Memory` leave the beginning of the
+/// text; `Memory` may come at any point.
+#[tactic(auto, using(crate::proofs::Answering::sims))]
+pub fn sim_engine<R: Read, W: Write>(
+    rt: &(impl Threads + Sync),
+    alloc: Global,
+    options: &ParkOptions,
+    script: &[u8],
+    input: &mut Told<R>,
+    output: &mut Told<W>,
+) -> Result<u8, CliFault>
+    requires reader { input.old.is_marked ≡ false }
+    requires writer { output.old.is_marked ≡ false }
+    ensures answer { IfOk result (λ status. AnswersSim options.now script.now status (R.remaining input.old.device) (R.remaining input.new.device) (W.contents output.old.device) (W.contents output.new.device)) }
+    ensures fault { IfErr result (IsSimFault options.now script.now (R.remaining input.old.device) (R.remaining input.new.device) input.new.is_marked output.new.is_marked) }
+    ensures untouched { IfErr result (λ e. may_have_begun e ≡ false → output.new ≡ output.old) }
+    ensures partly { IfErr result (λ e. may_have_begun e ≡ true → LeavesSim options.now script.now (R.remaining input.old.device) (R.remaining input.new.device) (W.contents output.old.device) (W.contents output.new.device)) }
+{
+    let text = match read_input(alloc, input) {
+        Ok(text) => text,
+        Err(fault) => return Err(fault),
+    };
+    let dispatch = match open_dispatch(rt, alloc, options, text.as_slice()) {
+        Ok(dispatch) => dispatch,
+        Err(fault) => return Err(fault),
+    };
+    let commands = match read_script(alloc, &dispatch, script) {
+        Ok(commands) => commands,
+        Err(fault) => return Err(fault),
+    };
+    match perform(alloc, dispatch, commands, output) {
+        Ok(status) => Ok(status),
+        Err(SimFault::Write) => Err(CliFault::Write),
+        Err(SimFault::Memory) => Err(CliFault::Memory),
+    }
+}
+
+/// Does what these commands say, and has the writer pass on what it holds back.
+#[tactic(auto, using(crate::proofs::Answering::flushes))]
+fn perform<W: Write>(
+    alloc: Global,
+    mut dispatch: Dispatch,
+    commands: Vec<Command>,
+    output: &mut Told<W>,
+) -> Result<u8, SimFault>
+    requires begun { dispatch.history ≡ [] }
+    requires named { All (IsNamed dispatch.inputs) commands.items }
+    ensures written { IfOk result (λ status. WritesSimulation dispatch.inputs commands.items status (W.contents output.old.device) (W.contents output.new.device)) }
+    ensures partly { OnErr result (WritesSimulationPart dispatch.inputs commands.items (W.contents output.old.device) (W.contents output.new.device)) }
+    ensures mark { IfErr result (λ e. e ≡ SimFault.Write → output.new.is_marked ≡ true) }
+{
+    match simulate(alloc, &mut dispatch, commands, output) {
+        Ok(status) => match output.flush() {
+            Ok(()) => Ok(status),
+            Err(Fault) => Err(SimFault::Write),
+        },
+        Err(SimFault::Memory) => match output.flush() {
+            Ok(()) => Err(SimFault::Memory),
+            Err(Fault) => Err(SimFault::Write),
+        },
+        Err(SimFault::Write) => Err(SimFault::Write),
+    }
+}

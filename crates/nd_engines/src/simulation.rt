@@ -1,0 +1,61 @@
+//! A whole script on a dispatch, with the lines that are written of it.
+
+ghost use Rattle.std.specs.Prelude.{◌≡◌, true, [], reverse, IfOk, IfErr, OnOk, OnErr};
+ghost use Rattle.std.specs.List.{All};
+ghost use Rattle.nd_sim.specs.declared.fault.SimFault.{SimFault};
+ghost use Rattle.nd_sim.specs.Answers.{IsNamed};
+ghost use Rattle.nd_sim.specs.Runs.{IsExitStatus};
+ghost use Rattle.nd_sim.specs.Written.{WritesSimulation, WritesSimulationPart};
+
+use nd_hook::{Told, WriteError};
+use nd_ledger::Dispatch;
+use nd_report::write_report;
+use nd_script::Command;
+use nd_sim::{SimFault, take_turns};
+use std::alloc::Global;
+use std::io;
+
+/// Pumps, and then for each command does what it asks for and pumps again; then writes the report of
+/// how the dispatch stands. Each entry's line is written as it is made, a refused command as `refused`
+/// and the refusal's name, and a reply as the hook gives it. The answer is the exit status: 1 where a
+/// derivation failed or was cancelled, and else 0.
+///
+/// Refuses with `Write` (1), where the device refused a write and is marked, and with `Memory` (2) where
+/// an allocation is refused. The beginning of the text is out then.
+#[tactic(auto, using(nd_sim::proofs::Simulating::wholes))]
+pub fn simulate<W: io::Write>(
+    alloc: Global,
+    dispatch: &mut Dispatch,
+    commands: Vec<Command>,
+    out: &mut Told<W>,
+) -> Result<u8, SimFault>
+    requires begun { dispatch.old.history ≡ [] }
+    requires named { All (IsNamed dispatch.old.inputs) commands.items }
+    ensures inputs { dispatch.new.inputs ≡ dispatch.old.inputs }
+    ensures written { IfOk result (λ status. WritesSimulation dispatch.old.inputs commands.items status (W.contents out.old.device) (W.contents out.new.device)) }
+    ensures partly { OnErr result (WritesSimulationPart dispatch.old.inputs commands.items (W.contents out.old.device) (W.contents out.new.device)) }
+    ensures mark { IfErr result (λ e. e ≡ SimFault.Write → out.new.is_marked ≡ true) }
+{
+    match take_turns(alloc, dispatch, commands, out) {
+        Ok(()) => {}
+        Err(fault) => return Err(fault),
+    }
+    match write_report(dispatch, out) {
+        Ok(()) => Ok(exit_status(dispatch)),
+        Err(WriteError::Write) => Err(SimFault::Write),
+    }
+}
+
+/// 1 where a derivation failed or was cancelled, and else 0.
+fn exit_status(dispatch: &Dispatch) -> u8
+    ensures { IsExitStatus dispatch.now.inputs (reverse dispatch.now.history) result }
+{
+    let counts = dispatch.counts();
+    if counts.failed > 0 {
+        return 1;
+    }
+    if counts.cancelled > 0 {
+        return 1;
+    }
+    0
+}
