@@ -24,7 +24,7 @@ use Rattle.nd_sim.specs.RunParts.{IsSimulationPart}
 use Rattle.nd_sim.specs.Written.{WritesSimulation, WritesSimulationPart}
 use Rattle.nd_engines.specs.Opened.{inputs_of, HasInputs, IsOpened, ReadsInputs}
 use Rattle.nd_engines.specs.Scripts.{HasScript, IsScriptFault}
-use Rattle.nd_engines.specs.Simulated.{AnswersSim, AnswersSimInPart, IsSimFault}
+use Rattle.nd_engines.specs.Simulated.{IsSimGiven, AnswersSim, LeavesSim, IsSimFault}
 use Rattle.nd_engines.specs.Audited.{HasHistory, IsHistoryFault, legal_line, illegal_line, WritesVerdict, WritesVerdictPart, AnswersAudit, AnswersAuditInPart, IsAuditFault, IsVerdictFault}
 
 -- ---- a writer passes on what it holds back
@@ -83,7 +83,7 @@ simulation_whole_kept i commands status before between written whole keeps = rec
   part = kept_as_part before between written whole.text whole.appended keeps;
 }
 
-pub ruleset flushes = (kept_whole, kept_part, kept_as_part, simulation_kept, simulation_part_kept, simulation_whole_kept)
+pub ruleset flushes = (kept_whole, kept_part, kept_as_part)
 
 pub ruleset writes = (part_of_first, part_after, written_after)
 
@@ -110,27 +110,34 @@ park_read options unread left text graph machines local info read has is_local =
 
 -- ---- a simulation
 
-pub sim_answered : (options : ParkOptions) (script : List ℕ) (status : ℕ) (unread left before written : Option (List ℕ)) (text : List ℕ) (dispatch : World) (commands : List Command)
-    → ReadsWhole unread left text → IsOpened options text dispatch → HasScript dispatch.inputs script commands → WritesSimulation dispatch.inputs commands status before written
-    → AnswersSim options script status unread left before written
-sim_answered options script status unread left before written text dispatch commands read opened says simulated = record {
-  inputs = dispatch.inputs;
+pub sim_given : (options : ParkOptions) (script : List ℕ) (unread left : Option (List ℕ)) (text : List ℕ) (dispatch : World) (commands : List Command) → ReadsWhole unread left text
+    → IsOpened options text dispatch → HasScript dispatch.inputs script commands → IsSimGiven options script unread left dispatch commands
+sim_given options script unread left text dispatch commands read opened says = record {
   reads = inputs_read options unread left text dispatch read opened;
-  commands = commands;
+  empty = opened.empty;
   says = says;
+}
+
+pub sim_answered : (options : ParkOptions) (script : List ℕ) (status : ℕ) (unread left before written : Option (List ℕ)) (dispatch : World) (commands : List Command)
+    → IsSimGiven options script unread left dispatch commands → WritesSimulation dispatch.inputs commands status before written
+    → AnswersSim options script status unread left before written
+sim_answered options script status unread left before written dispatch commands given simulated = record {
+  inputs = dispatch.inputs;
+  reads = given.reads;
+  commands = commands;
+  says = given.says;
   simulated = simulated;
 }
 
-pub sim_begun : (options : ParkOptions) (script : List ℕ) (unread left before written : Option (List ℕ)) (text : List ℕ) (dispatch : World) (commands : List Command)
-    → ReadsWhole unread left text → IsOpened options text dispatch → HasScript dispatch.inputs script commands → WritesSimulationPart dispatch.inputs commands before written
-    → AnswersSimInPart options script unread left before written
-sim_begun options script unread left before written text dispatch commands read opened says begun = record {
+pub sim_begun : (options : ParkOptions) (script : List ℕ) (unread left before written : Option (List ℕ)) (dispatch : World) (commands : List Command)
+    → IsSimGiven options script unread left dispatch commands → WritesSimulationPart dispatch.inputs commands before written → LeavesSim options script unread left before written
+sim_begun options script unread left before written dispatch commands given begun = inr (record {
   inputs = dispatch.inputs;
-  reads = inputs_read options unread left text dispatch read opened;
+  reads = given.reads;
   commands = commands;
-  says = says;
+  says = given.says;
   begun = begun;
-}
+})
 
 -- the input wasn't read
 pub sim_unread : (options : ParkOptions) (script : List ℕ) (unread left : Option (List ℕ)) (reader_marked writer_marked : Bool) (e : CliFault) → IsReadFault reader_marked e
@@ -192,8 +199,6 @@ script_fault options script unread left reader_marked writer_marked text dispatc
 script_fault options script unread left reader_marked writer_marked text dispatch Receipts read opened fault = absurd fault
 script_fault options script unread left reader_marked writer_marked text dispatch Memory read opened fault = tt
 
-pub ruleset sims = (sim_answered, sim_begun, sim_unread, sim_park_refused, script_fault)
-
 -- ---- an audit
 
 pub says_legal : (i : Premises) (entries : List Entry) (before written : Option (List ℕ)) → IsLegal i (reverse entries) → Appends before written (legal_line (length entries))
@@ -230,27 +235,23 @@ says_illegal_part i entries index rule before written illegal part = record {
   part = part;
 }
 
-pub ruleset verdicts = (says_legal, says_legal_part, says_illegal, says_illegal_part)
-
-pub audit_answered : (options : ParkOptions) (history : List ℕ) (status : ℕ) (unread left before written : Option (List ℕ)) (text : List ℕ) (graph : Nodes) (machines : List Builder) (local : Settings) (info : List (List ℕ × List (List ℕ)))
-    (entries : List Entry) → ReadsWhole unread left text → HasPark options text graph machines info → local ≡ local_of options → HasHistory history entries
-    → WritesVerdict (inputs_of options graph machines local info) entries status before written → AnswersAudit options history status unread left before written
-audit_answered options history status unread left before written text graph machines local info entries read has is_local is_history verdict = record {
-  inputs = inputs_of options graph machines local info;
-  reads = park_read options unread left text graph machines local info read has is_local;
+pub audit_answered : (options : ParkOptions) (history : List ℕ) (status : ℕ) (unread left before written : Option (List ℕ)) (i : Premises) (entries : List Entry) → ReadsInputs options unread left i
+    → HasHistory history entries → WritesVerdict i entries status before written → AnswersAudit options history status unread left before written
+audit_answered options history status unread left before written i entries reads has verdict = record {
+  inputs = i;
+  reads = reads;
   entries = entries;
-  has = is_history;
+  has = has;
   verdict = verdict;
 }
 
-pub audit_begun : (options : ParkOptions) (history : List ℕ) (unread left before written : Option (List ℕ)) (text : List ℕ) (graph : Nodes) (machines : List Builder) (local : Settings) (info : List (List ℕ × List (List ℕ)))
-    (entries : List Entry) → ReadsWhole unread left text → HasPark options text graph machines info → local ≡ local_of options → HasHistory history entries
-    → WritesVerdictPart (inputs_of options graph machines local info) entries before written → AnswersAuditInPart options history unread left before written
-audit_begun options history unread left before written text graph machines local info entries read has is_local is_history verdict = record {
-  inputs = inputs_of options graph machines local info;
-  reads = park_read options unread left text graph machines local info read has is_local;
+pub audit_begun : (options : ParkOptions) (history : List ℕ) (unread left before written : Option (List ℕ)) (i : Premises) (entries : List Entry) → ReadsInputs options unread left i
+    → HasHistory history entries → WritesVerdictPart i entries before written → AnswersAuditInPart options history unread left before written
+audit_begun options history unread left before written i entries reads has verdict = record {
+  inputs = i;
+  reads = reads;
   entries = entries;
-  has = is_history;
+  has = has;
   verdict = verdict;
 }
 
@@ -330,5 +331,3 @@ verdict_fault options history unread left reader_marked writer_marked TooManySlo
 verdict_fault options history unread left reader_marked writer_marked Thread fault = absurd fault
 verdict_fault options history unread left reader_marked writer_marked Receipts fault = absurd fault
 verdict_fault options history unread left reader_marked writer_marked Memory fault = tt
-
-pub ruleset audits = (audit_answered, audit_begun, audit_unread, audit_park_refused, history_fault, verdict_fault)

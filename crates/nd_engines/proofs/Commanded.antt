@@ -59,5 +59,3 @@ pub script_refused : (i : Premises) (drvs machines : ℕ) (script : List ℕ) (r
     → IsRefused drvs machines script refusal → IsRefused (length i.graph.paths) (machines_in i) script refusal
 script_refused i drvs machines script refusal all park refused =
     at_sizes i (λ (d m : ℕ). IsRefused d m script refusal) drvs machines all park refused
-
-pub ruleset scripts = (script_read, commands_named, script_refused)

@@ -1,6 +1,7 @@
 -- What `sim` answers: the simulation of the script over the bundle that was read.
-use Rattle.std.specs.Prelude.{◌≡◌, ◌⊎◌, ℕ, Bool, true, false, List, Option}
+use Rattle.std.specs.Prelude.{◌≡◌, ◌⊎◌, ℕ, Bool, true, false, List, [], Option}
 use Rattle.nd_history.specs.Premises.{Premises}
+use Rattle.nd_ledger.specs.Worlds.{World}
 use Rattle.nd_script.specs.declared.command.Command.{Command}
 use Rattle.nd_cli.specs.Asked.{RefusesPark}
 use Rattle.nd_cli.specs.declared.options.ParkOptions.{ParkOptions}
@@ -9,6 +10,12 @@ use Rattle.nd_cli.specs.declared.fault.CliFault.TheVariants.{Derivation, Drvs, B
 use Rattle.nd_sim.specs.Written.{WritesSimulation, WritesSimulationPart}
 use Rattle.nd_engines.specs.Opened.{ReadsInputs}
 use Rattle.nd_engines.specs.Scripts.{HasScript, IsScriptFault}
+
+-- the inputs are accepted: a dispatch over them, with the empty history, and the commands of the script
+pub record IsSimGiven (options : ParkOptions) (script : List ℕ) (unread left : Option (List ℕ)) (dispatch : World) (commands : List Command) : Type 0 where
+  pub reads : ReadsInputs options unread left dispatch.inputs
+  pub empty : dispatch.history ≡ []
+  pub says : HasScript dispatch.inputs script commands
 
 -- the inputs are accepted, and the simulation was written
 pub record AnswersSim (options : ParkOptions) (script : List ℕ) (status : ℕ) (unread left before written : Option (List ℕ)) : Type 0 where

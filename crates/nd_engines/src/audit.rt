@@ -5,9 +5,9 @@ ghost use Rattle.nd_cli.specs.Inputs.{is_write_fault};
 ghost use Rattle.nd_report.specs.Audits.{premises};
 ghost use Rattle.nd_engines.specs.Audited.{AnswersAudit, AnswersAuditInPart, IsAuditFault, WritesVerdict, WritesVerdictPart, IsVerdictFault};
 
-use crate::history::read_entries;
+use crate::reading::read_audit_inputs;
 use crate::verdict::{write_illegal, write_legal};
-use nd_cli::{CliFault, Park, ParkOptions, read_input, read_park};
+use nd_cli::{CliFault, Park, ParkOptions};
 use nd_hook::{Fault, Told};
 use nd_ledger::Entry;
 use nd_report::{AuditError, audit};
@@ -26,7 +26,6 @@ const ILLEGAL: u8 = 4;
 /// `Drvs` for the bundle; `TooLarge` or `Builders` for the builders list; `TooLarge` or `Info` for the
 /// info text; `TooLarge` or `History` for the history text. `Write` leaves a part of the line, from its
 /// beginning. `Memory` may come at any point before the line is written.
-#[tactic(auto, using(crate::proofs::Answering::audits))]
 pub fn audit_engine<R: Read, W: Write>(
     rt: &(impl Threads + Sync),
     alloc: Global,
@@ -42,26 +41,23 @@ pub fn audit_engine<R: Read, W: Write>(
     ensures untouched { IfErr result (λ e. is_write_fault e ≡ false → output.new ≡ output.old) }
     ensures partly { IfErr result (λ e. is_write_fault e ≡ true → AnswersAuditInPart options.now history.now (R.remaining input.old.device) (R.remaining input.new.device) (W.contents output.old.device) (W.contents output.new.device)) }
 {
-    let text = match read_input(alloc, input) {
-        Ok(text) => text,
+    let given = match read_audit_inputs(rt, alloc, options, history, input) {
+        Ok(given) => given,
         Err(fault) => return Err(fault),
     };
-    let park = match read_park(rt, alloc, options, text.as_slice()) {
-        Ok(park) => park,
-        Err(fault) => return Err(fault),
-    };
-    let entries = match read_entries(alloc, history) {
-        Ok(entries) => entries,
-        Err(fault) => return Err(fault),
-    };
-    match write_verdict(alloc, &park, options.keep_going, &entries, output) {
+    match write_verdict(
+        alloc,
+        &given.park,
+        options.keep_going,
+        &given.entries,
+        output,
+    ) {
         Ok(status) => Ok(status),
         Err(fault) => Err(fault),
     }
 }
 
 /// Writes whether these entries are a legal history, and answers the status.
-#[tactic(auto, using(crate::proofs::Answering::verdicts))]
 fn write_verdict<W: Write>(
     alloc: Global,
     park: &Park,

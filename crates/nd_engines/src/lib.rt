@@ -5,6 +5,7 @@
 pub mod audit;
 mod history;
 mod opening;
+mod reading;
 mod script;
 pub mod sim;
 mod simulation;

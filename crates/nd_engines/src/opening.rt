@@ -14,7 +14,6 @@ use std::thread::Threads;
 /// The first refusal in this order is answered: `TooLarge` or `Drvs` for the bundle, `TooLarge` or
 /// `Builders` for the builders list, `TooLarge` or `Info` for the info text. `Memory` may come at any
 /// point.
-#[tactic(auto, using(crate::proofs::Answering::opened))]
 pub fn open_dispatch(
     rt: &(impl Threads + Sync),
     alloc: Global,

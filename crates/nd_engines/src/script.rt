@@ -14,7 +14,6 @@ use std::alloc::Global;
 /// The commands of a script for this dispatch.
 ///
 /// `TooLarge`: it has more than [`LIMIT`] bytes. `Script`: it is refused. `Memory`.
-#[tactic(auto, using(crate::proofs::Commanded::scripts))]
 pub fn read_script(
     alloc: Global,
     dispatch: &Dispatch,

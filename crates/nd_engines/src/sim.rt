@@ -7,10 +7,9 @@ ghost use Rattle.nd_sim.specs.Written.{WritesSimulation, WritesSimulationPart};
 ghost use Rattle.nd_sim.specs.declared.fault.SimFault.{SimFault};
 ghost use Rattle.nd_engines.specs.Simulated.{AnswersSim, LeavesSim, IsSimFault, may_have_begun};
 
-use crate::opening::open_dispatch;
-use crate::script::read_script;
+use crate::reading::read_sim_inputs;
 use crate::simulation::simulate;
-use nd_cli::{CliFault, ParkOptions, read_input};
+use nd_cli::{CliFault, ParkOptions};
 use nd_hook::{Fault, Told};
 use nd_ledger::Dispatch;
 use nd_script::Command;
@@ -27,7 +26,6 @@ use std::thread::Threads;
 /// `Drvs` for the bundle; `TooLarge` or `Builders` for the builders list; `TooLarge` or `Info` for the
 /// info text; `TooLarge` or `Script` for the script. `Write` and `Memory` leave the beginning of the
 /// text; `Memory` may come at any point.
-#[tactic(auto, using(crate::proofs::Answering::sims))]
 pub fn sim_engine<R: Read, W: Write>(
     rt: &(impl Threads + Sync),
     alloc: Global,
@@ -43,19 +41,11 @@ pub fn sim_engine<R: Read, W: Write>(
     ensures untouched { IfErr result (λ e. may_have_begun e ≡ false → output.new ≡ output.old) }
     ensures partly { IfErr result (λ e. may_have_begun e ≡ true → LeavesSim options.now script.now (R.remaining input.old.device) (R.remaining input.new.device) (W.contents output.old.device) (W.contents output.new.device)) }
 {
-    let text = match read_input(alloc, input) {
-        Ok(text) => text,
+    let given = match read_sim_inputs(rt, alloc, options, script, input) {
+        Ok(given) => given,
         Err(fault) => return Err(fault),
     };
-    let dispatch = match open_dispatch(rt, alloc, options, text.as_slice()) {
-        Ok(dispatch) => dispatch,
-        Err(fault) => return Err(fault),
-    };
-    let commands = match read_script(alloc, &dispatch, script) {
-        Ok(commands) => commands,
-        Err(fault) => return Err(fault),
-    };
-    match perform(alloc, dispatch, commands, output) {
+    match perform(alloc, given.dispatch, given.commands, output) {
         Ok(status) => Ok(status),
         Err(SimFault::Write) => Err(CliFault::Write),
         Err(SimFault::Memory) => Err(CliFault::Memory),
@@ -63,7 +53,6 @@ pub fn sim_engine<R: Read, W: Write>(
 }
 
 /// Does what these commands say, and has the writer pass on what it holds back.
-#[tactic(auto, using(crate::proofs::Answering::flushes))]
 fn perform<W: Write>(
     alloc: Global,
     mut dispatch: Dispatch,

@@ -22,7 +22,6 @@ use std::io;
 ///
 /// Refuses with `Write` (1), where the device refused a write and is marked, and with `Memory` (2) where
 /// an allocation is refused. The beginning of the text is out then.
-#[tactic(auto, using(nd_sim::proofs::Simulating::wholes))]
 pub fn simulate<W: io::Write>(
     alloc: Global,
     dispatch: &mut Dispatch,

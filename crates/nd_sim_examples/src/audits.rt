@@ -1,14 +1,13 @@
 //! The worked examples of audits: a history, the verdict, and the exit status.
 
 use crate::bundles::{CHAIN, FLIGHT, PLAIN_1, PLAIN_3, PREFER_2};
-use crate::running::{audits, builders};
-use std::test::Fail;
+use crate::running::{builders, says_of};
 
 /// Another builder than the best, another slot than the least free one, and another machine than the preferred.
 #[test]
-fn illegal_choices(rt: HostRuntime) -> Result<(), Fail> {
+fn illegal_choices(rt: HostRuntime) {
     assert!(rt;
-        audits(
+        says_of(
             &rt,
             PLAIN_1,
             &builders("m;n", 0),
@@ -20,7 +19,7 @@ fn illegal_choices(rt: HostRuntime) -> Result<(), Fail> {
         )
     );
     assert!(rt;
-        audits(
+        says_of(
             &rt,
             PLAIN_1,
             &builders("m - - 2", 0),
@@ -32,7 +31,7 @@ fn illegal_choices(rt: HostRuntime) -> Result<(), Fail> {
         )
     );
     assert!(rt;
-        audits(
+        says_of(
             &rt,
             PREFER_2,
             &builders("m", 1),
@@ -43,14 +42,13 @@ fn illegal_choices(rt: HostRuntime) -> Result<(), Fail> {
             4
         )
     );
-    Ok(())
 }
 
 /// A start without a lease, and numbers that are out of range.
 #[test]
-fn illegal_leases(rt: HostRuntime) -> Result<(), Fail> {
+fn illegal_leases(rt: HostRuntime) {
     assert!(rt;
-        audits(
+        says_of(
             &rt,
             PLAIN_1,
             &builders("m;n", 0),
@@ -62,7 +60,7 @@ fn illegal_leases(rt: HostRuntime) -> Result<(), Fail> {
         )
     );
     assert!(rt;
-        audits(
+        says_of(
             &rt,
             PLAIN_1,
             &builders("m;n", 0),
@@ -74,7 +72,7 @@ fn illegal_leases(rt: HostRuntime) -> Result<(), Fail> {
         )
     );
     assert!(rt;
-        audits(
+        says_of(
             &rt,
             PLAIN_1,
             &builders("m;n", 0),
@@ -85,14 +83,13 @@ fn illegal_leases(rt: HostRuntime) -> Result<(), Fail> {
             4
         )
     );
-    Ok(())
 }
 
 /// A second stop, and a choice after it.
 #[test]
-fn illegal_after_a_stop(rt: HostRuntime) -> Result<(), Fail> {
+fn illegal_after_a_stop(rt: HostRuntime) {
     assert!(rt;
-        audits(
+        says_of(
             &rt,
             PLAIN_1,
             &builders("m;n", 0),
@@ -108,7 +105,7 @@ fn illegal_after_a_stop(rt: HostRuntime) -> Result<(), Fail> {
         )
     );
     assert!(rt;
-        audits(
+        says_of(
             &rt,
             PLAIN_1,
             &builders("m;n", 0),
@@ -125,7 +122,7 @@ fn illegal_after_a_stop(rt: HostRuntime) -> Result<(), Fail> {
         )
     );
     assert!(rt;
-        audits(
+        says_of(
             &rt,
             PLAIN_1,
             &builders("m;n", 0),
@@ -141,14 +138,13 @@ fn illegal_after_a_stop(rt: HostRuntime) -> Result<(), Fail> {
             4
         )
     );
-    Ok(())
 }
 
 /// Paths that are missing, an end without a start, and a list that is missing.
 #[test]
-fn illegal_copies_and_references(rt: HostRuntime) -> Result<(), Fail> {
+fn illegal_copies_and_references(rt: HostRuntime) {
     assert!(rt;
-        audits(
+        says_of(
             &rt,
             FLIGHT,
             &builders("m - - 2", 0),
@@ -161,7 +157,7 @@ fn illegal_copies_and_references(rt: HostRuntime) -> Result<(), Fail> {
         )
     );
     assert!(rt;
-        audits(
+        says_of(
             &rt,
             FLIGHT,
             &builders("m - - 2", 0),
@@ -174,7 +170,7 @@ fn illegal_copies_and_references(rt: HostRuntime) -> Result<(), Fail> {
         )
     );
     assert!(rt;
-        audits(
+        says_of(
             &rt,
             FLIGHT,
             &builders("m - - 2", 0),
@@ -187,14 +183,13 @@ fn illegal_copies_and_references(rt: HostRuntime) -> Result<(), Fail> {
             4
         )
     );
-    Ok(())
 }
 
 /// A chain that is built, and a history with drains in the second version.
 #[test]
-fn legal_histories(rt: HostRuntime) -> Result<(), Fail> {
+fn legal_histories(rt: HostRuntime) {
     assert!(rt;
-        audits(
+        says_of(
             &rt,
             CHAIN,
             &builders("m", 0),
@@ -214,7 +209,7 @@ fn legal_histories(rt: HostRuntime) -> Result<(), Fail> {
         )
     );
     assert!(rt;
-        audits(
+        says_of(
             &rt,
             PLAIN_3,
             &builders("m;n", 0),
@@ -237,7 +232,7 @@ fn legal_histories(rt: HostRuntime) -> Result<(), Fail> {
         )
     );
     assert!(rt;
-        audits(
+        says_of(
             &rt,
             PLAIN_1,
             &builders("m", 0),
@@ -246,5 +241,4 @@ fn legal_histories(rt: HostRuntime) -> Result<(), Fail> {
             0
         )
     );
-    Ok(())
 }

@@ -14,3 +14,5 @@ mod refusals;
 mod running;
 #[cfg(test)]
 mod simulations;
+#[cfg(test)]
+mod truncations;

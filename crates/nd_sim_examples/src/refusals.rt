@@ -2,11 +2,10 @@
 
 use crate::bundles::{CHAIN, CYCLE, PLAIN_1, PLAIN_3};
 use crate::running::{Setup, builders, refuses, refuses_history};
-use std::test::Fail;
 
 /// A script is refused for its first bad line.
 #[test]
-fn bad_scripts(rt: HostRuntime) -> Result<(), Fail> {
+fn bad_scripts(rt: HostRuntime) {
     assert!(rt;
         refuses(
             &rt,
@@ -57,12 +56,11 @@ fn bad_scripts(rt: HostRuntime) -> Result<(), Fail> {
             "nix-dispatch: script: BadLine 1"
         )
     );
-    Ok(())
 }
 
 /// The bundle is checked first, then the builders, the info text and the script.
 #[test]
-fn order_of_refusals(rt: HostRuntime) -> Result<(), Fail> {
+fn order_of_refusals(rt: HostRuntime) {
     assert!(rt;
         refuses(
             &rt,
@@ -99,12 +97,11 @@ fn order_of_refusals(rt: HostRuntime) -> Result<(), Fail> {
             "nix-dispatch: info: BadLine 1"
         )
     );
-    Ok(())
 }
 
 /// A history text is refused for its version and then for its first bad line; the park is checked before it.
 #[test]
-fn bad_histories(rt: HostRuntime) -> Result<(), Fail> {
+fn bad_histories(rt: HostRuntime) {
     assert!(rt;
         refuses_history(
             &rt,
@@ -188,5 +185,4 @@ fn bad_histories(rt: HostRuntime) -> Result<(), Fail> {
             "nix-dispatch: info: BadLine 1"
         )
     );
-    Ok(())
 }

@@ -1,5 +1,6 @@
 //! What `sim` and `audit` answer, for the tests beside this file.
 
+use crate::devices::{CountedReader, CountedWriter};
 use nd_bytes::ByteString;
 use nd_cli::{CliFault, ParkOptions};
 use nd_engines::{audit_engine, sim_engine};
@@ -7,17 +8,26 @@ use nd_hook::Told;
 use std::alloc::{AllocError, Global};
 use std::thread::Threads;
 
-/// The options of an example.
+/// What a command of an example is run with.
 #[derive(Clone, Copy, Debug)]
 pub struct Setup<'a> {
+    /// The builders list.
     pub builders: &'a str,
+    /// The number of local jobs.
     pub jobs: u16,
+    /// Whether the rest goes on after a failure.
     pub keep_going: bool,
+    /// The local features.
     pub features: &'a str,
+    /// The info text.
     pub info: &'a str,
+    /// How many reads the input grants before it fails.
+    pub reads: usize,
+    /// How many writes the output grants before it fails.
+    pub writes: usize,
 }
 
-/// These builders and this number of local jobs.
+/// These builders and this number of local jobs, and devices that never fail.
 pub fn builders(builders: &str, jobs: u16) -> Setup<'_> {
     Setup {
         builders,
@@ -25,15 +35,31 @@ pub fn builders(builders: &str, jobs: u16) -> Setup<'_> {
         keep_going: false,
         features: "",
         info: "",
+        reads: usize::MAX,
+        writes: usize::MAX,
     }
 }
 
-/// The options of the program for them.
-pub fn options(alloc: Global, setup: &Setup<'_>) -> Result<ParkOptions, AllocError> {
+/// What a command is to answer.
+#[derive(Clone, Copy)]
+pub enum Want<'a> {
+    /// It writes this, and ends with this status.
+    Written(&'a str, u8),
+    /// It writes nothing, its status is 3, and this is the line of its fault.
+    Refused(&'a str),
+    /// It writes nothing, its status is 5, and its fault is that a read failed.
+    Unread,
+    /// It writes less than this text, from its beginning, its status is 5, and its fault is that a
+    /// write failed.
+    Cut(&'a str),
+}
+
+/// The options of the program.
+fn options(alloc: Global, setup: &Setup<'_>) -> Result<ParkOptions, AllocError> {
     Ok(ParkOptions {
         builders: ByteString::from_slice(alloc, setup.builders.as_bytes())?,
         system: ByteString::from_slice(alloc, b"x86_64-linux")?,
-        extra: ByteString::from_slice(alloc, b"")?,
+        extra: ByteString::new(Vec::new(alloc)),
         features: ByteString::from_slice(alloc, setup.features.as_bytes())?,
         jobs: setup.jobs,
         keep_going: setup.keep_going,
@@ -42,63 +68,102 @@ pub fn options(alloc: Global, setup: &Setup<'_>) -> Result<ParkOptions, AllocErr
     })
 }
 
-/// Whether `sim` writes just this text and ends with this status.
-pub fn says<R: Threads + Sync + AllocGlobal>(
+/// Whether `sim` answers so for a bundle and a script. Want of memory is a no.
+pub fn simulates<R: Threads + Sync>(
     rt: &R,
-    bundle: &str,
+    alloc: Global,
+    bundle: &[u8],
     setup: &Setup<'_>,
     script: &str,
-    expected: &str,
-    status: u8,
+    want: Want<'_>,
 ) -> bool {
-    let alloc = rt.alloc();
     let Ok(options) = options(alloc, setup) else {
         return false;
     };
-    let mut input = Told::new(bundle.as_bytes());
-    let mut output = Told::new(Vec::new(alloc));
-    match sim_engine(
+    let mut input = Told::new(CountedReader::new(bundle, setup.reads));
+    let mut output = Told::new(CountedWriter::new(alloc, setup.writes));
+    let answer = sim_engine(
         rt,
         alloc,
         &options,
         script.as_bytes(),
         &mut input,
         &mut output,
-    ) {
-        Ok(ended) => ended == status && output.into_inner().as_slice() == expected.as_bytes(),
-        Err(_) => false,
-    }
+    );
+    is_answer(alloc, answer, output.into_inner().bytes(), want)
 }
 
-/// Whether `audit` writes just this line and ends with this status.
-pub fn audits<R: Threads + Sync + AllocGlobal>(
+/// Whether `audit` answers so for a bundle and a history text. Want of memory is a no.
+pub fn audits<R: Threads + Sync>(
     rt: &R,
-    bundle: &str,
+    alloc: Global,
+    bundle: &[u8],
     setup: &Setup<'_>,
-    history: &str,
-    expected: &str,
-    status: u8,
+    history: &[u8],
+    want: Want<'_>,
 ) -> bool {
-    let alloc = rt.alloc();
     let Ok(options) = options(alloc, setup) else {
         return false;
     };
-    let mut input = Told::new(bundle.as_bytes());
-    let mut output = Told::new(Vec::new(alloc));
-    match audit_engine(
-        rt,
-        alloc,
-        &options,
-        history.as_bytes(),
-        &mut input,
-        &mut output,
-    ) {
-        Ok(ended) => ended == status && output.into_inner().as_slice() == expected.as_bytes(),
+    let mut input = Told::new(CountedReader::new(bundle, setup.reads));
+    let mut output = Told::new(CountedWriter::new(alloc, setup.writes));
+    let answer = audit_engine(rt, alloc, &options, history, &mut input, &mut output);
+    is_answer(alloc, answer, output.into_inner().bytes(), want)
+}
+
+/// Whether this is the wanted answer, with what was written.
+fn is_answer(
+    alloc: Global,
+    answer: Result<u8, CliFault>,
+    written: &[u8],
+    want: Want<'_>,
+) -> bool {
+    match (answer, want) {
+        (Ok(status), Want::Written(text, wanted)) => status == wanted && written == text.as_bytes(),
+        (Err(fault), Want::Refused(line)) => {
+            written.is_empty() && is_fault(alloc, &fault, 3, line)
+        }
+        (Err(fault), Want::Unread) => {
+            written.is_empty() && is_fault(alloc, &fault, 5, "nix-dispatch: read failed")
+        }
+        (Err(fault), Want::Cut(text)) => {
+            is_front(written, text.as_bytes())
+                && is_fault(alloc, &fault, 5, "nix-dispatch: write failed")
+        }
+        _ => false,
+    }
+}
+
+/// Whether this is less than a text, from its beginning.
+fn is_front(written: &[u8], text: &[u8]) -> bool {
+    written.len() < text.len() && text.starts_with(written)
+}
+
+/// Whether a fault has this status and this line. Want of memory is a no.
+fn is_fault(alloc: Global, fault: &CliFault, status: u8, line: &str) -> bool {
+    if fault.status() != status {
+        return false;
+    }
+    match format!(in alloc; "{fault}") {
+        Ok(said) => said.as_str() == line,
         Err(_) => false,
     }
 }
 
-/// Whether `sim` refuses an input with this line and status 3, and writes nothing.
+/// Whether `sim` writes this text for a script, and ends with this status.
+pub fn says<R: Threads + Sync + AllocGlobal>(
+    rt: &R,
+    bundle: &str,
+    setup: &Setup<'_>,
+    script: &str,
+    text: &str,
+    status: u8,
+) -> bool {
+    let want = Want::Written(text, status);
+    simulates(rt, rt.alloc(), bundle.as_bytes(), setup, script, want)
+}
+
+/// Whether `sim` refuses an input with this line.
 pub fn refuses<R: Threads + Sync + AllocGlobal>(
     rt: &R,
     bundle: &str,
@@ -106,26 +171,24 @@ pub fn refuses<R: Threads + Sync + AllocGlobal>(
     script: &str,
     line: &str,
 ) -> bool {
-    let alloc = rt.alloc();
-    let Ok(options) = options(alloc, setup) else {
-        return false;
-    };
-    let mut input = Told::new(bundle.as_bytes());
-    let mut output = Told::new(Vec::new(alloc));
-    match sim_engine(
-        rt,
-        alloc,
-        &options,
-        script.as_bytes(),
-        &mut input,
-        &mut output,
-    ) {
-        Ok(_) => false,
-        Err(fault) => is_refusal(alloc, &fault, line) && output.into_inner().is_empty(),
-    }
+    let want = Want::Refused(line);
+    simulates(rt, rt.alloc(), bundle.as_bytes(), setup, script, want)
 }
 
-/// Whether `audit` refuses an input with this line and status 3, and writes nothing.
+/// Whether `audit` writes this line for a history text, and ends with this status.
+pub fn says_of<R: Threads + Sync + AllocGlobal>(
+    rt: &R,
+    bundle: &str,
+    setup: &Setup<'_>,
+    history: &str,
+    line: &str,
+    status: u8,
+) -> bool {
+    let want = Want::Written(line, status);
+    audits(rt, rt.alloc(), bundle.as_bytes(), setup, history.as_bytes(), want)
+}
+
+/// Whether `audit` refuses an input with this line.
 pub fn refuses_history<R: Threads + Sync + AllocGlobal>(
     rt: &R,
     bundle: &str,
@@ -133,32 +196,6 @@ pub fn refuses_history<R: Threads + Sync + AllocGlobal>(
     history: &str,
     line: &str,
 ) -> bool {
-    let alloc = rt.alloc();
-    let Ok(options) = options(alloc, setup) else {
-        return false;
-    };
-    let mut input = Told::new(bundle.as_bytes());
-    let mut output = Told::new(Vec::new(alloc));
-    match audit_engine(
-        rt,
-        alloc,
-        &options,
-        history.as_bytes(),
-        &mut input,
-        &mut output,
-    ) {
-        Ok(_) => false,
-        Err(fault) => is_refusal(alloc, &fault, line) && output.into_inner().is_empty(),
-    }
-}
-
-/// Whether the fault has this line and status 3.
-fn is_refusal(alloc: Global, fault: &CliFault, line: &str) -> bool {
-    if fault.status() != 3 {
-        return false;
-    }
-    match format!(in alloc; "{fault}") {
-        Ok(text) => text.as_str() == line,
-        Err(_) => false,
-    }
+    let want = Want::Refused(line);
+    audits(rt, rt.alloc(), bundle.as_bytes(), setup, history.as_bytes(), want)
 }

@@ -4,11 +4,10 @@ use crate::bundles::{
     DIAMOND, FLIGHT, LATER, PLAIN_1, PLAIN_2, PLAIN_3, PREFER_2, SHARED, SOURCE_1, STRUCTURED,
 };
 use crate::running::{Setup, builders, says};
-use std::test::Fail;
 
 /// A builder with its one slot taken: the hook says later where nothing is free, and no where a local slot is.
 #[test]
-fn wait_or_decline(rt: HostRuntime) -> Result<(), Fail> {
+fn wait_or_decline(rt: HostRuntime) {
     assert!(rt;
         says(
             &rt,
@@ -54,12 +53,11 @@ fn wait_or_decline(rt: HostRuntime) -> Result<(), Fail> {
             0
         )
     );
-    Ok(())
 }
 
 /// A derivation that prefers the local machine waits for it; the hook accepts it elsewhere.
 #[test]
-fn prefer_local(rt: HostRuntime) -> Result<(), Fail> {
+fn prefer_local(rt: HostRuntime) {
     assert!(rt;
         says(
             &rt,
@@ -83,12 +81,11 @@ fn prefer_local(rt: HostRuntime) -> Result<(), Fail> {
             0
         )
     );
-    Ok(())
 }
 
 /// Inputs first, on two slots; commands that come too early or twice are refused.
 #[test]
-fn diamond_builds(rt: HostRuntime) -> Result<(), Fail> {
+fn diamond_builds(rt: HostRuntime) {
     assert!(rt;
         says(
             &rt,
@@ -143,12 +140,11 @@ fn diamond_builds(rt: HostRuntime) -> Result<(), Fail> {
             0
         )
     );
-    Ok(())
 }
 
 /// Without keep-going the word that nothing can build one derivation cancels the other.
 #[test]
-fn no_builder_cancels(rt: HostRuntime) -> Result<(), Fail> {
+fn no_builder_cancels(rt: HostRuntime) {
     assert!(rt;
         says(
             &rt,
@@ -170,12 +166,11 @@ fn no_builder_cancels(rt: HostRuntime) -> Result<(), Fail> {
             1
         )
     );
-    Ok(())
 }
 
 /// What doesn't depend on a failure goes on with keep-going, and is cancelled without.
 #[test]
-fn keep_going(rt: HostRuntime) -> Result<(), Fail> {
+fn keep_going(rt: HostRuntime) {
     assert!(rt;
         says(
             &rt,
@@ -264,12 +259,11 @@ fn keep_going(rt: HostRuntime) -> Result<(), Fail> {
             1
         )
     );
-    Ok(())
 }
 
 /// A builder that can't be reached is down; with the last one down nothing can build the derivation.
 #[test]
-fn down_then_none(rt: HostRuntime) -> Result<(), Fail> {
+fn down_then_none(rt: HostRuntime) {
     assert!(rt;
         says(
             &rt,
@@ -297,12 +291,11 @@ fn down_then_none(rt: HostRuntime) -> Result<(), Fail> {
             1
         )
     );
-    Ok(())
 }
 
 /// A lease that is given back after a stop is cancelled. A second stop is refused.
 #[test]
-fn down_after_a_stop(rt: HostRuntime) -> Result<(), Fail> {
+fn down_after_a_stop(rt: HostRuntime) {
     assert!(rt;
         says(
             &rt,
@@ -333,12 +326,11 @@ fn down_after_a_stop(rt: HostRuntime) -> Result<(), Fail> {
             1
         )
     );
-    Ok(())
 }
 
 /// What another lease copies isn't held before it starts.
 #[test]
-fn copies_in_flight(rt: HostRuntime) -> Result<(), Fail> {
+fn copies_in_flight(rt: HostRuntime) {
     assert!(rt;
         says(
             &rt,
@@ -371,12 +363,11 @@ fn copies_in_flight(rt: HostRuntime) -> Result<(), Fail> {
             0
         )
     );
-    Ok(())
 }
 
 /// A reference from outside, a started lease given back, and a second end are refused.
 #[test]
-fn bad_endings(rt: HostRuntime) -> Result<(), Fail> {
+fn bad_endings(rt: HostRuntime) {
     assert!(rt;
         says(
             &rt,
@@ -417,12 +408,11 @@ fn bad_endings(rt: HostRuntime) -> Result<(), Fail> {
             1
         )
     );
-    Ok(())
 }
 
 /// Of two builds of one path the first decides its references.
 #[test]
-fn shared_output(rt: HostRuntime) -> Result<(), Fail> {
+fn shared_output(rt: HostRuntime) {
     assert!(rt;
         says(
             &rt,
@@ -459,12 +449,11 @@ fn shared_output(rt: HostRuntime) -> Result<(), Fail> {
             0
         )
     );
-    Ok(())
 }
 
 /// What the info text lists for a source is copied with it.
 #[test]
-fn info_references(rt: HostRuntime) -> Result<(), Fail> {
+fn info_references(rt: HostRuntime) {
     assert!(rt;
         says(
             &rt,
@@ -492,12 +481,11 @@ fn info_references(rt: HostRuntime) -> Result<(), Fail> {
             0
         )
     );
-    Ok(())
 }
 
 /// An `enable` undoes a `drain` and a `down` alike.
 #[test]
-fn drain_and_enable(rt: HostRuntime) -> Result<(), Fail> {
+fn drain_and_enable(rt: HostRuntime) {
     assert!(rt;
         says(
             &rt,
@@ -540,12 +528,11 @@ fn drain_and_enable(rt: HostRuntime) -> Result<(), Fail> {
             0
         )
     );
-    Ok(())
 }
 
 /// With the local machine drained nothing can build the second derivation; the first one's lease goes on.
 #[test]
-fn drained_local(rt: HostRuntime) -> Result<(), Fail> {
+fn drained_local(rt: HostRuntime) {
     assert!(rt;
         says(
             &rt,
@@ -568,12 +555,11 @@ fn drained_local(rt: HostRuntime) -> Result<(), Fail> {
             1
         )
     );
-    Ok(())
 }
 
 /// A bundle of no bytes is an empty graph; inputs may stand on later lines.
 #[test]
-fn bundle_faults(rt: HostRuntime) -> Result<(), Fail> {
+fn bundle_faults(rt: HostRuntime) {
     assert!(rt;
         says(
             &rt,
@@ -613,12 +599,11 @@ fn bundle_faults(rt: HostRuntime) -> Result<(), Fail> {
             0
         )
     );
-    Ok(())
 }
 
 /// The preference and the features of structured attributes.
 #[test]
-fn structured_attributes(rt: HostRuntime) -> Result<(), Fail> {
+fn structured_attributes(rt: HostRuntime) {
     assert!(rt;
         says(
             &rt,
@@ -642,5 +627,4 @@ fn structured_attributes(rt: HostRuntime) -> Result<(), Fail> {
             0
         )
     );
-    Ok(())
 }

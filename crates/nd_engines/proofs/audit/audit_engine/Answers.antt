@@ -1,0 +1,28 @@
+use Rattle.std.proofs.Common.{refl}
+use Rattle.nd_engines.specs.Opened.{inputs_of}
+use Rattle.nd_engines.proofs.Answering.{audit_answered, audit_begun, verdict_fault}
+use Rattle.nd_engines.proofs.audit.audit_engine.Goals as goal
+
+pub returns-in-Err-clause-fault : goal.returns-in-Err-clause-fault
+returns-in-Err-clause-fault g c = c.in-Err.ensures.fault c.args.output.now.is_marked
+
+pub returns-in-Ok-write_verdict-clause-answer : goal.returns-in-Ok-write_verdict-clause-answer
+returns-in-Ok-write_verdict-clause-answer g c =
+    let park = c.in-Ok.given.park in
+    audit_answered c.args.options.now c.args.history.now c.in-Ok-write_verdict.status (g.R.Read.remaining c.args.input.now.device) (g.R.Read.remaining c.read_audit_inputs.new.input.device)
+    (g.W.Write.contents c.args.output.now.device) (g.W.Write.contents c.write_verdict.new.output.device)
+    (inputs_of c.args.options.now park.graph park.machines.items park.local park.info.entries) c.in-Ok.given.entries.items
+    c.in-Ok.ensures.read c.in-Ok.ensures.entries c.in-Ok-write_verdict.ensures.written
+
+pub returns-in-Err-write_verdict-clause-fault : goal.returns-in-Err-write_verdict-clause-fault
+returns-in-Err-write_verdict-clause-fault g c =
+    verdict_fault c.args.options.now c.args.history.now (g.R.Read.remaining c.args.input.now.device) (g.R.Read.remaining c.read_audit_inputs.new.input.device)
+    c.read_audit_inputs.new.input.is_marked c.write_verdict.new.output.is_marked c.in-Err-write_verdict.fault c.in-Err-write_verdict.ensures.fault
+
+pub returns-in-Err-write_verdict-clause-partly : goal.returns-in-Err-write_verdict-clause-partly
+returns-in-Err-write_verdict-clause-partly g c = λ write_failed.
+    let park = c.in-Ok.given.park in
+    audit_begun c.args.options.now c.args.history.now (g.R.Read.remaining c.args.input.now.device) (g.R.Read.remaining c.read_audit_inputs.new.input.device)
+    (g.W.Write.contents c.args.output.now.device) (g.W.Write.contents c.write_verdict.new.output.device)
+    (inputs_of c.args.options.now park.graph park.machines.items park.local park.info.entries) c.in-Ok.given.entries.items
+    c.in-Ok.ensures.read c.in-Ok.ensures.entries (c.in-Err-write_verdict.ensures.partly write_failed)

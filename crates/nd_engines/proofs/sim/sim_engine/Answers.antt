@@ -1,0 +1,30 @@
+use Rattle.std.proofs.Common.{inl, refl}
+use Rattle.nd_engines.proofs.Answering.{sim_answered, sim_begun}
+use Rattle.nd_engines.proofs.sim.sim_engine.Goals as goal
+
+pub returns-in-Err-clause-fault : goal.returns-in-Err-clause-fault
+returns-in-Err-clause-fault g c = c.in-Err.ensures.fault c.args.output.now.is_marked
+
+pub returns-in-Err-clause-untouched : goal.returns-in-Err-clause-untouched
+returns-in-Err-clause-untouched g c = λ not_begun. refl
+
+pub returns-in-Err-clause-partly : goal.returns-in-Err-clause-partly
+returns-in-Err-clause-partly g c = λ begun. inl refl
+
+pub returns-in-Ok-perform-clause-answer : goal.returns-in-Ok-perform-clause-answer
+returns-in-Ok-perform-clause-answer g c =
+    sim_answered c.args.options.now c.args.script.now c.in-Ok-perform.status (g.R.Read.remaining c.args.input.now.device) (g.R.Read.remaining c.read_sim_inputs.new.input.device)
+    (g.W.Write.contents c.args.output.now.device) (g.W.Write.contents c.perform.new.output.device) c.in-Ok.given.dispatch c.in-Ok.given.commands.items
+    c.in-Ok.ensures.read c.in-Ok-perform.ensures.written
+
+pub returns-in-Err-Write-clause-partly : goal.returns-in-Err-Write-clause-partly
+returns-in-Err-Write-clause-partly g c = λ begun.
+    sim_begun c.args.options.now c.args.script.now (g.R.Read.remaining c.args.input.now.device) (g.R.Read.remaining c.read_sim_inputs.new.input.device)
+    (g.W.Write.contents c.args.output.now.device) (g.W.Write.contents c.perform.new.output.device) c.in-Ok.given.dispatch c.in-Ok.given.commands.items
+    c.in-Ok.ensures.read c.in-Err-Write.ensures.partly
+
+pub returns-in-Err-Memory-clause-partly : goal.returns-in-Err-Memory-clause-partly
+returns-in-Err-Memory-clause-partly g c = λ begun.
+    sim_begun c.args.options.now c.args.script.now (g.R.Read.remaining c.args.input.now.device) (g.R.Read.remaining c.read_sim_inputs.new.input.device)
+    (g.W.Write.contents c.args.output.now.device) (g.W.Write.contents c.perform.new.output.device) c.in-Ok.given.dispatch c.in-Ok.given.commands.items
+    c.in-Ok.ensures.read c.in-Err-Memory.ensures.partly
