@@ -1,5 +1,5 @@
 -- What the parts of an engine make together.
-use Rattle.std.proofs.Common.{◌≡◌, ℕ, Bool, List, [], length, reverse, Option, refl, sym, subst, append-nil, arith, inl, inr}
+use Rattle.std.proofs.Common.{◌≡◌, ◌||◌, ℕ, Bool, true, false, List, [], length, reverse, Option, Result, Ok, Err, IfOk, IfErr, OnErr, refl, sym, ap, subst, ◌∙◌, append-nil, arith, inl, inr}
 use Rattle.std.specs.Io.KnownBytes.{Appends, Keeps}
 use Rattle.std.proofs.KnownBytes.{Appends-kept}
 use Rattle.nd_machines.specs.Builders.{Builder}
@@ -20,6 +20,7 @@ use Rattle.nd_cli.specs.declared.options.ParkOptions.{ParkOptions}
 use Rattle.nd_cli.specs.declared.fault.CliFault.{CliFault}
 use Rattle.nd_cli.specs.declared.fault.CliFault.TheVariants.{Derivation, Drvs, Builders, Info, Script, Stand, History, TooLarge, TooManySlots, Read, Write, Memory, Thread, Receipts}
 use Rattle.nd_history.specs.Standing.{drvs_in}
+use Rattle.nd_sim.specs.declared.fault.SimFault.{SimFault}
 use Rattle.nd_sim.specs.RunParts.{IsSimulationPart}
 use Rattle.nd_sim.specs.Written.{WritesSimulation, WritesSimulationPart}
 use Rattle.nd_engines.specs.Opened.{inputs_of, HasInputs, IsOpened, ReadsInputs}
@@ -49,7 +50,7 @@ kept_as_part before between written text whole keeps = record {
   written = Appends-kept before between written text whole keeps;
 }
 
-pub simulation_kept : (i : Premises) (commands : List Command) (status : ℕ) (before between written : Option (List ℕ)) → WritesSimulation i commands status before between → Keeps between written
+simulation_kept : (i : Premises) (commands : List Command) (status : ℕ) (before between written : Option (List ℕ)) → WritesSimulation i commands status before between → Keeps between written
     → WritesSimulation i commands status before written
 simulation_kept i commands status before between written whole keeps = record {
   text = whole.text;
@@ -57,7 +58,7 @@ simulation_kept i commands status before between written whole keeps = record {
   appended = Appends-kept before between written whole.text whole.appended keeps;
 }
 
-pub simulation_part_kept : (i : Premises) (commands : List Command) (before between written : Option (List ℕ)) → WritesSimulationPart i commands before between → Keeps between written
+simulation_part_kept : (i : Premises) (commands : List Command) (before between written : Option (List ℕ)) → WritesSimulationPart i commands before between → Keeps between written
     → WritesSimulationPart i commands before written
 simulation_part_kept i commands before between written some keeps = record {
   text = some.text;
@@ -66,7 +67,7 @@ simulation_part_kept i commands before between written some keeps = record {
 }
 
 -- all of it is out, if only as a part
-pub simulation_whole_kept : (i : Premises) (commands : List Command) (status : ℕ) (before between written : Option (List ℕ)) → WritesSimulation i commands status before between → Keeps between written
+simulation_whole_kept : (i : Premises) (commands : List Command) (status : ℕ) (before between written : Option (List ℕ)) → WritesSimulation i commands status before between → Keeps between written
     → WritesSimulationPart i commands before written
 simulation_whole_kept i commands status before between written whole keeps = record {
   text = whole.text;
@@ -82,6 +83,35 @@ simulation_whole_kept i commands status before between written whole keeps = rec
   });
   part = kept_as_part before between written whole.text whole.appended keeps;
 }
+
+-- what a simulation wrote, once the writer passed on what it holds back
+pub flushed_whole : (answer : Result ℕ SimFault) (i : Premises) (commands : List Command) (before between written : Option (List ℕ)) → IfOk answer (λ status. WritesSimulation i commands status before between)
+    → Keeps between written → IfOk answer (λ status. WritesSimulation i commands status before written)
+flushed_whole (Ok status) i commands before between written whole keeps = simulation_kept i commands status before between written whole keeps
+flushed_whole (Err e) i commands before between written whole keeps = tt
+
+pub flushed_part : (answer : Result ℕ SimFault) (i : Premises) (commands : List Command) (before between written : Option (List ℕ)) → OnErr answer (WritesSimulationPart i commands before between)
+    → Keeps between written → OnErr answer (WritesSimulationPart i commands before written)
+flushed_part (Ok status) i commands before between written some keeps = tt
+flushed_part (Err e) i commands before between written some keeps = simulation_part_kept i commands before between written some keeps
+
+pub flushed_mark : (answer : Result ℕ SimFault) (between marked : Bool) → IfErr answer (λ e. e ≡ SimFault.Write → between ≡ true) → marked ≡ (between || false)
+    → IfErr answer (λ e. e ≡ SimFault.Write → marked ≡ true)
+flushed_mark (Ok status) between marked mark same = tt
+flushed_mark (Err e) between marked mark same = λ is. same ∙ ap (λ (b : Bool). b || false) (mark is)
+
+-- .. and where it refused
+pub unflushed_part : (answer : Result ℕ SimFault) (i : Premises) (commands : List Command) (before between written : Option (List ℕ)) → IfOk answer (λ status. WritesSimulation i commands status before between)
+    → OnErr answer (WritesSimulationPart i commands before between) → Keeps between written → WritesSimulationPart i commands before written
+unflushed_part (Ok status) i commands before between written whole some keeps = simulation_whole_kept i commands status before between written whole keeps
+unflushed_part (Err e) i commands before between written whole some keeps = simulation_part_kept i commands before between written some keeps
+
+or_true : (b : Bool) → (b || true) ≡ true
+or_true true = refl
+or_true false = refl
+
+pub unflushed_mark : (between marked : Bool) → marked ≡ (between || true) → marked ≡ true
+unflushed_mark between marked same = same ∙ or_true between
 
 pub ruleset flushes = (kept_whole, kept_part, kept_as_part)
 

@@ -10,7 +10,7 @@ ghost use Rattle.nd_engines.specs.Simulated.{AnswersSim, LeavesSim, IsSimFault, 
 use crate::reading::read_sim_inputs;
 use crate::simulation::simulate;
 use nd_cli::{CliFault, ParkOptions};
-use nd_hook::{Fault, Told};
+use nd_hook::Told;
 use nd_ledger::Dispatch;
 use nd_script::Command;
 use nd_sim::SimFault;
@@ -52,7 +52,7 @@ pub fn sim_engine<R: Read, W: Write>(
     }
 }
 
-/// Does what these commands say, and has the writer pass on what it holds back.
+/// Does what these commands say on a dispatch, which ends here.
 fn perform<W: Write>(
     alloc: Global,
     mut dispatch: Dispatch,
@@ -65,15 +65,10 @@ fn perform<W: Write>(
     ensures partly { OnErr result (WritesSimulationPart dispatch.inputs commands.items (W.contents output.old.device) (W.contents output.new.device)) }
     ensures mark { IfErr result (λ e. e ≡ SimFault.Write → output.new.is_marked ≡ true) }
 {
-    match simulate(alloc, &mut dispatch, commands, output) {
-        Ok(status) => match output.flush() {
-            Ok(()) => Ok(status),
-            Err(Fault) => Err(SimFault::Write),
-        },
-        Err(SimFault::Memory) => match output.flush() {
-            Ok(()) => Err(SimFault::Memory),
-            Err(Fault) => Err(SimFault::Write),
-        },
-        Err(SimFault::Write) => Err(SimFault::Write),
-    }
+    let answer = simulate(alloc, &mut dispatch, commands, output);
+    close(dispatch);
+    answer
 }
+
+/// Ends a dispatch.
+fn close(_dispatch: Dispatch) {}

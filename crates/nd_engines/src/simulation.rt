@@ -7,7 +7,7 @@ ghost use Rattle.nd_sim.specs.Answers.{IsNamed};
 ghost use Rattle.nd_sim.specs.Runs.{IsExitStatus};
 ghost use Rattle.nd_sim.specs.Written.{WritesSimulation, WritesSimulationPart};
 
-use nd_hook::{Told, WriteError};
+use nd_hook::{Fault, Told, WriteError};
 use nd_ledger::Dispatch;
 use nd_report::write_report;
 use nd_script::Command;
@@ -16,13 +16,34 @@ use std::alloc::Global;
 use std::io;
 
 /// Pumps, and then for each command does what it asks for and pumps again; then writes the report of
-/// how the dispatch stands. Each entry's line is written as it is made, a refused command as `refused`
+/// how the dispatch stands, and has the writer pass on what it holds back. Each entry's line is written as it is made, a refused command as `refused`
 /// and the refusal's name, and a reply as the hook gives it. The answer is the exit status: 1 where a
 /// derivation failed or was cancelled, and else 0.
 ///
 /// Refuses with `Write` (1), where the device refused a write and is marked, and with `Memory` (2) where
 /// an allocation is refused. The beginning of the text is out then.
 pub fn simulate<W: io::Write>(
+    alloc: Global,
+    dispatch: &mut Dispatch,
+    commands: Vec<Command>,
+    out: &mut Told<W>,
+) -> Result<u8, SimFault>
+    requires begun { dispatch.old.history ≡ [] }
+    requires named { All (IsNamed dispatch.old.inputs) commands.items }
+    ensures inputs { dispatch.new.inputs ≡ dispatch.old.inputs }
+    ensures written { IfOk result (λ status. WritesSimulation dispatch.old.inputs commands.items status (W.contents out.old.device) (W.contents out.new.device)) }
+    ensures partly { OnErr result (WritesSimulationPart dispatch.old.inputs commands.items (W.contents out.old.device) (W.contents out.new.device)) }
+    ensures mark { IfErr result (λ e. e ≡ SimFault.Write → out.new.is_marked ≡ true) }
+{
+    let answer = play(alloc, dispatch, commands, out);
+    match out.flush() {
+        Ok(()) => answer,
+        Err(Fault) => Err(SimFault::Write),
+    }
+}
+
+/// The same without a flush.
+fn play<W: io::Write>(
     alloc: Global,
     dispatch: &mut Dispatch,
     commands: Vec<Command>,

@@ -1,15 +1,26 @@
-use Rattle.std.proofs.Common.{reverse}
-use Rattle.nd_sim.proofs.Simulating.{ends, ends_cut}
+use Rattle.nd_engines.proofs.Answering.{flushed_whole, flushed_part, flushed_mark, unflushed_part, unflushed_mark}
 use Rattle.nd_engines.proofs.simulation.simulate.Goals as goal
 
-pub returns-in-Ok-write_report-clause-written : goal.returns-in-Ok-write_report-clause-written
-returns-in-Ok-write_report-clause-written g c =
-    ends c.args.dispatch.now.inputs c.take_turns.new.dispatch.inputs c.args.commands.items c.take_turns.new.dispatch.history c.exit_status.result
-    (g.W.Write.contents c.args.out.now.device) (g.W.Write.contents c.take_turns.new.out.device) (g.W.Write.contents c.write_report.new.out.device)
-    c.in-Ok.ensures.written c.take_turns.ensures.inputs c.in-Ok-write_report.ensures.written c.exit_status.ensures
+pub returns-in-Ok-clause-written : goal.returns-in-Ok-clause-written
+returns-in-Ok-clause-written g c =
+    flushed_whole c.play-answer.result c.args.dispatch.now.inputs c.args.commands.items (g.W.Write.contents c.args.out.now.device)
+    (g.W.Write.contents c.play-answer.new.out.device) (g.W.Write.contents c.flush.new.self.device) c.play-answer.ensures.written c.flush.ensures.kept
 
-pub returns-in-Err-Write-clause-partly : goal.returns-in-Err-Write-clause-partly
-returns-in-Err-Write-clause-partly g c =
-    ends_cut c.args.dispatch.now.inputs c.take_turns.new.dispatch.inputs c.args.commands.items c.take_turns.new.dispatch.history
-    (g.W.Write.contents c.args.out.now.device) (g.W.Write.contents c.take_turns.new.out.device) (g.W.Write.contents c.write_report.new.out.device)
-    c.in-Ok.ensures.written c.take_turns.ensures.inputs c.in-Err-Write.ensures.partly
+pub returns-in-Ok-clause-partly : goal.returns-in-Ok-clause-partly
+returns-in-Ok-clause-partly g c =
+    flushed_part c.play-answer.result c.args.dispatch.now.inputs c.args.commands.items (g.W.Write.contents c.args.out.now.device)
+    (g.W.Write.contents c.play-answer.new.out.device) (g.W.Write.contents c.flush.new.self.device) c.play-answer.ensures.partly c.flush.ensures.kept
+
+pub returns-in-Ok-clause-mark : goal.returns-in-Ok-clause-mark
+returns-in-Ok-clause-mark g c =
+    flushed_mark c.play-answer.result c.play-answer.new.out.is_marked c.flush.new.self.is_marked c.play-answer.ensures.mark c.in-Ok.ensures.mark
+
+pub returns-in-Err-clause-partly : goal.returns-in-Err-clause-partly
+returns-in-Err-clause-partly g c =
+    unflushed_part c.play-answer.result c.args.dispatch.now.inputs c.args.commands.items (g.W.Write.contents c.args.out.now.device)
+    (g.W.Write.contents c.play-answer.new.out.device) (g.W.Write.contents c.flush.new.self.device) c.play-answer.ensures.written
+    c.play-answer.ensures.partly c.flush.ensures.kept
+
+pub returns-in-Err-clause-mark : goal.returns-in-Err-clause-mark
+returns-in-Err-clause-mark g c = λ is.
+    unflushed_mark c.play-answer.new.out.is_marked c.flush.new.self.is_marked c.in-Err.ensures.mark
