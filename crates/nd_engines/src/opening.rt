@@ -1,4 +1,4 @@
-//! The dispatch over what a command was given.
+//! The dispatch over what a command was given, from its making to its end.
 
 ghost use Rattle.std.specs.Prelude.{IfOk, IfErr};
 ghost use Rattle.nd_cli.specs.Parks.{IsParkFault};
@@ -39,3 +39,6 @@ pub fn open_dispatch(
         Err(_parts) => Err(CliFault::Memory),
     }
 }
+
+/// Ends a dispatch.
+pub fn close_dispatch(_dispatch: Dispatch) {}

@@ -8,7 +8,7 @@ ghost use Rattle.nd_engines.specs.Simulated.{IsSimGiven, IsSimFault};
 ghost use Rattle.nd_engines.specs.Audited.{HasHistory, IsAuditFault};
 
 use crate::history::read_entries;
-use crate::opening::open_dispatch;
+use crate::opening::{close_dispatch, open_dispatch};
 use crate::script::read_script;
 use nd_cli::{CliFault, Park, ParkOptions, read_input, read_park};
 use nd_hook::Told;
@@ -19,7 +19,6 @@ use std::io::Read;
 use std::thread::Threads;
 
 /// What `sim` is given, once all of it is accepted.
-#[derive(Drop)]
 pub struct SimInputs {
     /// The derivations and the park, on which nothing is begun yet.
     pub dispatch: Dispatch,
@@ -61,11 +60,13 @@ pub fn read_sim_inputs<R: Read>(
         Ok(dispatch) => dispatch,
         Err(fault) => return Err(fault),
     };
-    let commands = match read_script(alloc, &dispatch, script) {
-        Ok(commands) => commands,
-        Err(fault) => return Err(fault),
-    };
-    Ok(SimInputs { dispatch, commands })
+    match read_script(alloc, &dispatch, script) {
+        Ok(commands) => Ok(SimInputs { dispatch, commands }),
+        Err(fault) => {
+            close_dispatch(dispatch);
+            Err(fault)
+        }
+    }
 }
 
 /// Reads the bundle on the input, what the options name, and the history text. There are at most 1,024

@@ -7,12 +7,11 @@ ghost use Rattle.nd_sim.specs.Written.{WritesSimulation, WritesSimulationPart};
 ghost use Rattle.nd_sim.specs.declared.fault.SimFault.{SimFault};
 ghost use Rattle.nd_engines.specs.Simulated.{AnswersSim, LeavesSim, IsSimFault, may_have_begun};
 
-use crate::reading::read_sim_inputs;
+use crate::opening::close_dispatch;
+use crate::reading::{SimInputs, read_sim_inputs};
 use crate::simulation::simulate;
 use nd_cli::{CliFault, ParkOptions};
 use nd_hook::Told;
-use nd_ledger::Dispatch;
-use nd_script::Command;
 use nd_sim::SimFault;
 use std::alloc::Global;
 use std::io::{Read, Write};
@@ -45,30 +44,30 @@ pub fn sim_engine<R: Read, W: Write>(
         Ok(given) => given,
         Err(fault) => return Err(fault),
     };
-    match perform(alloc, given.dispatch, given.commands, output) {
+    match perform(alloc, given, output) {
         Ok(status) => Ok(status),
         Err(SimFault::Write) => Err(CliFault::Write),
         Err(SimFault::Memory) => Err(CliFault::Memory),
     }
 }
 
-/// Does what these commands say on a dispatch, which ends here.
+/// Does what the commands say on the dispatch, which ends here.
 fn perform<W: Write>(
     alloc: Global,
-    mut dispatch: Dispatch,
-    commands: Vec<Command>,
+    given: SimInputs,
     output: &mut Told<W>,
 ) -> Result<u8, SimFault>
-    requires begun { dispatch.history ≡ [] }
-    requires named { All (IsNamed dispatch.inputs) commands.items }
-    ensures written { IfOk result (λ status. WritesSimulation dispatch.inputs commands.items status (W.contents output.old.device) (W.contents output.new.device)) }
-    ensures partly { OnErr result (WritesSimulationPart dispatch.inputs commands.items (W.contents output.old.device) (W.contents output.new.device)) }
+    requires begun { given.dispatch.history ≡ [] }
+    requires named { All (IsNamed given.dispatch.inputs) given.commands.items }
+    ensures written { IfOk result (λ status. WritesSimulation given.dispatch.inputs given.commands.items status (W.contents output.old.device) (W.contents output.new.device)) }
+    ensures partly { OnErr result (WritesSimulationPart given.dispatch.inputs given.commands.items (W.contents output.old.device) (W.contents output.new.device)) }
     ensures mark { IfErr result (λ e. e ≡ SimFault.Write → output.new.is_marked ≡ true) }
 {
+    let SimInputs {
+        mut dispatch,
+        commands,
+    } = given;
     let answer = simulate(alloc, &mut dispatch, commands, output);
-    close(dispatch);
+    close_dispatch(dispatch);
     answer
 }
-
-/// Ends a dispatch.
-fn close(_dispatch: Dispatch) {}
