@@ -1,5 +1,5 @@
 -- What the parts of an engine make together.
-use Rattle.std.proofs.Common.{◌≡◌, ◌||◌, ℕ, Bool, true, false, List, [], length, reverse, Option, Result, Ok, Err, IfOk, IfErr, OnErr, refl, sym, ap, subst, ◌∙◌, append-nil, arith, inl, inr}
+use Rattle.std.proofs.Common.{◌≡◌, ◌||◌, ℕ, Bool, true, false, List, [], length, reverse, Option, Result, Ok, Err, IfOk, IfErr, OnOk, OnErr, refl, sym, ap, subst, ◌∙◌, append-nil, arith, inl, inr}
 use Rattle.std.specs.Io.KnownBytes.{Appends, Keeps}
 use Rattle.std.proofs.KnownBytes.{Appends-kept}
 use Rattle.nd_machines.specs.Builders.{Builder}
@@ -14,7 +14,7 @@ use Rattle.nd_history.specs.Legal.{IsLegal}
 use Rattle.nd_ledger.specs.Worlds.{World}
 use Rattle.nd_report.specs.Audits.{IsFirstIllegal}
 use Rattle.nd_script.specs.declared.command.Command.{Command}
-use Rattle.nd_cli.specs.Inputs.{ReadsWhole, IsReadFault}
+use Rattle.nd_cli.specs.Inputs.{ReadsWhole, IsReadFault, is_write_fault}
 use Rattle.nd_cli.specs.Parks.{HasPark, IsParkFault, local_of}
 use Rattle.nd_cli.specs.declared.options.ParkOptions.{ParkOptions}
 use Rattle.nd_cli.specs.declared.fault.CliFault.{CliFault}
@@ -231,39 +231,57 @@ script_fault options script unread left reader_marked writer_marked text dispatc
 
 -- ---- an audit
 
-pub says_legal : (i : Premises) (entries : List Entry) (before written : Option (List ℕ)) → IsLegal i (reverse entries) → Appends before written (legal_line (length entries))
-    → WritesVerdict i entries 0 before written
-says_legal i entries before written legal appended = record {
-  text = legal_line (length entries);
-  says = inl (record { legal = legal; status_is = refl; is = refl });
+-- what was said of a legal history
+pub said_legal : (answer : Result ℕ CliFault) (i : Premises) (entries : List Entry) (count : ℕ) (before written : Option (List ℕ)) → count ≡ length entries → IsLegal i (reverse entries)
+    → IfOk answer (λ status. status ≡ 0) → OnOk answer (Appends before written (legal_line count)) → IfOk answer (λ status. WritesVerdict i entries status before written)
+said_legal (Ok status) i entries count before written all legal is_status appended = record {
+  text = legal_line count;
+  says = inl (record { legal = legal; status_is = is_status; is = ap legal_line all });
   appended = appended;
 }
+said_legal (Err e) i entries count before written all legal is_status appended = tt
 
-pub says_legal_part : (i : Premises) (entries : List Entry) (before written : Option (List ℕ)) → IsLegal i (reverse entries) → WritesPart before written (legal_line (length entries))
-    → WritesVerdictPart i entries before written
-says_legal_part i entries before written legal part = record {
+pub said_legal_part : (answer : Result ℕ CliFault) (i : Premises) (entries : List Entry) (count : ℕ) (before written : Option (List ℕ)) → count ≡ length entries → IsLegal i (reverse entries)
+    → OnErr answer (WritesPart before written (legal_line count)) → IfErr answer (λ e. is_write_fault e ≡ true → WritesVerdictPart i entries before written)
+said_legal_part (Ok status) i entries count before written all legal part = tt
+said_legal_part (Err e) i entries count before written all legal part = λ is_write. record {
   status = 0;
-  text = legal_line (length entries);
-  says = inl (record { legal = legal; status_is = refl; is = refl });
+  text = legal_line count;
+  says = inl (record { legal = legal; status_is = refl; is = ap legal_line all });
   part = part;
 }
 
-pub says_illegal : (i : Premises) (entries : List Entry) (index : ℕ) (rule : Rule) (before written : Option (List ℕ)) → IsFirstIllegal i entries index rule → Appends before written (illegal_line index rule)
-    → WritesVerdict i entries 4 before written
-says_illegal i entries index rule before written illegal appended = record {
+-- .. and of one that isn't
+pub said_illegal : (answer : Result ℕ CliFault) (i : Premises) (entries : List Entry) (index : ℕ) (rule : Rule) (before written : Option (List ℕ)) → IsFirstIllegal i entries index rule
+    → IfOk answer (λ status. status ≡ 4) → OnOk answer (Appends before written (illegal_line index rule)) → IfOk answer (λ status. WritesVerdict i entries status before written)
+said_illegal (Ok status) i entries index rule before written illegal is_status appended = record {
   text = illegal_line index rule;
-  says = inr (record { index = index; rule = rule; illegal = illegal; status_is = refl; is = refl });
+  says = inr (record { index = index; rule = rule; illegal = illegal; status_is = is_status; is = refl });
   appended = appended;
 }
+said_illegal (Err e) i entries index rule before written illegal is_status appended = tt
 
-pub says_illegal_part : (i : Premises) (entries : List Entry) (index : ℕ) (rule : Rule) (before written : Option (List ℕ)) → IsFirstIllegal i entries index rule
-    → WritesPart before written (illegal_line index rule) → WritesVerdictPart i entries before written
-says_illegal_part i entries index rule before written illegal part = record {
+pub said_illegal_part : (answer : Result ℕ CliFault) (i : Premises) (entries : List Entry) (index : ℕ) (rule : Rule) (before written : Option (List ℕ)) → IsFirstIllegal i entries index rule
+    → OnErr answer (WritesPart before written (illegal_line index rule)) → IfErr answer (λ e. is_write_fault e ≡ true → WritesVerdictPart i entries before written)
+said_illegal_part (Ok status) i entries index rule before written illegal part = tt
+said_illegal_part (Err e) i entries index rule before written illegal part = λ is_write. record {
   status = 4;
   text = illegal_line index rule;
   says = inr (record { index = index; rule = rule; illegal = illegal; status_is = refl; is = refl });
   part = part;
 }
+
+-- why it wasn't said
+pub unsaid_fault : (answer : Result ℕ CliFault) (marked : Bool) → IfErr answer (λ e. e ≡ CliFault.Write) → OnErr answer (marked ≡ true) → IfErr answer (IsVerdictFault marked)
+unsaid_fault (Ok status) marked is mark = tt
+unsaid_fault (Err e) marked is mark = subst (λ (f : CliFault). IsVerdictFault marked f) (sym is) mark
+
+true_or_false : true ≡ false → ⊥
+true_or_false same = cc
+
+pub unsaid_write : (answer : Result ℕ CliFault) (P : Type 0) → IfErr answer (λ e. e ≡ CliFault.Write) → IfErr answer (λ e. is_write_fault e ≡ false → P)
+unsaid_write (Ok status) P is = tt
+unsaid_write (Err e) P is = λ no_write. absurd (true_or_false (subst (λ (f : CliFault). is_write_fault f ≡ false) is no_write))
 
 pub audit_answered : (options : ParkOptions) (history : List ℕ) (status : ℕ) (unread left before written : Option (List ℕ)) (i : Premises) (entries : List Entry) → ReadsInputs options unread left i
     → HasHistory history entries → WritesVerdict i entries status before written → AnswersAudit options history status unread left before written

@@ -1,15 +1,18 @@
 //! The command `audit`.
 
-ghost use Rattle.std.specs.Prelude.{◌≡◌, ◌≤◌, true, false, length, IfOk, IfErr, OnErr};
+ghost use Rattle.std.specs.Prelude.{◌≡◌, ◌≤◌, true, false, length, IfOk, IfErr, OnOk, OnErr};
+ghost use Rattle.std.specs.Io.KnownBytes.{Appends};
+ghost use Rattle.nd_hook.specs.Written.{WritesPart};
+ghost use Rattle.nd_cli.specs.declared.fault.CliFault.{CliFault};
 ghost use Rattle.nd_cli.specs.Inputs.{is_write_fault};
 ghost use Rattle.nd_report.specs.Audits.{premises};
-ghost use Rattle.nd_engines.specs.Audited.{AnswersAudit, AnswersAuditInPart, IsAuditFault, WritesVerdict, WritesVerdictPart, IsVerdictFault};
+ghost use Rattle.nd_engines.specs.Audited.{AnswersAudit, AnswersAuditInPart, IsAuditFault, WritesVerdict, WritesVerdictPart, IsVerdictFault, legal_line, illegal_line};
 
 use crate::reading::read_audit_inputs;
 use crate::verdict::{write_illegal, write_legal};
 use nd_cli::{CliFault, Park, ParkOptions};
 use nd_hook::{Fault, Told};
-use nd_ledger::Entry;
+use nd_ledger::{Entry, Rule};
 use nd_report::{AuditError, audit};
 use std::alloc::Global;
 use std::io::{Read, Write};
@@ -80,14 +83,36 @@ fn write_verdict<W: Write>(
         keep_going,
         entries,
     ) {
-        Ok(()) => match write_legal(entries.len(), output) {
-            Ok(()) => Ok(0),
-            Err(Fault) => Err(CliFault::Write),
-        },
-        Err(AuditError::Illegal { index, rule }) => match write_illegal(index, rule, output) {
-            Ok(()) => Ok(ILLEGAL),
-            Err(Fault) => Err(CliFault::Write),
-        },
+        Ok(()) => say_legal(entries.len(), output),
+        Err(AuditError::Illegal { index, rule }) => say_illegal(index, rule, output),
         Err(AuditError::Memory) => Err(CliFault::Memory),
+    }
+}
+
+/// Writes that a history of so many entries is legal, and answers the status.
+fn say_legal<W: Write>(count: usize, output: &mut Told<W>) -> Result<u8, CliFault>
+    ensures status { IfOk result (λ status. status ≡ 0) }
+    ensures written { OnOk result (Appends (W.contents output.old.device) (W.contents output.new.device) (legal_line count)) }
+    ensures partly { OnErr result (WritesPart (W.contents output.old.device) (W.contents output.new.device) (legal_line count)) }
+    ensures fault { IfErr result (λ e. e ≡ CliFault.Write) }
+    ensures mark { OnErr result (output.new.is_marked ≡ true) }
+{
+    match write_legal(count, output) {
+        Ok(()) => Ok(0),
+        Err(Fault) => Err(CliFault::Write),
+    }
+}
+
+/// Writes which entry is the first that is not allowed, and by which rule, and answers the status.
+fn say_illegal<W: Write>(index: usize, rule: Rule, output: &mut Told<W>) -> Result<u8, CliFault>
+    ensures status { IfOk result (λ status. status ≡ 4) }
+    ensures written { OnOk result (Appends (W.contents output.old.device) (W.contents output.new.device) (illegal_line index rule)) }
+    ensures partly { OnErr result (WritesPart (W.contents output.old.device) (W.contents output.new.device) (illegal_line index rule)) }
+    ensures fault { IfErr result (λ e. e ≡ CliFault.Write) }
+    ensures mark { OnErr result (output.new.is_marked ≡ true) }
+{
+    match write_illegal(index, rule, output) {
+        Ok(()) => Ok(ILLEGAL),
+        Err(Fault) => Err(CliFault::Write),
     }
 }
