@@ -1,5 +1,6 @@
-use Rattle.std.proofs.Common.{refl}
+use Rattle.std.proofs.Common.{sym, subst}
 use Rattle.nd_engines.specs.Opened.{inputs_of}
+use Rattle.nd_engines.specs.Audited.{HasHistory}
 use Rattle.nd_engines.proofs.Answering.{audit_answered, audit_begun, verdict_fault}
 use Rattle.nd_engines.proofs.audit.audit_engine.Goals as goal
 
@@ -11,18 +12,18 @@ returns-in-Ok-write_verdict-clause-answer g c =
     let park = c.in-Ok.given.park in
     audit_answered c.args.options.now c.args.history.now c.in-Ok-write_verdict.status (g.R.Read.remaining c.args.input.now.device) (g.R.Read.remaining c.read_audit_inputs.new.input.device)
     (g.W.Write.contents c.args.output.now.device) (g.W.Write.contents c.write_verdict.new.output.device)
-    (inputs_of c.args.options.now park.graph park.machines.items park.local park.info.entries) c.in-Ok.given.entries.items
-    c.in-Ok.ensures.read c.in-Ok.ensures.entries c.in-Ok-write_verdict.ensures.written
+    (inputs_of c.args.options.now park.graph park.machines.items park.local park.info.entries) c.deref.result.now
+    c.in-Ok.ensures.read (subst (HasHistory c.args.history.now) (sym c.deref.ensures.value) c.in-Ok.ensures.entries) c.in-Ok-write_verdict.ensures.written
 
-pub returns-in-Err-write_verdict-clause-fault : goal.returns-in-Err-write_verdict-clause-fault
-returns-in-Err-write_verdict-clause-fault g c =
+pub returns-clause-fault : goal.returns-clause-fault
+returns-clause-fault g c =
     verdict_fault c.args.options.now c.args.history.now (g.R.Read.remaining c.args.input.now.device) (g.R.Read.remaining c.read_audit_inputs.new.input.device)
     c.read_audit_inputs.new.input.is_marked c.write_verdict.new.output.is_marked c.in-Err-write_verdict.fault c.in-Err-write_verdict.ensures.fault
 
-pub returns-in-Err-write_verdict-clause-partly : goal.returns-in-Err-write_verdict-clause-partly
-returns-in-Err-write_verdict-clause-partly g c = λ write_failed.
+pub returns-clause-partly : goal.returns-clause-partly
+returns-clause-partly g c = λ write_failed.
     let park = c.in-Ok.given.park in
     audit_begun c.args.options.now c.args.history.now (g.R.Read.remaining c.args.input.now.device) (g.R.Read.remaining c.read_audit_inputs.new.input.device)
     (g.W.Write.contents c.args.output.now.device) (g.W.Write.contents c.write_verdict.new.output.device)
-    (inputs_of c.args.options.now park.graph park.machines.items park.local park.info.entries) c.in-Ok.given.entries.items
-    c.in-Ok.ensures.read c.in-Ok.ensures.entries (c.in-Err-write_verdict.ensures.partly write_failed)
+    (inputs_of c.args.options.now park.graph park.machines.items park.local park.info.entries) c.deref.result.now
+    c.in-Ok.ensures.read (subst (HasHistory c.args.history.now) (sym c.deref.ensures.value) c.in-Ok.ensures.entries) (c.in-Err-write_verdict.ensures.partly write_failed)

@@ -1,4 +1,4 @@
-use Rattle.std.proofs.Common.{◌≡◌, ℕ, ◌+◌, List, length, ap, ◌∙◌}
+use Rattle.std.proofs.Common.{◌≡◌, ◌+◌, List, length, ap, ◌∙◌}
 use Rattle.nd_machines.specs.Builders.{Builder}
 use Rattle.nd_graph.specs.Graphs.{Nodes}
 use Rattle.nd_history.specs.Choices.{machines_in}

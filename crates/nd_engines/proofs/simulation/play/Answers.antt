@@ -1,4 +1,3 @@
-use Rattle.std.proofs.Common.{reverse}
 use Rattle.nd_sim.proofs.Simulating.{ends, ends_cut}
 use Rattle.nd_engines.proofs.simulation.play.Goals as goal
 
