@@ -379,3 +379,24 @@ verdict_fault options history unread left reader_marked writer_marked TooManySlo
 verdict_fault options history unread left reader_marked writer_marked Thread fault = absurd fault
 verdict_fault options history unread left reader_marked writer_marked Receipts fault = absurd fault
 verdict_fault options history unread left reader_marked writer_marked Memory fault = tt
+
+false_or_true : false ≡ true → ⊥
+false_or_true same = cc
+
+-- what holds whether or not a writer is marked is no fault of the writer
+pub read_no_write : (options : ParkOptions) (history : List ℕ) (unread left : Option (List ℕ)) (reader_marked : Bool) (e : CliFault)
+    → ((writer_marked : Bool) → IsAuditFault options history unread left reader_marked writer_marked e) → is_write_fault e ≡ true → ⊥
+read_no_write options history unread left reader_marked Write fault is_write = false_or_true (fault false)
+read_no_write options history unread left reader_marked (Derivation e) fault is_write = false_or_true is_write
+read_no_write options history unread left reader_marked (Drvs e) fault is_write = false_or_true is_write
+read_no_write options history unread left reader_marked (Builders e) fault is_write = false_or_true is_write
+read_no_write options history unread left reader_marked (Info e) fault is_write = false_or_true is_write
+read_no_write options history unread left reader_marked (Script e) fault is_write = false_or_true is_write
+read_no_write options history unread left reader_marked (History e) fault is_write = false_or_true is_write
+read_no_write options history unread left reader_marked (TooLarge place) fault is_write = false_or_true is_write
+read_no_write options history unread left reader_marked Read fault is_write = false_or_true is_write
+read_no_write options history unread left reader_marked (Stand e) fault is_write = false_or_true is_write
+read_no_write options history unread left reader_marked TooManySlots fault is_write = false_or_true is_write
+read_no_write options history unread left reader_marked Thread fault is_write = false_or_true is_write
+read_no_write options history unread left reader_marked Receipts fault is_write = false_or_true is_write
+read_no_write options history unread left reader_marked Memory fault is_write = false_or_true is_write

@@ -1,7 +1,7 @@
 use Rattle.std.proofs.Common.{sym, subst}
 use Rattle.nd_engines.specs.Opened.{inputs_of}
 use Rattle.nd_engines.specs.Audited.{HasHistory}
-use Rattle.nd_engines.proofs.Answering.{audit_answered, audit_begun, verdict_fault}
+use Rattle.nd_engines.proofs.Answering.{audit_answered, audit_begun, verdict_fault, read_no_write}
 use Rattle.nd_engines.proofs.audit.audit_engine.Goals as goal
 
 pub returns-in-Err-clause-fault : goal.returns-in-Err-clause-fault
@@ -27,3 +27,8 @@ returns-clause-partly g c = λ write_failed.
     (g.W.Write.contents c.args.output.now.device) (g.W.Write.contents c.write_verdict.new.output.device)
     (inputs_of c.args.options.now park.graph park.machines.items park.local park.info.entries) c.deref.result.now
     c.in-Ok.ensures.read (subst (HasHistory c.args.history.now) (sym c.deref.ensures.value) c.in-Ok.ensures.entries) (c.in-Err-write_verdict.ensures.partly write_failed)
+
+pub returns-in-Err-clause-partly : goal.returns-in-Err-clause-partly
+returns-in-Err-clause-partly g c = λ is_write.
+    absurd (read_no_write c.args.options.now c.args.history.now (g.R.Read.remaining c.args.input.now.device) (g.R.Read.remaining c.read_audit_inputs.new.input.device)
+    c.read_audit_inputs.new.input.is_marked c.in-Err.fault c.in-Err.ensures.fault is_write)
