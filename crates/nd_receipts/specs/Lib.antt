@@ -1,4 +1,6 @@
+pub mod Dealt
 pub mod Made
 pub mod Noted
 pub mod NotesKept
 pub mod Receipts
+pub mod Walks

@@ -3,9 +3,13 @@
 #![tactic(auto)]
 
 pub mod comparing;
+pub mod dealing;
 pub mod notes;
 pub mod receipt;
+pub mod tables;
 
 pub use comparing::{are_as_noted, count_made, has_stop, is_quiet};
+pub use dealing::are_dealt;
 pub use notes::Notes;
 pub use receipt::{Kind, Receipt};
+pub use tables::Tables;

@@ -4,9 +4,7 @@ use nd_closure::Refs;
 use nd_history::Ticket;
 use nd_ledger::Job;
 use nd_path::{PathSet, StorePath};
-use nd_transports::{
-    Ended, Fetch, Outcome, Phase, Rule, StandIn, Transport, serve_build, serve_copy,
-};
+use nd_workers::{Ended, Fetch, Outcome, Phase, Rule, StandIn, Transport, serve_build, serve_copy};
 use std::alloc::Global;
 use std::test::Fail;
 

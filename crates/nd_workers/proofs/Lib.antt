@@ -1,4 +1,7 @@
+pub mod Compared
 pub mod Counts
 pub mod Going
 pub mod Leaving
+pub mod Manned
 pub mod Stints
+pub mod Zips

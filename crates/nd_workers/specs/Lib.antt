@@ -1,3 +1,4 @@
 pub mod Abandoned
 pub mod Ends
+pub mod Runs
 pub mod Served

@@ -3,9 +3,14 @@
 
 pub mod abandoning;
 mod desk;
+mod faults;
 mod hand;
 mod leasing;
+mod manning;
+pub mod run_end;
+pub mod running;
 pub mod seat;
+mod threads;
 mod working;
 
 pub use abandoning::abandon;
@@ -14,4 +19,6 @@ pub use nd_transports::{
     Answer, Call, CallLog, Ended, Fetch, Outcome, Phase, Rule, StandIn, Transport, serve_build,
     serve_copy,
 };
+pub use run_end::{Refused, RunEnd, RunFault, RunRefusal};
+pub use running::run;
 pub use seat::{Seat, Worker};

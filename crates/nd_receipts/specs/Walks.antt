@@ -1,0 +1,48 @@
+-- What is known while the entries of a run are gone through.
+use Rattle.std.specs.Prelude.{◌≡◌, ℕ, suc, ◌+◌, ◌≤◌, List, ◌∷◌, Some, drop, length, replicate, slice_get, slice_set}
+use Rattle.nd_history.specs.declared.entry.Entry.{Entry}
+use Rattle.nd_receipts.specs.declared.receipt.Receipt.{Receipt}
+use Rattle.nd_receipts.specs.declared.receipt.Kind.{Kind}
+use Rattle.nd_receipts.specs.Dealt.{place_of, marks_of, marks_on, HasWorker}
+
+-- for each derivation of the table: the worker on whose place it was leased last
+pub record Knows (places : List (ℕ × ℕ)) (choices : List ℕ) (past : List Entry) : Type 0 where
+  pub each : (d w : ℕ) → slice_get choices d ≡ Some w → slice_get places w ≡ place_of d past
+
+-- one more entry keeps it so
+pub record Follows (places : List (ℕ × ℕ)) (choices after : List ℕ) (e : Entry) : Type 0 where
+  pub each : (past : List Entry) → Knows places choices past → Knows places after (e ∷ past)
+
+-- none of the derivations was leased yet, which the number behind the last worker says
+pub record AreUnknown (workers : ℕ) (choices : List ℕ) : Type 0 where
+  pub drvs : ℕ
+  pub are : choices ≡ replicate drvs workers
+
+-- the next receipt of a worker names this number and kind, and is met
+pub record IsMet (rows : List (List Receipt)) (worker index : ℕ) (kind : Kind) (old new : List ℕ) : Type 0 where
+  pub row : List Receipt
+  pub count : ℕ
+  pub receipt : Receipt
+  pub row_is : slice_get rows worker ≡ Some row
+  pub count_is : slice_get old worker ≡ Some count
+  pub next : slice_get row count ≡ Some receipt
+  pub index_is : receipt.index ≡ index
+  pub kind_is : receipt.kind ≡ kind
+  pub after : new ≡ slice_set old worker (count + 1)
+
+pub record AreAllMet (rows : List (List Receipt)) (met : List ℕ) : Type 0 where
+  pub each : (k n : ℕ) (row : List Receipt) → slice_get rows k ≡ Some row → slice_get met k ≡ Some n → length row ≤ n
+
+-- .. of the first n workers
+pub record AreMetBelow (m : ℕ) (rows : List (List Receipt)) (met : List ℕ) : Type 0 where
+  pub each : (k n : ℕ) (row : List Receipt) → suc k ≤ m → slice_get rows k ≡ Some row → slice_get met k ≡ Some n → length row ≤ n
+
+-- what is left of each worker's receipts is what the entries that are left say, the first of which has number i
+pub record AreLeft (places : List (ℕ × ℕ)) (rows : List (List Receipt)) (met : List ℕ) (i : ℕ) (past es : List Entry) : Type 0 where
+  pub each : (k n : ℕ) (p : ℕ × ℕ) (row : List Receipt) → slice_get places k ≡ Some p → slice_get rows k ≡ Some row → slice_get met k ≡ Some n → marks_of (drop n row) ≡ marks_on p i past es
+
+-- one more entry was gone over
+pub record IsDealt (places : List (ℕ × ℕ)) (rows : List (List Receipt)) (i : ℕ) (e : Entry) (choices after : List ℕ) (met now : List ℕ) : Type 0 where
+  pub follows : Follows places choices after e
+  pub left : (past es : List Entry) → Knows places choices past → AreLeft places rows now (i + 1) (e ∷ past) es → AreLeft places rows met i past (e ∷ es)
+  pub has : (past : List Entry) → Knows places choices past → HasWorker places past e

@@ -1,0 +1,184 @@
+//! Whether the entries that workers made in a run are their receipts, each of one worker and in order.
+
+ghost use Rattle.std.specs.Prelude.{◌≡◌, ◌+◌, ◌^◌, ◌<◌, ℕ, List, [], ◌∷◌, map, true, false, length, replicate, slice_get, slice_set, Some, None, IfSome};
+ghost use Rattle.nd_receipts.specs.Dealt.{made_as, AreApart, AreReceipted};
+ghost use Rattle.nd_receipts.specs.Walks.{Follows, AreUnknown, IsMet, AreAllMet, IsDealt};
+
+use crate::receipt::{Kind, Receipt};
+use crate::tables::Tables;
+use nd_history::{Entry, Why};
+
+/// The derivation and the kind of an entry that a worker makes.
+fn made_as(entry: &Entry) -> Option<(u32, Kind)>
+    ensures { result ≡ made_as entry.now }
+{
+    match entry {
+        Entry::Started { drv, .. } => Some((*drv, Kind::Started)),
+        Entry::Down { drv } => Some((*drv, Kind::Down)),
+        Entry::Built { drv, .. } => Some((*drv, Kind::Built)),
+        Entry::Failed { drv, why } => {
+            if *why == Why::NoWorker {
+                return None;
+            }
+            Some((*drv, Kind::Failed))
+        }
+        Entry::Chosen { .. }
+        | Entry::NoBuilder { .. }
+        | Entry::Stop
+        | Entry::Drain { .. }
+        | Entry::Enable { .. } => None,
+    }
+}
+
+/// The worker on this place.
+fn worker_on(places: &[(u32, u32)], machine: u32, slot: u32) -> Option<usize>
+    ensures { IfSome result (λ worker. slice_get places.now worker ≡ Some (machine, slot)) }
+{
+    for worker in 0..places.len() {
+        let place = places[worker];
+        if machine == place.0 && slot == place.1 {
+            return Some(worker);
+        }
+    }
+    None
+}
+
+/// Puts a number at `place`; past the end nothing is put.
+fn put(numbers: &mut Vec<usize>, place: usize, number: usize)
+    ensures { numbers.new.items ≡ slice_set numbers.old.items place number }
+{
+    if place < numbers.len() {
+        numbers[place] = number;
+    }
+}
+
+/// Follows over one more entry on which worker's place each derivation was leased last. It answers no
+/// where a lease is on the place of none.
+#[tactic(auto, using(crate::proofs::Crossings::walks))]
+fn follow(choices: &mut Vec<usize>, places: &[(u32, u32)], entry: &Entry) -> bool
+    ensures { result ≡ true → Follows places.now choices.old.items choices.new.items entry.now }
+{
+    match entry {
+        Entry::Chosen { drv, machine, slot } => {
+            let Some(worker) = worker_on(places, *machine, *slot) else {
+                return false;
+            };
+            put(choices, *drv as usize, worker);
+            true
+        }
+        Entry::NoBuilder { .. }
+        | Entry::Started { .. }
+        | Entry::Down { .. }
+        | Entry::Built { .. }
+        | Entry::Failed { .. }
+        | Entry::Stop
+        | Entry::Drain { .. }
+        | Entry::Enable { .. } => true,
+    }
+}
+
+/// Whether the next receipt of this worker names the entry with this number and kind, which is then met.
+#[tactic(auto, using(crate::proofs::Crossings::walks))]
+fn meet(
+    met: &mut Vec<usize>,
+    rows: &[Vec<Receipt>],
+    worker: usize,
+    index: usize,
+    kind: Kind,
+) -> bool
+    ensures { result ≡ true → IsMet (map (λ v. v.items) rows.now) worker index kind met.old.items met.new.items }
+{
+    let Some(row) = rows.get(worker) else {
+        return false;
+    };
+    let Some(count) = met.get(worker) else {
+        return false;
+    };
+    let count = *count;
+    let Some(receipt) = row.get(count) else {
+        return false;
+    };
+    if receipt.index != index {
+        return false;
+    }
+    if receipt.kind != kind {
+        return false;
+    }
+    put(met, worker, count + 1);
+    true
+}
+
+/// Goes on over one entry: where a worker makes it, it is the next of that worker's receipts.
+#[tactic(auto, using(crate::proofs::Crossings::walks))]
+fn deal(
+    tables: &mut Tables,
+    places: &[(u32, u32)],
+    rows: &[Vec<Receipt>],
+    index: usize,
+    entry: &Entry,
+) -> bool
+    requires { AreApart places.now }
+    ensures { result ≡ true → IsDealt places.now (map (λ v. v.items) rows.now) index entry.now tables.old.choices.items tables.new.choices.items tables.old.met.items tables.new.met.items }
+{
+    let Tables { choices, met } = tables;
+    if let Some((drv, kind)) = made_as(entry) {
+        let Some(worker) = choices.get(drv as usize) else {
+            return false;
+        };
+        let worker = *worker;
+        let Some(_place) = places.get(worker) else {
+            return false;
+        };
+        if !meet(met, rows, worker, index, kind) {
+            return false;
+        }
+        return follow(choices, places, entry);
+    }
+    follow(choices, places, entry)
+}
+
+/// Whether all receipts were met.
+#[tactic(auto, using(crate::proofs::Crossings::walks))]
+fn are_all_met(met: &[usize], rows: &[Vec<Receipt>]) -> bool
+    ensures { result ≡ true → AreAllMet (map (λ v. v.items) rows.now) met.now }
+{
+    for worker in 0..rows.len() {
+        let (Some(count), Some(row)) = (met.get(worker), rows.get(worker)) else {
+            return false;
+        };
+        if *count < row.len() {
+            return false;
+        }
+    }
+    true
+}
+
+/// Whether the receipts of each worker are the entries, the first of which has the number `opening`, that
+/// the worker of its place made, in their order, and every entry that a worker made is that of a worker.
+#[tactic(auto, using(crate::proofs::Crossings::walks))]
+pub fn are_dealt(
+    new: &[Entry],
+    opening: usize,
+    places: &[(u32, u32)],
+    rows: &[Vec<Receipt>],
+    tables: Tables,
+) -> bool
+    requires room { opening + length new.now < 2 ^ 64 }
+    requires apart { AreApart places.now }
+    requires choices { AreUnknown (length places.now) tables.choices.items }
+    requires met { tables.met.items ≡ replicate (length places.now) 0 }
+    ensures { result ≡ true → AreReceipted places.now opening new.now (map (λ v. v.items) rows.now) }
+{
+    if rows.len() != places.len() {
+        return false;
+    }
+    let mut tables = tables;
+    let mut index = opening;
+    'dealing: for entry in new {
+        if !deal(&mut tables, places, rows, index, entry) {
+            return false;
+        }
+        index += 1;
+    }
+    are_all_met(tables.met.as_slice(), rows)
+}

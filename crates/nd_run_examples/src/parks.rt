@@ -1,0 +1,80 @@
+//! The dispatches of the examples, and their workers.
+
+use crate::bundles::text_of;
+use nd_bytes::ByteString;
+use nd_closure::parse_info;
+use nd_eligible::Local;
+use nd_graph::Graph;
+use nd_graph::plain::read_bundle;
+use nd_ledger::Dispatch;
+use nd_machines::{FeatureSet, Machine, parse_builders};
+use nd_workers::{Rule, Seat, StandIn};
+use std::alloc::Global;
+
+/// The local machine, without jobs.
+fn local(alloc: Global) -> Option<Local> {
+    let system = ByteString::from_slice(alloc, b"x86_64-linux").ok()?;
+    let extra = FeatureSet::new(Vec::new(alloc));
+    let features = FeatureSet::new(Vec::new(alloc));
+    Local::new(system, extra, features, 0)
+}
+
+/// The graph of a bundle with so many nodes.
+fn graph(alloc: Global, nodes: u8, is_chain: bool) -> Option<Graph> {
+    let text = text_of(alloc, nodes, is_chain).ok()?;
+    read_bundle(alloc, text.as_bytes(), false).ok()
+}
+
+/// The builders of a list.
+fn machines(alloc: Global, builders: &str) -> Option<Vec<Machine>> {
+    parse_builders(alloc, builders.as_bytes(), b"x86_64-linux").ok()
+}
+
+/// A dispatch over so many nodes and these builders alone, which doesn't go on after a failure.
+pub fn dispatch(alloc: Global, nodes: u8, is_chain: bool, builders: &str) -> Option<Dispatch> {
+    let graph = graph(alloc, nodes, is_chain)?;
+    let machines = machines(alloc, builders)?;
+    let local = local(alloc)?;
+    let info = parse_info(alloc, b"").ok()?;
+    if machines.len() > 1024 {
+        return None;
+    }
+    Dispatch::new(alloc, graph, machines, local, info, false).ok()
+}
+
+/// A worker with a stand-in that follows this rule and, where there is a fuse, lets so many calls pass.
+pub fn stand_at(
+    alloc: Global,
+    machine: u32,
+    slot: u32,
+    rule: Rule,
+    passes: Option<u32>,
+) -> Option<Seat<StandIn>> {
+    let mut rules = Vec::new(alloc);
+    rules.push(rule).ok()?;
+    let mut transport = StandIn::new(machine, rules);
+    if let Some(passes) = passes {
+        transport.fuse(passes);
+    }
+    Some(Seat {
+        machine,
+        slot,
+        transport,
+    })
+}
+
+/// So many workers on the slots of machine 1.
+pub fn stands(alloc: Global, count: u32) -> Option<Vec<Seat<StandIn>>> {
+    let mut seats = Vec::new(alloc);
+    for slot in 0..count {
+        let transport = StandIn::new(1, Vec::new(alloc));
+        seats
+            .push(Seat {
+                machine: 1,
+                slot,
+                transport,
+            })
+            .ok()?;
+    }
+    Some(seats)
+}

@@ -1,0 +1,50 @@
+-- When a run is refused, and what is known of its end. This project's own choice.
+use Rattle.std.specs.Prelude.{◌≡◌, ℕ, ◌<◌, Bool, true, ◌&&◌, ◌==◌, List, ◌++◌, length, count_by, nat_lt, reverse}
+use Rattle.std.specs.List.{list_all}
+use Rattle.nd_history.specs.declared.entry.Entry.{Entry}
+use Rattle.nd_history.specs.Premises.{Premises}
+use Rattle.nd_history.specs.Choices.{machines_in, jobs_of}
+use Rattle.nd_history.specs.Statuses.{IsFinished}
+use Rattle.nd_ledger.specs.Worlds.{World, GoesOnFrom}
+use Rattle.nd_transports.specs.declared.kinds.Call.{Call}
+use Rattle.nd_receipts.specs.declared.receipt.Receipt.{Receipt}
+use Rattle.nd_receipts.specs.Receipts.{AreCallsIn}
+use Rattle.nd_workers.specs.declared.run_end.RunRefusal.{RunRefusal}
+use Rattle.nd_workers.specs.declared.run_end.RunRefusal.TheVariants.{Slots, TooManySlots, Memory}
+use Rattle.nd_workers.specs.Served.{Seated}
+
+-- a worker is on this place
+abbrev pub is_at : ℕ → ℕ → ℕ × ℕ → Bool
+is_at m s w = (m == w.0) && (s == w.1)
+
+-- the place is one of the park
+abbrev pub is_in_park : Premises → ℕ × ℕ → Bool
+is_in_park i w = nat_lt w.0 (machines_in i) && nat_lt w.1 (jobs_of i w.0)
+
+-- there is one worker for each slot of machine m
+pub record IsMachineManned (i : Premises) (places : List (ℕ × ℕ)) (m : ℕ) : Type 0 where
+  pub each : (s : ℕ) → s < jobs_of i m → count_by (is_at m s) places ≡ 1
+
+-- there is one worker for each slot of each machine, and each worker serves such a slot
+pub record AreManned (i : Premises) (places : List (ℕ × ℕ)) : Type 0 where
+  pub each : (m : ℕ) → m < machines_in i → IsMachineManned i places m
+  pub within : list_all (is_in_park i) places ≡ true
+
+-- a run is refused where the workers aren't one for each slot, then where there are too many; memory may be wanting at any point
+abbrev pub IsRunRefused : Premises → List (ℕ × ℕ) → RunRefusal → Type 0
+IsRunRefused i places Slots = AreManned i places → ⊥
+IsRunRefused i places TooManySlots = AreManned i places × (1024 < length places)
+IsRunRefused i places Memory = Unit {0}
+
+-- a run is over: its dispatch goes on from the one that was handed in, and nothing waits or is leased any more
+pub record IsOver (opening now : World) : Type 0 where
+  pub extends : GoesOnFrom now opening
+  pub finished : IsFinished now.inputs (reverse now.history)
+
+-- a worker kept its place, and its transport's calls since then are those of its receipts
+pub record IsServedIn (history : List Entry) (before after : Seated) (receipts : List Receipt) : Type 0 where
+  pub machine : after.machine ≡ before.machine
+  pub slot : after.slot ≡ before.slot
+  pub calls : List Call
+  pub grown : after.calls ≡ before.calls ++ calls
+  pub agree : AreCallsIn history receipts calls

@@ -1,0 +1,114 @@
+//! What a run ended with: the histories, the notes and the receipts compared.
+
+ghost use Rattle.std.specs.Prelude.{◌≡◌, ◌+◌, ◌^◌, ◌<◌, ◌≤◌, ℕ, length, drop, map, replicate, true, All, Some, None};
+ghost use Rattle.std.specs.List.{AllZip, list_any, list_all};
+ghost use Rattle.nd_history.specs.History.{is_stop};
+ghost use Rattle.nd_receipts.specs.Made.{is_quiet};
+ghost use Rattle.nd_receipts.specs.Noted.{IsNotedIn};
+ghost use Rattle.nd_receipts.specs.Dealt.{AreApart, AreReceipted};
+ghost use Rattle.nd_receipts.specs.Walks.{AreUnknown};
+ghost use Rattle.nd_workers.specs.Runs.{IsOver};
+
+use crate::run_end::RunFault;
+use crate::threads::Stint;
+use crate::working::End;
+use nd_history::Entry;
+use nd_ledger::Dispatch;
+use nd_receipts::{Receipt, Tables, are_as_noted, are_dealt, has_stop, is_quiet};
+use nd_transports::Transport;
+
+/// Whether every worker ended as it should, and its receipts name the entries that it noted.
+pub(crate) fn are_sound<T: Transport>(history: &[Entry], stints: &[Stint<T>]) -> bool
+    ensures { result ≡ true → All (λ x. (x.end ≡ End.Refused → ⊥) × AllZip (IsNotedIn history.now) x.notes.receipts x.notes.copies) stints.now }
+{
+    for stint in stints {
+        if stint.end == End::Refused {
+            return false;
+        }
+        if !are_as_noted(history, stint.notes.receipts(), stint.notes.copies()) {
+            return false;
+        }
+    }
+    true
+}
+
+/// The entries behind the first `opening`; none where there are fewer.
+fn entries_since(dispatch: &Dispatch, opening: usize) -> &[Entry]
+    ensures { result.now ≡ drop opening dispatch.now.history }
+{
+    let history = dispatch.history();
+    if history.len() < opening {
+        return &[];
+    }
+    let (_, new) = history.split_at(opening);
+    new
+}
+
+/// Whether the entries that workers made since the opening are the receipts, each of one worker.
+pub(crate) fn are_receipted(
+    opening: &Dispatch,
+    dispatch: &Dispatch,
+    places: &[(u32, u32)],
+    receipts: &[Vec<Receipt>],
+    tables: Tables,
+) -> bool
+    requires apart { AreApart places.now }
+    requires choices { AreUnknown (length places.now) tables.choices.items }
+    requires met { tables.met.items ≡ replicate (length places.now) 0 }
+    ensures { result ≡ true → AreReceipted places.now (length opening.now.history) (drop (length opening.now.history) dispatch.now.history) (map (λ v. v.items) receipts.now) }
+{
+    let opened = opening.history().len();
+    if dispatch.history().len() < opened {
+        return false;
+    }
+    let new = entries_since(dispatch, opened);
+    are_dealt(new, opened, places, receipts, tables)
+}
+
+/// What a run ended with. The workers' notes are those of the history where `sound` says so, and their
+/// receipts where `dealt` does.
+#[tactic(auto, using(crate::proofs::Compared::is_over))]
+pub(crate) fn fault_of(
+    opening: &Dispatch,
+    dispatch: &Dispatch,
+    sound: bool,
+    dealt: bool,
+    short: bool,
+    threadless: bool,
+) -> Option<RunFault>
+    ensures sound { result ≡ None → sound ≡ true }
+    ensures dealt { result ≡ None → dealt ≡ true }
+    ensures quiet { result ≡ None → list_all is_quiet (drop (length opening.now.history) dispatch.now.history) ≡ true }
+    ensures thread { result ≡ Some RunFault.Thread → list_any is_stop dispatch.now.history ≡ true }
+    ensures memory { result ≡ Some RunFault.Memory → list_any is_stop dispatch.now.history ≡ true }
+    ensures goes_on { (result ≡ Some RunFault.Receipts → ⊥) → IsOver opening.now dispatch.now }
+{
+    if !dispatch.extends(opening) {
+        return Some(RunFault::Receipts);
+    }
+    if !dispatch.finished() {
+        return Some(RunFault::Receipts);
+    }
+    if !sound {
+        return Some(RunFault::Receipts);
+    }
+    if !dealt {
+        return Some(RunFault::Receipts);
+    }
+    if threadless {
+        if has_stop(dispatch.history()) {
+            return Some(RunFault::Thread);
+        }
+        return Some(RunFault::Receipts);
+    }
+    if short {
+        if has_stop(dispatch.history()) {
+            return Some(RunFault::Memory);
+        }
+        return Some(RunFault::Receipts);
+    }
+    if is_quiet(entries_since(dispatch, opening.history().len())) {
+        return None;
+    }
+    Some(RunFault::Receipts)
+}

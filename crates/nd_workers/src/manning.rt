@@ -1,0 +1,71 @@
+//! Whether there is one worker for each slot of the park.
+
+ghost use Rattle.std.specs.Prelude.{◌≡◌, ◌+◌, ◌<◌, ◌≤◌, ◌&&◌, ◌==◌, ℕ, length, count_by, map, IfOk, IsTrue, ◌↔◌};
+ghost use Rattle.std.specs.List.{list_all};
+ghost use Rattle.nd_workers.specs.Runs.{is_at, is_in_park, IsMachineManned, AreManned};
+
+use crate::abandoning::{jobs_on, machine_count};
+use crate::seat::Seat;
+use nd_ledger::Dispatch;
+use std::alloc::{AllocError, Global};
+
+/// How many of these places are this one.
+fn count_at(places: &[(u32, u32)], machine: u32, slot: u32) -> usize
+    ensures { result ≡ count_by (is_at machine slot) places.now }
+{
+    places
+        .iter()
+        .filter(|place| machine == place.0 && slot == place.1)
+        .count()
+}
+
+/// Whether each slot of this machine is one of the places, and only once.
+fn is_machine_manned(dispatch: &Dispatch, places: &[(u32, u32)], machine: u32) -> bool
+    ensures { IsTrue result ↔ IsMachineManned dispatch.now.inputs places.now machine }
+{
+    for slot in 0..jobs_on(dispatch, machine) {
+        if count_at(places, machine, slot) != 1 {
+            return false;
+        }
+    }
+    true
+}
+
+/// Whether each of the places is one of the park.
+fn are_in_park(dispatch: &Dispatch, places: &[(u32, u32)]) -> bool
+    ensures { result ≡ list_all (is_in_park dispatch.now.inputs) places.now }
+{
+    places.iter().all(|place| is_in_park(dispatch, *place))
+}
+
+/// Whether the place is one of the park.
+fn is_in_park(dispatch: &Dispatch, place: (u32, u32)) -> bool
+    ensures { result ≡ is_in_park dispatch.now.inputs place }
+{
+    place.0 < machine_count(dispatch) && place.1 < jobs_on(dispatch, place.0)
+}
+
+/// Whether there is one worker for each slot of the park, and each worker is on one.
+pub(crate) fn are_manned(dispatch: &Dispatch, places: &[(u32, u32)]) -> bool
+    ensures { IsTrue result ↔ AreManned dispatch.now.inputs places.now }
+{
+    if !are_in_park(dispatch, places) {
+        return false;
+    }
+    for machine in 0..machine_count(dispatch) {
+        if !is_machine_manned(dispatch, places, machine) {
+            return false;
+        }
+    }
+    true
+}
+
+/// The places of these workers.
+pub(crate) fn places_of<T>(alloc: Global, seats: &[Seat<T>]) -> Result<Vec<(u32, u32)>, AllocError>
+    ensures { IfOk result (λ v. v.items ≡ map (λ w. (w.machine, w.slot)) seats.now) }
+{
+    seats
+        .iter()
+        .map(|seat| (seat.machine, seat.slot))
+        .collect(alloc)
+}

@@ -1,0 +1,58 @@
+//! How a run ends, or why it was refused.
+
+use crate::seat::Seat;
+use nd_ledger::Dispatch;
+use nd_receipts::Receipt;
+use nd_transports::Transport;
+
+/// Why a run was refused, in the order in which the causes are looked for.
+#[derive(Clone, Copy, Debug, PartialEq, Eq)]
+pub enum RunRefusal {
+    /// 1: there isn't exactly one worker for each slot of the park.
+    Slots,
+    /// 2: there are more than 1,024 slots.
+    TooManySlots,
+    /// 3: an allocation was refused.
+    Memory,
+}
+
+/// What a run may end with. `Receipts` is looked for first, then `Thread`, then `Memory`.
+#[derive(Clone, Copy, Debug, PartialEq, Eq)]
+pub enum RunFault {
+    /// 1: a thread wasn't started.
+    Thread,
+    /// 2: memory was refused for choices or for receipts.
+    Memory,
+    /// 3: the receipts aren't the entries that the workers made.
+    Receipts,
+}
+
+/// A run that was refused, with what was handed in.
+#[derive(Drop)]
+pub struct NotRun<T> {
+    /// Why it was refused.
+    pub why: RunRefusal,
+    /// The dispatch.
+    pub dispatch: Dispatch,
+    /// The workers.
+    pub workers: Vec<Seat<T>>,
+}
+
+/// The end of a run.
+#[derive(Drop)]
+pub struct Ran<T> {
+    /// The dispatch.
+    pub dispatch: Dispatch,
+    /// The workers, in the order in which they were handed in.
+    pub workers: Vec<Seat<T>>,
+    /// Each worker's receipts.
+    pub receipts: Vec<Vec<Receipt>>,
+    /// What the run ended with, if it isn't as it should be.
+    pub fault: Option<RunFault>,
+}
+
+/// The end of a run with whatever transports.
+pub type RunEnd = Ran<Box<dyn Transport + Send>>;
+
+/// A refused run with whatever transports.
+pub type Refused = NotRun<Box<dyn Transport + Send>>;

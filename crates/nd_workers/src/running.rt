@@ -1,0 +1,332 @@
+//! A run of all leases of a dispatch by its workers, each in a thread of its own.
+
+ghost use Rattle.std.specs.Prelude.{◌≡◌, ◌+◌, ◌<◌, ◌≤◌, ℕ, length, vec_len, vec_capacity, sum_by, map, drop, replicate, true, All, IfOk, IfErr, Some, None};
+ghost use Rattle.std.specs.List.{AllZip, zip, list_any, list_all};
+ghost use Rattle.nd_history.specs.History.{is_stop};
+ghost use Rattle.nd_receipts.specs.Made.{made, is_quiet};
+ghost use Rattle.nd_receipts.specs.Noted.{IsNotedIn};
+ghost use Rattle.nd_receipts.specs.Dealt.{AreApart, AreReceipted};
+ghost use Rattle.nd_receipts.specs.Walks.{AreUnknown};
+ghost use Rattle.nd_workers.specs.Runs.{AreManned, IsRunRefused, IsOver, IsServedIn};
+
+use crate::desk::Desk;
+use crate::faults::{are_receipted, are_sound, fault_of};
+use crate::leasing::Shared;
+use crate::manning::{are_manned, places_of};
+use crate::run_end::{NotRun, Ran, Refused, RunEnd, RunFault, RunRefusal};
+use crate::seat::{Seat, Worker};
+use crate::threads::{Ended, Ready, Running, Stint, in_scope};
+use crate::working::End;
+use nd_ledger::Dispatch;
+use nd_receipts::{Receipt, Tables, count_made};
+use nd_transports::Transport;
+use std::alloc::{AllocError, Global};
+use std::marker::Brand;
+use std::sync::ledger::{Blank, Ledger};
+use std::sync::{Condvar, Mutex, Wait};
+use std::thread::Threads;
+
+/// The most slots of a run.
+pub const MOST_SLOTS: usize = 1024;
+
+/// What the end of a run is compared with.
+#[derive(Drop)]
+struct Plan {
+    opening: Dispatch,
+    places: Vec<(u32, u32)>,
+    tables: Tables,
+}
+
+/// Room for what comes back of a run.
+#[derive(Drop)]
+struct Room<L: Ledger, T: Transport> {
+    running: Vec<Running<L, T>>,
+    stints: Vec<Stint<T>>,
+    back: Back<T>,
+}
+
+/// The workers and their receipts, in the same order.
+#[derive(Drop)]
+struct Back<T> {
+    workers: Vec<Seat<T>>,
+    receipts: Vec<Vec<Receipt>>,
+}
+
+/// Room for so many workers.
+fn make_room<L: Ledger, T: Transport>(alloc: Global, count: usize) -> Result<Room<L, T>, AllocError>
+    ensures running { IfOk result (λ r. (vec_len r.running ≡ 0) × (count ≤ vec_capacity r.running)) }
+    ensures stints { IfOk result (λ r. (vec_len r.stints ≡ 0) × (count ≤ vec_capacity r.stints)) }
+    ensures workers { IfOk result (λ r. (vec_len r.back.workers ≡ 0) × (count ≤ vec_capacity r.back.workers)) }
+    ensures receipts { IfOk result (λ r. (vec_len r.back.receipts ≡ 0) × (count ≤ vec_capacity r.back.receipts)) }
+{
+    let running = Vec::with_capacity(alloc, count)?;
+    let stints = Vec::with_capacity(alloc, count)?;
+    let workers = Vec::with_capacity(alloc, count)?;
+    let receipts = Vec::with_capacity(alloc, count)?;
+    Ok(Room {
+        running,
+        stints,
+        back: Back { workers, receipts },
+    })
+}
+
+/// What the end of a run of this dispatch by workers on these places is compared with.
+fn make_plan(
+    alloc: Global,
+    dispatch: &Dispatch,
+    places: Vec<(u32, u32)>,
+) -> Result<Plan, AllocError>
+    ensures opening { IfOk result (λ p. p.opening ≡ dispatch.now) }
+    ensures places { IfOk result (λ p. p.places.items ≡ places.items) }
+    ensures choices { IfOk result (λ p. AreUnknown (length places.items) p.tables.choices.items) }
+    ensures met { IfOk result (λ p. p.tables.met.items ≡ replicate (length places.items) 0) }
+{
+    let opening = dispatch.try_clone(alloc)?;
+    let tables = Tables::new(alloc, dispatch.graph().len(), places.len())?;
+    Ok(Plan {
+        opening,
+        places,
+        tables,
+    })
+}
+
+/// Takes the workers and their receipts apart.
+#[tactic(auto, using(crate::proofs::Zips::zips))]
+fn take_apart<T: Transport>(
+    stints: Vec<Stint<T>>,
+    workers: &mut Vec<Seat<T>>,
+    receipts: &mut Vec<Vec<Receipt>>,
+)
+    requires no_workers { vec_len workers.old ≡ 0 }
+    requires no_receipts { vec_len receipts.old ≡ 0 }
+    requires workers_room { vec_len stints ≤ vec_capacity workers.old }
+    requires receipts_room { vec_len stints ≤ vec_capacity receipts.old }
+    ensures each { AllZip (λ y x. (x.0 ≡ y.seat) × (x.1.items ≡ y.notes.receipts)) stints.items (zip workers.new.items receipts.new.items) }
+    ensures total { sum_by (λ v. vec_len v) receipts.new.items ≡ sum_by (λ x. length x.notes.receipts) stints.items }
+{
+    'parting: for stint in stints {
+        let Stint {
+            seat,
+            notes,
+            end: _,
+        } = stint;
+        workers.push_reserved(seat);
+        receipts.push_reserved(notes.into_receipts());
+    }
+}
+
+/// Compares what came back with the histories, and hands it back.
+fn settle<T: Transport>(
+    dispatch: Dispatch,
+    stints: Vec<Stint<T>>,
+    plan: Plan,
+    back: Back<T>,
+    short: bool,
+    threadless: bool,
+) -> Ran<T>
+    requires apart { AreApart plan.places.items }
+    requires choices { AreUnknown (length plan.places.items) plan.tables.choices.items }
+    requires met { plan.tables.met.items ≡ replicate (length plan.places.items) 0 }
+    requires no_workers { vec_len back.workers ≡ 0 }
+    requires no_receipts { vec_len back.receipts ≡ 0 }
+    requires workers_room { vec_len stints ≤ vec_capacity back.workers }
+    requires receipts_room { vec_len stints ≤ vec_capacity back.receipts }
+    ensures dispatch { result.dispatch ≡ dispatch }
+    ensures each { AllZip (λ y x. (x.0 ≡ y.seat) × (x.1.items ≡ y.notes.receipts)) stints.items (zip result.workers.items result.receipts.items) }
+    ensures total { sum_by (λ v. vec_len v) result.receipts.items ≡ sum_by (λ x. length x.notes.receipts) stints.items }
+    ensures sound { result.fault ≡ None → All (λ x. (x.end ≡ End.Refused → ⊥) × AllZip (IsNotedIn result.dispatch.history) x.notes.receipts x.notes.copies) stints.items }
+    ensures receipted { result.fault ≡ None → AreReceipted plan.places.items (length plan.opening.history) (drop (length plan.opening.history) result.dispatch.history) (map (λ v. v.items) result.receipts.items) }
+    ensures quiet { result.fault ≡ None → list_all is_quiet (drop (length plan.opening.history) result.dispatch.history) ≡ true }
+    ensures thread { result.fault ≡ Some RunFault.Thread → list_any is_stop result.dispatch.history ≡ true }
+    ensures memory { result.fault ≡ Some RunFault.Memory → list_any is_stop result.dispatch.history ≡ true }
+    ensures goes_on { (result.fault ≡ Some RunFault.Receipts → ⊥) → IsOver plan.opening result.dispatch }
+{
+    let Plan {
+        opening,
+        places,
+        tables,
+    } = plan;
+    let Back {
+        mut workers,
+        mut receipts,
+    } = back;
+    let sound = are_sound(dispatch.history(), stints.as_slice());
+    take_apart(stints, &mut workers, &mut receipts);
+    let dealt = are_receipted(
+        &opening,
+        &dispatch,
+        places.as_slice(),
+        receipts.as_slice(),
+        tables,
+    );
+    let fault = fault_of(&opening, &dispatch, sound, dealt, short, threadless);
+    Ran {
+        dispatch,
+        workers,
+        receipts,
+        fault,
+    }
+}
+
+/// Refuses a run.
+fn refused<T>(
+    why: RunRefusal,
+    dispatch: Dispatch,
+    workers: Vec<Seat<T>>,
+) -> Result<Ran<T>, NotRun<T>>
+    ensures ok { IfOk result (λ e. ⊥) }
+    ensures why { IfErr result (λ r. r.why ≡ why) }
+    ensures dispatch { IfErr result (λ r. r.dispatch ≡ dispatch) }
+    ensures workers { IfErr result (λ r. r.workers ≡ workers) }
+{
+    Err(NotRun {
+        why,
+        dispatch,
+        workers,
+    })
+}
+
+/// Runs the dispatch, with a ledger of the entries that workers make and with room for what comes back.
+fn run_in<L: Ledger + Send + Sync, T: Transport, R: Threads + Wait + Sync>(
+    rt: &R,
+    alloc: Global,
+    dispatch: Dispatch,
+    seats: Vec<Seat<T>>,
+    manned: Vec<(u32, u32)>,
+    plan: Plan,
+    room: Room<L, T>,
+    blank: Blank,
+) -> Ran<T>
+    requires name { blank.name ≡ L.name }
+    requires parts { blank.parts ≡ L.parts }
+    requires one_more { blank.parts ≡ vec_len seats + 1 }
+    requires apart { AreApart plan.places.items }
+    requires opening { plan.opening ≡ dispatch }
+    requires choices { AreUnknown (length plan.places.items) plan.tables.choices.items }
+    requires met { plan.tables.met.items ≡ replicate (length plan.places.items) 0 }
+    requires running { (vec_len room.running ≡ 0) × (vec_len seats ≤ vec_capacity room.running) }
+    requires stints { (vec_len room.stints ≡ 0) × (vec_len seats ≤ vec_capacity room.stints) }
+    requires workers { (vec_len room.back.workers ≡ 0) × (vec_len seats ≤ vec_capacity room.back.workers) }
+    requires receipts { (vec_len room.back.receipts ≡ 0) × (vec_len seats ≤ vec_capacity room.back.receipts) }
+    ensures total { made result.dispatch.history ≡ made dispatch.history + sum_by (λ v. vec_len v) result.receipts.items }
+    ensures goes_on { (result.fault ≡ Some RunFault.Receipts → ⊥) → IsOver dispatch result.dispatch }
+    ensures receipted { result.fault ≡ None → AreReceipted plan.places.items (length dispatch.history) (drop (length dispatch.history) result.dispatch.history) (map (λ v. v.items) result.receipts.items) }
+    ensures quiet { result.fault ≡ None → list_all is_quiet (drop (length dispatch.history) result.dispatch.history) ≡ true }
+    ensures thread { result.fault ≡ Some RunFault.Thread → list_any is_stop result.dispatch.history ≡ true }
+    ensures memory { result.fault ≡ Some RunFault.Memory → list_any is_stop result.dispatch.history ≡ true }
+    ensures calls { result.fault ≡ None → AllZip (λ w x. IsServedIn result.dispatch.history (record { machine = w.machine; slot = w.slot; calls = (T.state w.transport).calls }) (record { machine = x.0.machine; slot = x.0.slot; calls = (T.state x.0.transport).calls }) x.1.items) seats.items (zip result.workers.items result.receipts.items) }
+{
+    let (mut book, mut rest) = blank.open::<L>();
+    book.add(&mut rest, count_made(dispatch.history()) as u64);
+    let mut desk = Desk {
+        dispatch,
+        book,
+        manned,
+        short: false,
+        threadless: false,
+    };
+    desk.begin(seats.len());
+    let shared = Shared {
+        desk: Mutex::new(desk),
+        changed: Condvar::new(),
+    };
+    let Room {
+        running,
+        stints,
+        back,
+    } = room;
+    let ready = Ready {
+        seats,
+        rest,
+        running,
+        stints,
+    };
+    let ended = in_scope(rt, alloc, &shared, ready);
+    let Ended { mut all, stints } = ended;
+    let Shared { desk, changed: _ } = shared;
+    let Desk {
+        dispatch,
+        mut book,
+        manned: _,
+        short,
+        threadless,
+    } = desk.into_inner();
+    book.audit(&mut all);
+    settle(dispatch, stints, plan, back, short, threadless)
+}
+
+/// As [`run`], by workers with transports of one type.
+#[tactic(auto, using(crate::proofs::Manned::manned_apart))]
+pub fn run_with<T: Transport, R: Threads + Wait + Sync>(
+    rt: &R,
+    dispatch: Dispatch,
+    workers: Vec<Seat<T>>,
+) -> Result<Ran<T>, NotRun<T>>
+    ensures dispatch { IfErr result (λ r. r.dispatch ≡ dispatch) }
+    ensures workers { IfErr result (λ r. r.workers ≡ workers) }
+    ensures refused { IfErr result (λ r. IsRunRefused dispatch.inputs (map (λ w. (w.machine, w.slot)) workers.items) r.why) }
+    ensures manned { IfOk result (λ e. AreManned dispatch.inputs (map (λ w. (w.machine, w.slot)) workers.items)) }
+    ensures few { IfOk result (λ e. vec_len workers ≤ 1024) }
+    ensures total { IfOk result (λ e. made e.dispatch.history ≡ made dispatch.history + sum_by (λ v. vec_len v) e.receipts.items) }
+    ensures goes_on { IfOk result (λ e. (e.fault ≡ Some RunFault.Receipts → ⊥) → IsOver dispatch e.dispatch) }
+    ensures receipted { IfOk result (λ e. e.fault ≡ None → AreReceipted (map (λ w. (w.machine, w.slot)) workers.items) (length dispatch.history) (drop (length dispatch.history) e.dispatch.history) (map (λ v. v.items) e.receipts.items)) }
+    ensures quiet { IfOk result (λ e. e.fault ≡ None → list_all is_quiet (drop (length dispatch.history) e.dispatch.history) ≡ true) }
+    ensures thread { IfOk result (λ e. e.fault ≡ Some RunFault.Thread → list_any is_stop e.dispatch.history ≡ true) }
+    ensures memory { IfOk result (λ e. e.fault ≡ Some RunFault.Memory → list_any is_stop e.dispatch.history ≡ true) }
+    ensures calls { IfOk result (λ e. e.fault ≡ None → AllZip (λ w x. IsServedIn e.dispatch.history (record { machine = w.machine; slot = w.slot; calls = (T.state w.transport).calls }) (record { machine = x.0.machine; slot = x.0.slot; calls = (T.state x.0.transport).calls }) x.1.items) workers.items (zip e.workers.items e.receipts.items)) }
+{
+    let alloc = *workers.allocator();
+    let Ok(places) = places_of(alloc, workers.as_slice()) else {
+        return refused(RunRefusal::Memory, dispatch, workers);
+    };
+    if !are_manned(&dispatch, places.as_slice()) {
+        return refused(RunRefusal::Slots, dispatch, workers);
+    }
+    if workers.len() > MOST_SLOTS {
+        return refused(RunRefusal::TooManySlots, dispatch, workers);
+    }
+    let Ok(manned) = places_of(alloc, workers.as_slice()) else {
+        return refused(RunRefusal::Memory, dispatch, workers);
+    };
+    let Ok(plan) = make_plan(alloc, &dispatch, places) else {
+        return refused(RunRefusal::Memory, dispatch, workers);
+    };
+    let count = workers.len();
+    let Ok(room) = make_room::<Brand, T>(alloc, count) else {
+        return refused(RunRefusal::Memory, dispatch, workers);
+    };
+    let blank = Blank::new(count as u64 + 1);
+    Ok(run_in::<Brand, T, R>(rt, alloc, dispatch, workers, manned, plan, room, blank))
+}
+
+/// Runs the dispatch by one worker for each slot of the park, each in a thread of its own, until nothing
+/// waits and nothing is leased any more. Each worker, with the lock free, copies and builds through its
+/// transport, and under the lock records what came of it. A run without workers pumps once.
+///
+/// Refuses with `Slots` (1) where there isn't exactly one worker for each slot of the park, then with
+/// `TooManySlots` (2) where there are more than 1,024, and with `Memory` (3) where an allocation is
+/// refused before the first thread starts. What was handed in comes back then.
+///
+/// It may end with a fault: `Thread` (1) where a thread wasn't started, `Memory` (2) where memory was
+/// refused for choices or for receipts, `Receipts` (3) where the receipts aren't the entries that
+/// workers made. After the first two the run was stopped. No lease is to be live at the start.
+pub fn run<R: Threads + Wait + Sync>(
+    rt: &R,
+    dispatch: Dispatch,
+    workers: Vec<Worker>,
+) -> Result<RunEnd, Refused>
+    ensures dispatch { IfErr result (λ r. r.dispatch ≡ dispatch) }
+    ensures workers { IfErr result (λ r. r.workers ≡ workers) }
+    ensures refused { IfErr result (λ r. IsRunRefused dispatch.inputs (map (λ w. (w.machine, w.slot)) workers.items) r.why) }
+    ensures manned { IfOk result (λ e. AreManned dispatch.inputs (map (λ w. (w.machine, w.slot)) workers.items)) }
+    ensures few { IfOk result (λ e. vec_len workers ≤ 1024) }
+    ensures total { IfOk result (λ e. made e.dispatch.history ≡ made dispatch.history + sum_by (λ v. vec_len v) e.receipts.items) }
+    ensures goes_on { IfOk result (λ e. (e.fault ≡ Some RunFault.Receipts → ⊥) → IsOver dispatch e.dispatch) }
+    ensures receipted { IfOk result (λ e. e.fault ≡ None → AreReceipted (map (λ w. (w.machine, w.slot)) workers.items) (length dispatch.history) (drop (length dispatch.history) e.dispatch.history) (map (λ v. v.items) e.receipts.items)) }
+    ensures quiet { IfOk result (λ e. e.fault ≡ None → list_all is_quiet (drop (length dispatch.history) e.dispatch.history) ≡ true) }
+    ensures thread { IfOk result (λ e. e.fault ≡ Some RunFault.Thread → list_any is_stop e.dispatch.history ≡ true) }
+    ensures memory { IfOk result (λ e. e.fault ≡ Some RunFault.Memory → list_any is_stop e.dispatch.history ≡ true) }
+    ensures calls { IfOk result (λ e. e.fault ≡ None → AllZip (λ w x. IsServedIn e.dispatch.history (record { machine = w.machine; slot = w.slot; calls = (state w.transport).calls }) (record { machine = x.0.machine; slot = x.0.slot; calls = (state x.0.transport).calls }) x.1.items) workers.items (zip e.workers.items e.receipts.items)) }
+{
+    run_with(rt, dispatch, workers)
+}

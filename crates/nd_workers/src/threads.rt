@@ -1,0 +1,233 @@
+//! The threads of a run: one for each worker, started and joined in one scope.
+
+ghost use Rattle.std.specs.Prelude.{◌≡◌, ◌+◌, ◌<◌, ◌≤◌, [], ℕ, List, length, vec_len, vec_capacity, sum_by, MatchResult};
+ghost use Rattle.std.specs.List.{AllZip};
+ghost use Rattle.nd_workers.specs.Served.{Seated, IsServed};
+
+use crate::hand::Hand;
+use crate::leasing::Shared;
+use crate::seat::Seat;
+use crate::working::{Done, End, work};
+use nd_receipts::Notes;
+use nd_transports::Transport;
+use std::alloc::Global;
+use std::snapshot::Snapshot;
+use std::sync::Wait;
+use std::sync::ledger::{Ledger, Share};
+use std::thread;
+use std::thread::{Promise, PromisedHandle, Scope, Threads};
+
+/// That a worker's calls are those of its receipts, and that it kept its place.
+#[derive(Drop)]
+pub(crate) struct Serves<T> {
+    pub(crate) seat: Snapshot<Seat<T>>,
+}
+
+impl<L: Ledger, T: Transport> Promise<Done<L, T>> for Serves<T> {
+    ghost use Rattle.nd_workers.specs.Served.{Seated, IsServed};
+
+    ghost kept_by = { λ p d. IsServed (record { machine = p.seat.value.machine; slot = p.seat.value.slot; calls = (T.state p.seat.value.transport).calls }) d.end (record { machine = d.seat.machine; slot = d.seat.slot; calls = (T.state d.seat.transport).calls }) d.hand.notes };
+}
+
+/// The thread of a worker, or what the worker handed back where it has none.
+pub(crate) type Running<L, T> = Result<PromisedHandle<Done<L, T>, Serves<T>>, Done<L, T>>;
+
+/// A worker's whole work.
+#[derive(Drop)]
+pub(crate) struct Stint<T> {
+    pub(crate) seat: Seat<T>,
+    pub(crate) notes: Notes,
+    pub(crate) end: End,
+}
+
+/// Starts a worker's thread, `started` others having theirs. Where it can't be started the run is
+/// stopped, and the worker ends its work on the calling thread. Once one couldn't be started no further
+/// one is.
+#[tactic(auto, using(crate::proofs::Stints::servings))]
+fn start<'s, E, L: Ledger + Send + Sync + 's, T: Transport + 's, R: Wait + Sync>(
+    scope: &Scope<'s, E>,
+    rt: &'s R,
+    alloc: Global,
+    shared: &'s Shared<L>,
+    hand: Hand<L>,
+    seat: Seat<T>,
+    stopped: bool,
+    started: usize,
+) -> Running<L, T>
+    requires receipts { hand.notes.receipts ≡ [] }
+    requires copies { hand.notes.copies ≡ [] }
+    ensures { MatchResult result (λ h. h.promise.seat.value ≡ seat) (λ d. IsServed (record { machine = seat.machine; slot = seat.slot; calls = (T.state seat.transport).calls }) d.end (record { machine = d.seat.machine; slot = d.seat.slot; calls = (T.state d.seat.transport).calls }) d.hand.notes) }
+{
+    if stopped {
+        return Err(Done {
+            seat,
+            hand,
+            end: End::Left,
+        });
+    }
+    let promise = Serves {
+        seat: Snapshot::of(&seat),
+    };
+    match scope.spawn_with(promise, move || work(rt, alloc, shared, hand, seat)) {
+        Ok(handle) => Ok(handle),
+        Err(refused) => {
+            unstarted(rt, shared, started);
+            Err((refused.value)())
+        }
+    }
+}
+
+/// Only the first `started` workers have threads, and nothing more is begun.
+fn unstarted<L: Ledger, R: Wait>(rt: &R, shared: &Shared<L>, started: usize) {
+    let mut desk = shared.desk.lock(rt);
+    desk.unstarted(started);
+    shared.changed.notify_all();
+}
+
+/// What is needed before the first thread starts: the workers, the ledger's whole share, and room for
+/// all that comes back.
+#[derive(Drop)]
+pub(crate) struct Ready<L: Ledger, T: Transport> {
+    pub(crate) seats: Vec<Seat<T>>,
+    pub(crate) rest: Share<L>,
+    pub(crate) running: Vec<Running<L, T>>,
+    pub(crate) stints: Vec<Stint<T>>,
+    ghost parts: { rest.parts ≡ vec_len seats + 1 },
+    ghost no_threads: { vec_len running ≡ 0 },
+    ghost no_stints: { vec_len stints ≡ 0 },
+    ghost running_room: { vec_len seats ≤ vec_capacity running },
+    ghost stints_room: { vec_len seats ≤ vec_capacity stints },
+}
+
+/// Starts a thread for each worker.
+#[tactic(auto, using(crate::proofs::Zips::zips))]
+fn start_all<'s, E, L: Ledger + Send + Sync + 's, T: Transport + 's, R: Wait + Sync>(
+    scope: &Scope<'s, E>,
+    rt: &'s R,
+    alloc: Global,
+    shared: &'s Shared<L>,
+    seats: Vec<Seat<T>>,
+    rest: &mut Share<L>,
+    running: &mut Vec<Running<L, T>>,
+)
+    requires parts { rest.old.parts ≡ vec_len seats + 1 }
+    requires empty { vec_len running.old ≡ 0 }
+    requires room { vec_len seats ≤ vec_capacity running.old }
+    ensures parts { rest.new.parts ≡ 1 }
+    ensures amount { rest.new.amount ≡ rest.old.amount }
+    ensures count { vec_len running.new ≡ vec_len seats }
+    ensures each { AllZip (λ w r. MatchResult r (λ h. h.promise.seat.value ≡ w) (λ d. IsServed (record { machine = w.machine; slot = w.slot; calls = (T.state w.transport).calls }) d.end (record { machine = d.seat.machine; slot = d.seat.slot; calls = (T.state d.seat.transport).calls }) d.hand.notes)) seats.items running.new.items }
+{
+    let mut stopped = false;
+    'starting: for seat in seats {
+        let hand = Hand::new(alloc, rest.split_off(1, 0));
+        let started = running.len();
+        let next = start(scope, rt, alloc, shared, hand, seat, stopped, started);
+        stopped = next.is_err();
+        running.push_reserved(next);
+    }
+}
+
+/// What a worker handed back, with its share given to `all`.
+fn take_in<L: Ledger, T: Transport>(done: Done<L, T>, all: &mut Share<L>) -> Stint<T>
+    ensures parts { all.new.parts ≡ all.old.parts + 1 }
+    ensures amount { all.new.amount ≡ all.old.amount + length result.notes.receipts }
+    ensures seat { result.seat ≡ done.seat }
+    ensures notes { result.notes ≡ done.hand.notes }
+    ensures end { result.end ≡ done.end }
+{
+    let Done { seat, hand, end } = done;
+    let Hand { share, notes } = hand;
+    all.merge(share);
+    Stint { seat, notes, end }
+}
+
+/// Joins a worker's thread, if it has one.
+fn join<L: Ledger, T: Transport, R: Threads>(
+    rt: &R,
+    running: Running<L, T>,
+    all: &mut Share<L>,
+) -> Stint<T>
+    ensures parts { all.new.parts ≡ all.old.parts + 1 }
+    ensures amount { all.new.amount ≡ all.old.amount + length result.notes.receipts }
+    ensures served { (w : Seated) → MatchResult running (λ h. record { machine = h.promise.seat.value.machine; slot = h.promise.seat.value.slot; calls = (T.state h.promise.seat.value.transport).calls } ≡ w) (λ d. IsServed w d.end (record { machine = d.seat.machine; slot = d.seat.slot; calls = (T.state d.seat.transport).calls }) d.hand.notes) → IsServed w result.end (record { machine = result.seat.machine; slot = result.seat.slot; calls = (T.state result.seat.transport).calls }) result.notes }
+{
+    match running {
+        Ok(handle) => take_in(handle.join(rt), all),
+        Err(done) => take_in(done, all),
+    }
+}
+
+/// Joins all threads.
+#[tactic(auto, using(crate::proofs::Zips::zips))]
+fn join_all<L: Ledger, T: Transport, R: Threads>(
+    rt: &R,
+    running: Vec<Running<L, T>>,
+    all: &mut Share<L>,
+    stints: &mut Vec<Stint<T>>,
+)
+    requires empty { vec_len stints.old ≡ 0 }
+    requires room { vec_len running ≤ vec_capacity stints.old }
+    ensures parts { all.new.parts ≡ all.old.parts + vec_len running }
+    ensures count { vec_len stints.new ≡ vec_len running }
+    ensures amount { all.new.amount ≡ all.old.amount + sum_by (λ x. length x.notes.receipts) stints.new.items }
+    ensures each { AllZip (λ r x. (w : Seated) → MatchResult r (λ h. record { machine = h.promise.seat.value.machine; slot = h.promise.seat.value.slot; calls = (T.state h.promise.seat.value.transport).calls } ≡ w) (λ d. IsServed w d.end (record { machine = d.seat.machine; slot = d.seat.slot; calls = (T.state d.seat.transport).calls }) d.hand.notes) → IsServed w x.end (record { machine = x.seat.machine; slot = x.seat.slot; calls = (T.state x.seat.transport).calls }) x.notes) running.items stints.new.items }
+{
+    'joining: for next in running {
+        let stint = join(rt, next, all);
+        stints.push_reserved(stint);
+    }
+}
+
+/// What came back of all workers, with the ledger's whole share.
+#[derive(Drop)]
+pub(crate) struct Ended<L: Ledger, T: Transport> {
+    pub(crate) all: Share<L>,
+    pub(crate) stints: Vec<Stint<T>>,
+}
+
+/// Starts a thread for each worker, and joins them all.
+#[tactic(auto, using(crate::proofs::Zips::zip_through))]
+fn serve_all<'s, E, L: Ledger + Send + Sync + 's, T: Transport + 's, R: Threads + Wait + Sync>(
+    scope: &Scope<'s, E>,
+    rt: &'s R,
+    alloc: Global,
+    shared: &'s Shared<L>,
+    ready: Ready<L, T>,
+) -> Ended<L, T>
+    ensures parts { result.all.parts ≡ vec_len ready.seats + 1 }
+    ensures count { vec_len result.stints ≡ vec_len ready.seats }
+    ensures amount { result.all.amount ≡ ready.rest.amount + sum_by (λ x. length x.notes.receipts) result.stints.items }
+    ensures each { AllZip (λ w x. IsServed (record { machine = w.machine; slot = w.slot; calls = (T.state w.transport).calls }) x.end (record { machine = x.seat.machine; slot = x.seat.slot; calls = (T.state x.seat.transport).calls }) x.notes) ready.seats.items result.stints.items }
+{
+    let Ready {
+        seats,
+        mut rest,
+        mut running,
+        mut stints,
+    } = ready;
+    start_all(scope, rt, alloc, shared, seats, &mut rest, &mut running);
+    join_all(rt, running, &mut rest, &mut stints);
+    Ended { all: rest, stints }
+}
+
+/// Starts a thread for each worker in a scope of their own, and joins them all.
+pub(crate) fn in_scope<L: Ledger + Send + Sync, T: Transport, R: Threads + Wait + Sync>(
+    rt: &R,
+    alloc: Global,
+    shared: &Shared<L>,
+    ready: Ready<L, T>,
+) -> Ended<L, T>
+    ensures parts { result.all.parts ≡ vec_len ready.seats + 1 }
+    ensures count { vec_len result.stints ≡ vec_len ready.seats }
+    ensures amount { result.all.amount ≡ ready.rest.amount + sum_by (λ x. length x.notes.receipts) result.stints.items }
+    ensures each { AllZip (λ w x. IsServed (record { machine = w.machine; slot = w.slot; calls = (T.state w.transport).calls }) x.end (record { machine = x.seat.machine; slot = x.seat.slot; calls = (T.state x.seat.transport).calls }) x.notes) ready.seats.items result.stints.items }
+{
+    thread::scope(
+        thread::scope_env(),
+        rt,
+        |scope| -> Ended<L, T>
+            ensures { (result.all.parts ≡ vec_len ready.seats + 1) × (vec_len result.stints ≡ vec_len ready.seats) × (result.all.amount ≡ ready.rest.amount + sum_by (λ x. length x.notes.receipts) result.stints.items) × AllZip (λ w x. IsServed (record { machine = w.machine; slot = w.slot; calls = (T.state w.transport).calls }) x.end (record { machine = x.seat.machine; slot = x.seat.slot; calls = (T.state x.seat.transport).calls }) x.notes) ready.seats.items result.stints.items }
+        { serve_all(scope, rt, alloc, shared, ready) },
+    )
+}
