@@ -10,7 +10,7 @@ use Rattle.nd_history.specs.declared.entry.Entry.TheVariants.{Chosen, NoBuilder,
 use Rattle.nd_history.specs.declared.entry.Why.{Why}
 use Rattle.nd_receipts.specs.declared.receipt.Receipt.{Receipt}
 use Rattle.nd_receipts.specs.declared.receipt.Kind.{Kind}
-use Rattle.nd_receipts.specs.Dealt.{place_of, made_as, is_place, mark_by, marks_on, marks_of, AreApart, HasWorker, HaveWorkers, AreReceipted}
+use Rattle.nd_receipts.specs.Dealt.{place_of, made_as, is_place, mark_by, marks_on, marks_of, AreApart, HaveWorkers, AreReceipted}
 use Rattle.nd_receipts.specs.Walks.{Knows, Follows, AreUnknown, IsMet, AreAllMet, AreMetBelow, AreLeft, IsDealt}
 
 -- ---- lists

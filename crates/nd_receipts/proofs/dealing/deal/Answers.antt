@@ -1,4 +1,4 @@
-use Rattle.std.proofs.Common.{rules, Vec, Global, length, refl, map, sym, ◌∙◌}
+use Rattle.std.proofs.Common.{rules, Vec, Global, length, refl, map}
 use Rattle.std.proofs.lemmas.Option.{slice_get_read}
 use Rattle.nd_receipts.specs.declared.receipt.Receipt.{Receipt}
 use Rattle.nd_receipts.proofs.Crossings.{deals_made}
