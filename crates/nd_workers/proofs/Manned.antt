@@ -1,5 +1,5 @@
 -- Lemmas on the places of workers.
-use Rattle.std.proofs.Common.{◌≡◌, ◌⊎◌, ℕ, zero, suc, ◌+◌, ◌<◌, ◌≤◌, Bool, true, false, ◌==◌, ◌&&◌, cond, List, [], ◌∷◌, length, count_by, nat_lt, slice_get, Some, refl, sym, ap, ◌∙◌, subst, arith}
+use Rattle.std.proofs.Common.{◌≡◌, ℕ, zero, suc, ◌+◌, ◌<◌, Bool, true, false, ◌==◌, ◌&&◌, cond, List, [], ◌∷◌, count_by, nat_lt, slice_get, Some, refl, sym, ap, ◌∙◌, arith}
 use Rattle.std.specs.List.{list_all}
 use Rattle.std.proofs.lemmas.Bool.{eq-eqb, ltb-true}
 use Rattle.std.proofs.lemmas.Option.{none-some, same_Some, slice_get_past}
@@ -7,7 +7,7 @@ use Rattle.nd_history.proofs.Slots.{count_cons}
 use Rattle.nd_history.specs.Premises.{Premises}
 use Rattle.nd_history.specs.Choices.{machines_in, jobs_of}
 use Rattle.nd_receipts.specs.Dealt.{AreApart}
-use Rattle.nd_workers.specs.Runs.{is_at, is_in_park, IsMachineManned, AreManned}
+use Rattle.nd_workers.specs.Runs.{is_at, is_in_park, AreManned}
 
 and_first : (a b : Bool) → (a && b) ≡ true → a ≡ true
 and_first true b h = refl
@@ -33,11 +33,11 @@ counted_at f (q ∷ ps) zero p at is =
     let yes : f q ≡ true = ap f (same_Some q p at) ∙ is in
     let count : count_by f (q ∷ ps) ≡ count_by f ps + 1 = count_cons f q ps ∙ ap (λ b. cond b (count_by f ps + 1) (count_by f ps)) yes in
     omega arith
-counted_at f (q ∷ ps) (suc k) p at is = by (f q) (count_cons f q ps)
+counted_at f (q ∷ ps) (suc k) p at is = by (f q) (counted_at f ps k p at is) (count_cons f q ps)
   where
-    by : (b : Bool) → count_by f (q ∷ ps) ≡ cond b (count_by f ps + 1) (count_by f ps) → 0 < count_by f (q ∷ ps)
-    by true h = omega arith
-    by false h = let later = counted_at f ps k p at is in omega arith
+    by : (b : Bool) → 0 < count_by f ps → count_by f (q ∷ ps) ≡ cond b (count_by f ps + 1) (count_by f ps) → 0 < count_by f (q ∷ ps)
+    by true later h = omega arith
+    by false later h = omega arith
 
 -- what is counted once is at one place
 counted_once : (f : ℕ × ℕ → Bool) (ps : List (ℕ × ℕ)) (j k : ℕ) (p : ℕ × ℕ) → count_by f ps ≡ 1 → slice_get ps j ≡ Some p → slice_get ps k ≡ Some p → f p ≡ true → j ≡ k
@@ -53,11 +53,11 @@ counted_once f (q ∷ ps) (suc j) zero p one a b is =
     let count : count_by f (q ∷ ps) ≡ count_by f ps + 1 = count_cons f q ps ∙ ap (λ b. cond b (count_by f ps + 1) (count_by f ps)) yes in
     let more = counted_at f ps j p a is in
     absurd (omega arith)
-counted_once f (q ∷ ps) (suc j) (suc k) p one a b is = by (f q) (count_cons f q ps)
+counted_once f (q ∷ ps) (suc j) (suc k) p one a b is = by (f q) (counted_at f ps j p a is) (λ only. counted_once f ps j k p only a b is) (count_cons f q ps)
   where
-    by : (x : Bool) → count_by f (q ∷ ps) ≡ cond x (count_by f ps + 1) (count_by f ps) → suc j ≡ suc k
-    by true h = let more = counted_at f ps j p a is in absurd (omega arith)
-    by false h = ap suc (counted_once f ps j k p (sym h ∙ one) a b is)
+    by : (x : Bool) → 0 < count_by f ps → (count_by f ps ≡ 1 → j ≡ k) → count_by f (q ∷ ps) ≡ cond x (count_by f ps + 1) (count_by f ps) → suc j ≡ suc k
+    by true more once h = absurd (omega arith)
+    by false more once h = ap suc (once (sym h ∙ one))
 
 -- where there is one worker for each slot, no two are on one place
 pub manned_apart : (i : Premises) (places : List (ℕ × ℕ)) → AreManned i places → AreApart places

@@ -17,15 +17,23 @@ use nd_ledger::Dispatch;
 use nd_receipts::{Receipt, Tables, are_as_noted, are_dealt, has_stop, is_quiet};
 use nd_transports::Transport;
 
+/// Whether a worker ended as it should, and its receipts name the entries that it noted.
+fn is_sound<T: Transport>(history: &[Entry], stint: &Stint<T>) -> bool
+    ensures end { result ≡ true → stint.now.end ≡ End.Refused → ⊥ }
+    ensures noted { result ≡ true → AllZip (IsNotedIn history.now) stint.now.notes.receipts stint.now.notes.copies }
+{
+    if stint.end == End::Refused {
+        return false;
+    }
+    are_as_noted(history, stint.notes.receipts(), stint.notes.copies())
+}
+
 /// Whether every worker ended as it should, and its receipts name the entries that it noted.
 pub(crate) fn are_sound<T: Transport>(history: &[Entry], stints: &[Stint<T>]) -> bool
     ensures { result ≡ true → All (λ x. (x.end ≡ End.Refused → ⊥) × AllZip (IsNotedIn history.now) x.notes.receipts x.notes.copies) stints.now }
 {
     for stint in stints {
-        if stint.end == End::Refused {
-            return false;
-        }
-        if !are_as_noted(history, stint.notes.receipts(), stint.notes.copies()) {
+        if !is_sound(history, stint) {
             return false;
         }
     }

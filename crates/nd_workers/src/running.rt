@@ -1,6 +1,6 @@
 //! A run of all leases of a dispatch by its workers, each in a thread of its own.
 
-ghost use Rattle.std.specs.Prelude.{◌≡◌, ◌+◌, ◌<◌, ◌≤◌, ℕ, length, vec_len, vec_capacity, sum_by, map, drop, replicate, true, All, IfOk, IfErr, Some, None};
+ghost use Rattle.std.specs.Prelude.{◌≡◌, ◌+◌, ◌<◌, ◌≤◌, ℕ, length, vec_len, vec_capacity, sum_by, map, drop, replicate, true, All, IfOk, IfErr, OnOk, Some, None};
 ghost use Rattle.std.specs.List.{AllZip, zip, list_any, list_all};
 ghost use Rattle.nd_history.specs.History.{is_stop};
 ghost use Rattle.nd_receipts.specs.Made.{made, is_quiet};
@@ -70,13 +70,40 @@ fn make_room<L: Ledger, T: Transport>(alloc: Global, count: usize) -> Result<Roo
     })
 }
 
+/// The places of these workers, where there is one for each slot of the park, and they aren't too many.
+#[tactic(auto, using(crate::proofs::Manned::manned_apart))]
+fn accepted_places<T>(
+    alloc: Global,
+    dispatch: &Dispatch,
+    seats: &[Seat<T>],
+) -> Result<Vec<(u32, u32)>, RunRefusal>
+    ensures refused { IfErr result (IsRunRefused dispatch.now.inputs (map (λ w. (w.machine, w.slot)) seats.now)) }
+    ensures places { IfOk result (λ v. v.items ≡ map (λ w. (w.machine, w.slot)) seats.now) }
+    ensures manned { OnOk result (AreManned dispatch.now.inputs (map (λ w. (w.machine, w.slot)) seats.now)) }
+    ensures apart { IfOk result (λ v. AreApart v.items) }
+    ensures few { OnOk result (length seats.now ≤ 1024) }
+{
+    let Ok(places) = places_of(alloc, seats) else {
+        return Err(RunRefusal::Memory);
+    };
+    if !are_manned(dispatch, places.as_slice()) {
+        return Err(RunRefusal::Slots);
+    }
+    if seats.len() > MOST_SLOTS {
+        return Err(RunRefusal::TooManySlots);
+    }
+    Ok(places)
+}
+
 /// What the end of a run of this dispatch by workers on these places is compared with.
 fn make_plan(
     alloc: Global,
     dispatch: &Dispatch,
     places: Vec<(u32, u32)>,
 ) -> Result<Plan, AllocError>
+    requires { AreApart places.items }
     ensures opening { IfOk result (λ p. p.opening ≡ dispatch.now) }
+    ensures apart { IfOk result (λ p. AreApart p.places.items) }
     ensures places { IfOk result (λ p. p.places.items ≡ places.items) }
     ensures choices { IfOk result (λ p. AreUnknown (length places.items) p.tables.choices.items) }
     ensures met { IfOk result (λ p. p.tables.met.items ≡ replicate (length places.items) 0) }
@@ -255,8 +282,41 @@ fn run_in<L: Ledger + Send + Sync, T: Transport, R: Threads + Wait + Sync>(
     settle(dispatch, stints, plan, back, short, threadless)
 }
 
+/// Makes room for what comes back, and runs the dispatch.
+fn run_named<L: Ledger + Send + Sync, T: Transport, R: Threads + Wait + Sync>(
+    rt: &R,
+    alloc: Global,
+    dispatch: Dispatch,
+    seats: Vec<Seat<T>>,
+    manned: Vec<(u32, u32)>,
+    plan: Plan,
+    blank: Blank,
+) -> Result<Ran<T>, NotRun<T>>
+    requires name { blank.name ≡ L.name }
+    requires parts { blank.parts ≡ L.parts }
+    requires one_more { blank.parts ≡ vec_len seats + 1 }
+    requires apart { AreApart plan.places.items }
+    requires opening { plan.opening ≡ dispatch }
+    requires choices { AreUnknown (length plan.places.items) plan.tables.choices.items }
+    requires met { plan.tables.met.items ≡ replicate (length plan.places.items) 0 }
+    ensures why { IfErr result (λ r. r.why ≡ RunRefusal.Memory) }
+    ensures dispatch { IfErr result (λ r. r.dispatch ≡ dispatch) }
+    ensures workers { IfErr result (λ r. r.workers ≡ seats) }
+    ensures total { IfOk result (λ e. made e.dispatch.history ≡ made dispatch.history + sum_by (λ v. vec_len v) e.receipts.items) }
+    ensures goes_on { IfOk result (λ e. (e.fault ≡ Some RunFault.Receipts → ⊥) → IsOver dispatch e.dispatch) }
+    ensures receipted { IfOk result (λ e. e.fault ≡ None → AreReceipted plan.places.items (length dispatch.history) (drop (length dispatch.history) e.dispatch.history) (map (λ v. v.items) e.receipts.items)) }
+    ensures quiet { IfOk result (λ e. e.fault ≡ None → list_all is_quiet (drop (length dispatch.history) e.dispatch.history) ≡ true) }
+    ensures thread { IfOk result (λ e. e.fault ≡ Some RunFault.Thread → list_any is_stop e.dispatch.history ≡ true) }
+    ensures memory { IfOk result (λ e. e.fault ≡ Some RunFault.Memory → list_any is_stop e.dispatch.history ≡ true) }
+    ensures calls { IfOk result (λ e. e.fault ≡ None → AllZip (λ w x. IsServedIn e.dispatch.history (record { machine = w.machine; slot = w.slot; calls = (T.state w.transport).calls }) (record { machine = x.0.machine; slot = x.0.slot; calls = (T.state x.0.transport).calls }) x.1.items) seats.items (zip e.workers.items e.receipts.items)) }
+{
+    let Ok(room) = make_room::<L, T>(alloc, seats.len()) else {
+        return refused(RunRefusal::Memory, dispatch, seats);
+    };
+    Ok(run_in(rt, alloc, dispatch, seats, manned, plan, room, blank))
+}
+
 /// As [`run`], by workers with transports of one type.
-#[tactic(auto, using(crate::proofs::Manned::manned_apart))]
 pub fn run_with<T: Transport, R: Threads + Wait + Sync>(
     rt: &R,
     dispatch: Dispatch,
@@ -276,27 +336,18 @@ pub fn run_with<T: Transport, R: Threads + Wait + Sync>(
     ensures calls { IfOk result (λ e. e.fault ≡ None → AllZip (λ w x. IsServedIn e.dispatch.history (record { machine = w.machine; slot = w.slot; calls = (T.state w.transport).calls }) (record { machine = x.0.machine; slot = x.0.slot; calls = (T.state x.0.transport).calls }) x.1.items) workers.items (zip e.workers.items e.receipts.items)) }
 {
     let alloc = *workers.allocator();
-    let Ok(places) = places_of(alloc, workers.as_slice()) else {
-        return refused(RunRefusal::Memory, dispatch, workers);
+    let places = match accepted_places(alloc, &dispatch, workers.as_slice()) {
+        Ok(places) => places,
+        Err(why) => return refused(why, dispatch, workers),
     };
-    if !are_manned(&dispatch, places.as_slice()) {
-        return refused(RunRefusal::Slots, dispatch, workers);
-    }
-    if workers.len() > MOST_SLOTS {
-        return refused(RunRefusal::TooManySlots, dispatch, workers);
-    }
     let Ok(manned) = places_of(alloc, workers.as_slice()) else {
         return refused(RunRefusal::Memory, dispatch, workers);
     };
     let Ok(plan) = make_plan(alloc, &dispatch, places) else {
         return refused(RunRefusal::Memory, dispatch, workers);
     };
-    let count = workers.len();
-    let Ok(room) = make_room::<Brand, T>(alloc, count) else {
-        return refused(RunRefusal::Memory, dispatch, workers);
-    };
-    let blank = Blank::new(count as u64 + 1);
-    Ok(run_in::<Brand, T, R>(rt, alloc, dispatch, workers, manned, plan, room, blank))
+    let blank = Blank::new(workers.len() as u64 + 1);
+    run_named::<Brand, T, R>(rt, alloc, dispatch, workers, manned, plan, blank)
 }
 
 /// Runs the dispatch by one worker for each slot of the park, each in a thread of its own, until nothing

@@ -1,6 +1,26 @@
+use Rattle.std.proofs.Common.{◌≡◌, sym, subst}
+use Rattle.std.specs.List.{AllZip}
+use Rattle.nd_receipts.specs.Noted.{IsNotedIn}
+use Rattle.nd_workers.specs.declared.threads.Stint.{Stint}
+use Rattle.nd_workers.specs.declared.working.End.TheVariants.{Refused}
+use Rattle.nd_workers.specs.declared.seat.Seat.{Seat}
+use Rattle.nd_workers.specs.Runs.{IsServedIn}
+use Rattle.nd_workers.specs.Served.{Seated}
 use Rattle.nd_workers.proofs.Compared.{served_in}
 use Rattle.nd_workers.proofs.Zips.{zip_known_via}
 use Rattle.nd_workers.proofs.running.run_in.Goals as goal
 
+pub returns-clause-goes_on : goal.returns-clause-goes_on
+returns-clause-goes_on g c = rw (← c.requires.opening) c.settle.ensures.goes_on
+
+pub returns-clause-receipted : goal.returns-clause-receipted
+returns-clause-receipted g c = rw (← c.requires.opening) c.settle.ensures.receipted
+
+pub returns-clause-quiet : goal.returns-clause-quiet
+returns-clause-quiet g c = rw (← c.requires.opening) c.settle.ensures.quiet
+
 pub returns-clause-calls : goal.returns-clause-calls
-returns-clause-calls g c = λ none. zip_known_via _ _ _ c.in_scope-ended.ensures.each (c.settle.ensures.sound none) c.settle.ensures.each (λ w y z p s q. rw (q.0) (served_in _ _ _ _ _ _ (s.0) (s.1) p (q.1)))
+returns-clause-calls g c = λ none.
+    let of : Seat g.row.T.Denot → Seated = λ s. record { machine = s.machine; slot = s.slot; calls = (g.T.Transport.state s.transport).calls } in
+    zip_known_via {S = λ (y : Stint g.row.T.Denot). (y.end ≡ Refused → ⊥) × AllZip (IsNotedIn c.settle.result.dispatch.history) y.notes.receipts y.notes.copies} _ _ _ c.in_scope-ended.ensures.each (c.settle.ensures.sound none) c.settle.ensures.each
+    (λ w y z p s q. subst (λ (x : Seat g.row.T.Denot). IsServedIn c.settle.result.dispatch.history (of w) (of x) z.1.items) (sym q.0) (served_in c.settle.result.dispatch.history (of w) (of y.seat) y.end y.notes z.1.items s.0 s.1 p q.1))
