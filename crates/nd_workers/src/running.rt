@@ -142,6 +142,9 @@ fn take_apart<T: Transport>(
     }
 }
 
+/// Lets go what the end of a run is compared with.
+fn let_go(_opening: Dispatch, _places: Vec<(u32, u32)>) {}
+
 /// Compares what came back with the histories, and hands it back.
 fn settle<T: Transport>(
     dispatch: Dispatch,
@@ -187,6 +190,7 @@ fn settle<T: Transport>(
         tables,
     );
     let fault = fault_of(&opening, &dispatch, sound, dealt, short, threadless);
+    let_go(opening, places);
     Ran {
         dispatch,
         workers,
@@ -311,6 +315,12 @@ fn run_named<L: Ledger + Send + Sync, T: Transport, R: Threads + Wait + Sync>(
     ensures calls { IfOk result (λ e. e.fault ≡ None → AllZip (λ w x. IsServedIn e.dispatch.history (record { machine = w.machine; slot = w.slot; calls = (T.state w.transport).calls }) (record { machine = x.0.machine; slot = x.0.slot; calls = (T.state x.0.transport).calls }) x.1.items) seats.items (zip e.workers.items e.receipts.items)) }
 {
     let Ok(room) = make_room::<L, T>(alloc, seats.len()) else {
+        let Plan {
+            opening,
+            places,
+            tables: _,
+        } = plan;
+        let_go(opening, places);
         return refused(RunRefusal::Memory, dispatch, seats);
     };
     Ok(run_in(rt, alloc, dispatch, seats, manned, plan, room, blank))

@@ -24,3 +24,6 @@ returns-clause-calls g c = λ none.
     let of : Seat g.row.T.Denot → Seated = λ s. record { machine = s.machine; slot = s.slot; calls = (g.T.Transport.state s.transport).calls } in
     zip_known_via {S = λ (y : Stint g.row.T.Denot). (y.end ≡ Refused → ⊥) × AllZip (IsNotedIn c.settle.result.dispatch.history) y.notes.receipts y.notes.copies} _ _ _ c.in_scope-ended.ensures.each (c.settle.ensures.sound none) c.settle.ensures.each
     (λ w y z p s q. subst (λ (x : Seat g.row.T.Denot). IsServedIn c.settle.result.dispatch.history (of w) (of x) z.1.items) (sym q.0) (served_in c.settle.result.dispatch.history (of w) (of y.seat) y.end y.notes z.1.items s.0 s.1 p q.1))
+
+pub returns-clause-total : goal.returns-clause-total
+returns-clause-total g c = ?
