@@ -1,5 +1,7 @@
-use Rattle.std.proofs.Common.{◌≡◌, sym, subst}
+use Rattle.std.proofs.Common.{◌≡◌, sym, subst, ap, ◌∙◌, arith}
 use Rattle.std.specs.List.{AllZip}
+use Rattle.nd_ledger.specs.Worlds.{World}
+use Rattle.nd_receipts.specs.Made.{made}
 use Rattle.nd_receipts.specs.Noted.{IsNotedIn}
 use Rattle.nd_workers.specs.declared.threads.Stint.{Stint}
 use Rattle.nd_workers.specs.declared.working.End.TheVariants.{Refused}
@@ -26,4 +28,13 @@ returns-clause-calls g c = λ none.
     (λ w y z p s q. subst (λ (x : Seat g.row.T.Denot). IsServedIn c.settle.result.dispatch.history (of w) (of x) z.1.items) (sym q.0) (served_in c.settle.result.dispatch.history (of w) (of y.seat) y.end y.notes z.1.items s.0 s.1 p q.1))
 
 pub returns-clause-total : goal.returns-clause-total
-returns-clause-total g c = ?
+returns-clause-total g c =
+    let whole = c.audit.ensures.whole (c.in_scope-ended.ensures.parts ∙ sym c.requires.one_more ∙ c.requires.parts) in
+    let last = ap (λ (w : World). made w.history) c.settle.ensures.dispatch in
+    let counted = c.into_inner-dispatch.result.counted in
+    let joined = c.in_scope-ended.ensures.amount in
+    let opened = c.open-book.ensures.amount in
+    let first = c.count_made.ensures ∙ ap made c.history.ensures.value in
+    let added = c.add.ensures.amount in
+    let receipts = c.settle.ensures.total in
+    omega arith
