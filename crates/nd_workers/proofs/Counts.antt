@@ -1,7 +1,6 @@
 -- Lemmas on how many entries workers made.
-use Rattle.std.proofs.Common.{◌≡◌, ℕ, ◌+◌, Bool, true, false, cond, if◌then◌else◌, List, [], ◌∷◌, ◌++◌, reverse, map, count_by, Option, Some, None, refl, sym, ap, ◌∙◌, subst, arith}
+use Rattle.std.proofs.Common.{◌≡◌, ℕ, ◌+◌, Bool, true, false, cond, if◌then◌else◌, List, [], ◌∷◌, ◌++◌, reverse, count_by, Option, Some, None, refl, sym, ap, ◌∙◌, arith}
 use Rattle.std.proofs.lemmas.Grind.{common_steps}
-use Rattle.std.proofs.lemmas.List.{append-nil}
 use Rattle.std.specs.List.{filter_map, cons_option}
 use Rattle.nd_history.specs.declared.entry.Entry.{Entry}
 use Rattle.nd_history.specs.declared.entry.Entry.TheVariants.{Chosen, NoBuilder, Started, Down, Built, Failed, Stop, Drain, Enable}
@@ -9,7 +8,7 @@ use Rattle.nd_history.specs.declared.entry.Ticket.{Ticket}
 use Rattle.nd_history.specs.declared.entry.Why.TheVariants.{NoWorker}
 use Rattle.nd_history.specs.Premises.{Premises}
 use Rattle.nd_history.specs.History.{current_of, has_stop}
-use Rattle.nd_history.specs.Pumping.{step_drv, IsPumpStep, ArePumpSteps, HasPumped, HasPumpedBy}
+use Rattle.nd_history.specs.Pumping.{step_drv, ArePumpSteps, HasPumped, HasPumpedBy}
 use Rattle.nd_history.proofs.Slots.{count_cons}
 use Rattle.nd_workers.specs.Abandoned.{is_manned, end_of, given_up_at, stop_after, last_entries, places_of}
 use Rattle.nd_receipts.specs.Made.{is_made, made}

@@ -1,5 +1,5 @@
 -- Lemmas on what a worker and its transport have done.
-use Rattle.std.proofs.Common.{◌≡◌, ℕ, ◌+◌, ◌<◌, ◌≤◌, Bool, true, false, List, [], ◌∷◌, ◌++◌, refl, sym, ap, ◌∙◌, subst, append_assoc, inl, inr, ◌⊎◌}
+use Rattle.std.proofs.Common.{◌≡◌, ℕ, ◌+◌, ◌≤◌, Bool, true, false, List, [], ◌∷◌, ◌++◌, refl, sym, ap, ◌∙◌, subst, append_assoc, inl, inr}
 use Rattle.std.proofs.lemmas.List.{append-nil}
 use Rattle.nd_history.specs.declared.entry.Entry.{Entry}
 use Rattle.nd_history.specs.declared.entry.Entry.TheVariants.{Started, Down, Built, Failed}
@@ -12,7 +12,7 @@ use Rattle.nd_receipts.specs.declared.receipt.Kind.{Kind}
 use Rattle.nd_receipts.specs.declared.receipt.Kind.TheVariants.{Started as KindStarted, Down as KindDown, Built as KindBuilt, Failed as KindFailed}
 use Rattle.nd_transports.specs.Calls.{State, IsIdleAgain, built}
 use Rattle.nd_transports.specs.Services.{IsFetched, IsTurnedAway, IsUnreported}
-use Rattle.nd_receipts.specs.Receipts.{IsOneBuilt, AreCallsFor, IsOfKind, AreCallsOf, AreCallsOfAll}
+use Rattle.nd_receipts.specs.Receipts.{AreCallsFor, IsOfKind, AreCallsOfAll}
 use Rattle.nd_receipts.specs.Receipts.AreCallsOfAll.{none, more}
 use Rattle.nd_receipts.specs.Noted.{Noted, HasNoted, HasBegun, HasEnded, Track, track, GoesOn}
 

@@ -2,7 +2,7 @@
 use Rattle.std.specs.Prelude.{◌≡◌, ℕ, List, []}
 use Rattle.nd_transports.specs.declared.kinds.Call.{Call}
 use Rattle.nd_workers.specs.declared.working.End.{End}
-use Rattle.nd_receipts.specs.Noted.{Noted, Track, track}
+use Rattle.nd_receipts.specs.Noted.{Noted, track}
 use Rattle.nd_workers.specs.Ends.{EndsWell}
 
 -- a worker's place, and the calls of its transport
