@@ -3,8 +3,9 @@
 use nd_bytes::ByteString;
 use nd_cli::{CliFault, ParkOptions};
 use nd_hook::Told;
-use nd_run::{RunInputs, run_inputs};
-use std::alloc::{AllocError, Global};
+use nd_run::{RunInputs, places, run_inputs};
+use nd_script::Rule;
+use std::alloc::Global;
 use std::thread::Threads;
 
 /// A bundle of one derivation without inputs and sources.
@@ -23,17 +24,34 @@ pub struct Words<'a> {
     pub stand: &'a str,
 }
 
-fn options(alloc: Global, words: &Words) -> Result<ParkOptions, AllocError> {
-    Ok(ParkOptions {
-        builders: ByteString::from_slice(alloc, words.builders.as_bytes())?,
-        system: ByteString::from_slice(alloc, b"x86_64-linux")?,
-        extra: ByteString::from_slice(alloc, b"")?,
-        features: ByteString::from_slice(alloc, b"")?,
+/// What is looked at of what `run` is given.
+#[derive(Drop)]
+pub struct Seen {
+    /// How many derivations, builders and entries there are.
+    pub sizes: (usize, usize, usize),
+    pub rules: Vec<Rule>,
+    pub places: Result<Vec<(u32, u32)>, CliFault>,
+}
+
+/// A byte string with this text, or an empty one where there is no memory.
+fn bytes(alloc: Global, text: &str) -> ByteString {
+    match ByteString::from_slice(alloc, text.as_bytes()) {
+        Ok(bytes) => bytes,
+        Err(_) => ByteString::new(Vec::new(alloc)),
+    }
+}
+
+fn options(alloc: Global, words: &Words) -> ParkOptions {
+    ParkOptions {
+        builders: bytes(alloc, words.builders),
+        system: bytes(alloc, "x86_64-linux"),
+        extra: bytes(alloc, ""),
+        features: bytes(alloc, ""),
         jobs: words.jobs,
         keep_going: false,
         check_paths: false,
-        info: ByteString::from_slice(alloc, words.info.as_bytes())?,
-    })
+        info: bytes(alloc, words.info),
+    }
 }
 
 /// What `run` is given by these words and this bundle.
@@ -42,34 +60,32 @@ pub fn given<R: Threads + Sync>(
     alloc: Global,
     words: &Words,
     bundle: &str,
-) -> Result<RunInputs, CliFault> {
-    let options = options(alloc, words)?;
-    let stand = words.stand.as_bytes();
-    run_inputs(
+) -> Result<Seen, CliFault> {
+    let options = options(alloc, words);
+    let mut input = Told::new(bundle.as_bytes());
+    let RunInputs { dispatch, rules } = run_inputs(
         rt,
         alloc,
         &options,
-        stand,
-        &mut Told::new(bundle.as_bytes()),
-    )
+        words.stand.as_bytes(),
+        &mut input,
+    )?;
+    Ok(Seen {
+        sizes: (
+            dispatch.graph().len(),
+            dispatch.machines().len(),
+            dispatch.history().len(),
+        ),
+        rules,
+        places: places(alloc, &dispatch),
+    })
 }
 
-/// Whether `run` refuses these words and this bundle with this status and line.
-pub fn is_refused<R: Threads + Sync>(
-    rt: &R,
-    alloc: Global,
-    words: &Words,
-    bundle: &str,
-    said: &str,
-) -> bool {
-    match given(rt, alloc, words, bundle) {
-        Ok(_) => false,
-        Err(fault) => says(alloc, &fault, said),
-    }
-}
-
-/// Whether a fault has this status and line.
-pub fn says(alloc: Global, fault: &CliFault, said: &str) -> bool {
+/// Whether this answer is a refusal with this status and line.
+pub fn is_refused<T: Drop>(alloc: Global, answer: Result<T, CliFault>, said: &str) -> bool {
+    let Err(fault) = answer else {
+        return false;
+    };
     let status = fault.status();
     match format!(in alloc; "{status} {fault}") {
         Ok(line) => line.as_str() == said,

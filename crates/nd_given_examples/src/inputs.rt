@@ -1,7 +1,6 @@
 //! What is accepted, and the first refusal.
 
 use crate::giving::{PLAIN, Words, given, is_refused};
-use nd_run::RunInputs;
 use nd_script::Rule;
 use std::alloc::Global;
 use std::thread::Threads;
@@ -13,27 +12,15 @@ const WORDS: Words = Words {
     stand: "lose 0\nnoconnect 1\n",
 };
 
-/// Whether this is one derivation, one builder, no history and the rules of `WORDS`.
-fn is_accepted(given: &RunInputs) -> bool {
-    let dispatch = &given.dispatch;
-    if dispatch.graph().len() != 1 || dispatch.machines().len() != 1 {
-        return false;
-    }
-    if !dispatch.history().is_empty() {
-        return false;
-    }
-    match given.rules.as_slice() {
-        [Rule::Lose(0), Rule::NoConnect(1)] => true,
-        _ => false,
-    }
-}
-
-/// Whether `WORDS` are accepted.
+/// Whether `WORDS` give one derivation, one builder, no history and their two rules.
 fn are_accepted<R: Threads + Sync>(rt: &R, alloc: Global) -> bool {
-    match given(rt, alloc, &WORDS, PLAIN) {
-        Ok(given) => is_accepted(&given),
-        Err(_) => false,
+    let Ok(seen) = given(rt, alloc, &WORDS, PLAIN) else {
+        return false;
+    };
+    if seen.sizes != (1, 1, 0) {
+        return false;
     }
+    matches!(seen.rules.as_slice(), [Rule::Lose(0), Rule::NoConnect(1)])
 }
 
 #[test]
@@ -50,16 +37,19 @@ fn first_refusals(rt: HostRuntime) {
         info: "\n",
         stand: "lose 1",
     };
-    let builders = "3 nix-dispatch: builders: Uri 1";
-    assert!(rt; is_refused(&rt, alloc, &all, "x\n", "3 nix-dispatch: drvs: BadLine 1"));
-    assert!(rt; is_refused(&rt, alloc, &all, PLAIN, builders));
     let later = Words {
         builders: "m",
         ..all
     };
-    assert!(rt; is_refused(&rt, alloc, &later, PLAIN, "3 nix-dispatch: info: BadLine 1"));
     let last = Words { info: "", ..later };
-    assert!(rt; is_refused(&rt, alloc, &last, PLAIN, "3 nix-dispatch: stand: BadLine 1"));
+    let drvs = given(&rt, alloc, &all, "x\n");
+    assert!(rt; is_refused(alloc, drvs, "3 nix-dispatch: drvs: BadLine 1"));
+    let builders = given(&rt, alloc, &all, PLAIN);
+    assert!(rt; is_refused(alloc, builders, "3 nix-dispatch: builders: Uri 1"));
+    let info = given(&rt, alloc, &later, PLAIN);
+    assert!(rt; is_refused(alloc, info, "3 nix-dispatch: info: BadLine 1"));
+    let stand = given(&rt, alloc, &last, PLAIN);
+    assert!(rt; is_refused(alloc, stand, "3 nix-dispatch: stand: BadLine 1"));
 }
 
 #[test]
@@ -68,6 +58,6 @@ fn machines_of_a_stand_text(rt: HostRuntime) {
         stand: "noconnect 0\nnocopy 1\nnocopy 2\n",
         ..WORDS
     };
-    let said = "3 nix-dispatch: stand: BadLine 3";
-    assert!(rt; is_refused(&rt, rt.alloc(), &words, PLAIN, said));
+    let answer = given(&rt, rt.alloc(), &words, PLAIN);
+    assert!(rt; is_refused(rt.alloc(), answer, "3 nix-dispatch: stand: BadLine 3"));
 }

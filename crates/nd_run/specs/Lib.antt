@@ -1,1 +1,4 @@
 pub mod Given
+pub mod Seats
+pub mod Ended
+pub mod Ran

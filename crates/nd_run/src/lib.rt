@@ -1,6 +1,12 @@
-//! The command `run`: what it is given.
+//! The command `run`: what it is given, the places of its park, and what it writes of a run with
+//! stand-ins on threads.
 #![tactic(auto)]
 
+mod ending;
+pub mod engine;
 pub mod given;
+pub mod seating;
 
+pub use engine::run_engine;
 pub use given::{RunInputs, run_inputs};
+pub use seating::places;

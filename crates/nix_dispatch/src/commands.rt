@@ -1,6 +1,7 @@
 //! What each command does with its words.
 
-use crate::files::{read_file, text_or_file};
+use crate::files::{file_or_nothing, read_file, text_or_file};
+use crate::stand_ins::run_stand_ins;
 use crate::words;
 use clap::ArgMatches;
 use clap::error::ErrorKind;
@@ -11,11 +12,12 @@ use nd_hook::Told;
 use std::alloc::Global;
 use std::io::{self, BufWriter};
 use std::rt::Files;
+use std::sync::Wait;
 use std::thread::Threads;
 
 /// Runs the command that the words name, and answers the exit status. Help that is asked for goes
 /// to standard output with status 0, a word that isn't understood to standard error with status 2.
-pub fn run<'a, R: Files + Input + Print + Eprint + AllocGlobal + Threads + Sync>(
+pub fn run<'a, R: Files + Input + Print + Eprint + AllocGlobal + Threads + Wait + Sync>(
     rt: &R,
     alloc: Global,
     given: &'a [String],
@@ -37,6 +39,7 @@ pub fn run<'a, R: Files + Input + Print + Eprint + AllocGlobal + Threads + Sync>
         Some(("path", options)) => path(rt, alloc, options),
         Some(("sim", options)) => sim(rt, alloc, options),
         Some(("audit", options)) => audit(rt, alloc, options),
+        Some(("run", options)) => run_stand_ins(rt, alloc, options),
         Some((_, options)) => ask(rt, alloc, options),
         None => Ok(0),
     };
@@ -127,16 +130,13 @@ fn audit<R: Files + Input + Print + AllocGlobal + Threads + Sync>(
 
 /// The options of a command over a bundle. The files that they name are read here, the builders list
 /// before the info text.
-fn park_options<R: Files>(
+pub(crate) fn park_options<R: Files>(
     rt: &R,
     alloc: Global,
     options: &ArgMatches,
 ) -> Result<ParkOptions, CliFault> {
     let builders = text_or_file(rt, alloc, options.get_str("builders").unwrap_or(""))?;
-    let info = match options.get_str("info") {
-        Some(name) => read_file(rt, alloc, name)?,
-        None => ByteString::new(Vec::new(alloc)),
-    };
+    let info = file_or_nothing(rt, alloc, options.get_str("info"))?;
     Ok(ParkOptions {
         builders,
         system: text_of(alloc, options, "system")?,

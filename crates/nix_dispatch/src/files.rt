@@ -16,6 +16,18 @@ pub fn text_or_file<R: Files>(rt: &R, alloc: Global, value: &str) -> Result<Byte
     }
 }
 
+/// The bytes of the file of an option, and none without the option.
+pub fn file_or_nothing<R: Files>(
+    rt: &R,
+    alloc: Global,
+    name: Option<&str>,
+) -> Result<ByteString, CliFault> {
+    match name {
+        Some(name) => read_file(rt, alloc, name),
+        None => Ok(ByteString::new(Vec::new(alloc))),
+    }
+}
+
 /// The bytes of a file, to its end or to one byte past the limit of an input.
 ///
 /// `Read`: it can't be opened, or a read was refused. `Memory`.

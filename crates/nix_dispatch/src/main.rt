@@ -7,11 +7,13 @@
 
 mod commands;
 mod files;
+mod stand_ins;
 mod words;
 
 use nd_cli::CliFault;
 use std::process::ExitCode;
 use std::rt::{Env, Files};
+use std::sync::Wait;
 use std::thread::Threads;
 use std::{env, io};
 
@@ -24,7 +26,9 @@ fn main(rt: HostRuntime) -> ExitCode {
 
 /// Reads the words of the command line, runs the command that they name, and answers the exit
 /// status.
-fn program<R: Env + Files + Input + Print + Eprint + AllocGlobal + Threads + Sync>(rt: &R) -> u8 {
+fn program<R: Env + Files + Input + Print + Eprint + AllocGlobal + Threads + Wait + Sync>(
+    rt: &R,
+) -> u8 {
     let given = match env::args(rt) {
         Ok(given) => given,
         Err(error) => return words_refused(rt, &error),

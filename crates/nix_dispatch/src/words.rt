@@ -13,7 +13,8 @@ pub fn command_line<'a>(alloc: Global) -> Result<Command<'a>, AllocError> {
         .subcommand(path_command(alloc)?)?
         .subcommand(ask_command(alloc)?)?
         .subcommand(sim_command(alloc)?)?
-        .subcommand(audit_command(alloc)?)
+        .subcommand(audit_command(alloc)?)?
+        .subcommand(run_command(alloc)?)
 }
 
 fn path_command<'a>(alloc: Global) -> Result<Command<'a>, AllocError> {
@@ -53,6 +54,20 @@ fn audit_command<'a>(alloc: Global) -> Result<Command<'a>, AllocError> {
         "Says whether a history is a legal one over the bundle on standard input, and else why not",
     );
     with_park_options(alloc, command)?.arg(history)
+}
+
+fn run_command<'a>(alloc: Global) -> Result<Command<'a>, AllocError> {
+    let command = Command::new(alloc, "run").about(
+        "Builds the bundle on standard input with stand-ins for the machines, and writes the history",
+    );
+    let stand = text_option(alloc, "stand", "FILE").help(
+        "What the stand-ins answer: a line for each rule",
+    );
+    let report = Arg::new(alloc, "report")
+        .long("report")
+        .action(ArgAction::SetTrue)
+        .help("Writes the report behind the history");
+    with_park_options(alloc, command)?.arg(stand)?.arg(report)
 }
 
 /// The options of the commands over a bundle.
