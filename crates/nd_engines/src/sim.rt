@@ -52,11 +52,7 @@ pub fn sim_engine<R: Read, W: Write>(
 }
 
 /// Does what the commands say on the dispatch, which ends here.
-fn perform<W: Write>(
-    alloc: Global,
-    given: SimInputs,
-    output: &mut Told<W>,
-) -> Result<u8, SimFault>
+fn perform<W: Write>(alloc: Global, given: SimInputs, output: &mut Told<W>) -> Result<u8, SimFault>
     requires begun { given.dispatch.history ≡ [] }
     requires named { All (IsNamed given.dispatch.inputs) given.commands.items }
     ensures written { IfOk result (λ status. WritesSimulation given.dispatch.inputs given.commands.items status (W.contents output.old.device) (W.contents output.new.device)) }

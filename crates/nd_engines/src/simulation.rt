@@ -16,9 +16,9 @@ use std::alloc::Global;
 use std::io;
 
 /// Pumps, and then for each command does what it asks for and pumps again; then writes the report of
-/// how the dispatch stands, and has the writer pass on what it holds back. Each entry's line is written as it is made, a refused command as `refused`
-/// and the refusal's name, and a reply as the hook gives it. The answer is the exit status: 1 where a
-/// derivation failed or was cancelled, and else 0.
+/// how the dispatch stands, and has the writer pass on what it holds back. Each entry's line is written
+/// as it is made, a refused command as `refused` and the refusal's name, and a reply as the hook gives
+/// it. The answer is the exit status: 1 where a derivation failed or was cancelled, and else 0.
 ///
 /// Refuses with `Write` (1), where the device refused a write and is marked, and with `Memory` (2) where
 /// an allocation is refused. The beginning of the text is out then.

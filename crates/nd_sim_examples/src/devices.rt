@@ -91,7 +91,13 @@ const SIMULATED: &str = "\
 const HISTORY: &[u8] = b"nix-dispatch-history 1\nchosen 0 1 0\n";
 
 /// Whether `sim` answers so on these devices.
-fn sim_on<R: Threads + Sync>(rt: &R, alloc: Global, reads: usize, writes: usize, want: Want) -> bool {
+fn sim_on<R: Threads + Sync>(
+    rt: &R,
+    alloc: Global,
+    reads: usize,
+    writes: usize,
+    want: Want,
+) -> bool {
     let setup = Setup {
         reads,
         writes,

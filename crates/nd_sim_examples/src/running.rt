@@ -112,12 +112,7 @@ pub fn audits<R: Threads + Sync>(
 }
 
 /// Whether this is the wanted answer, with what was written.
-fn is_answer(
-    alloc: Global,
-    answer: Result<u8, CliFault>,
-    written: &[u8],
-    want: Want<'_>,
-) -> bool {
+fn is_answer(alloc: Global, answer: Result<u8, CliFault>, written: &[u8], want: Want<'_>) -> bool {
     match (answer, want) {
         (Ok(status), Want::Written(text, wanted)) => status == wanted && written == text.as_bytes(),
         (Err(fault), Want::Refused(line)) => {
@@ -185,7 +180,14 @@ pub fn says_of<R: Threads + Sync + AllocGlobal>(
     status: u8,
 ) -> bool {
     let want = Want::Written(line, status);
-    audits(rt, rt.alloc(), bundle.as_bytes(), setup, history.as_bytes(), want)
+    audits(
+        rt,
+        rt.alloc(),
+        bundle.as_bytes(),
+        setup,
+        history.as_bytes(),
+        want,
+    )
 }
 
 /// Whether `audit` refuses an input with this line.
@@ -197,5 +199,12 @@ pub fn refuses_history<R: Threads + Sync + AllocGlobal>(
     line: &str,
 ) -> bool {
     let want = Want::Refused(line);
-    audits(rt, rt.alloc(), bundle.as_bytes(), setup, history.as_bytes(), want)
+    audits(
+        rt,
+        rt.alloc(),
+        bundle.as_bytes(),
+        setup,
+        history.as_bytes(),
+        want,
+    )
 }

@@ -77,7 +77,12 @@ fn bundles_cut_off(rt: HostRuntime) {
 /// ends with a line, and else refused for the line that is cut.
 fn is_cut_history<R: Threads + Sync>(rt: &R, alloc: Global, front: &[u8]) -> bool {
     let Some(entries) = lines_before(front).checked_sub(1) else {
-        return is_audited(rt, alloc, front, Want::Refused("nix-dispatch: history: Version"));
+        return is_audited(
+            rt,
+            alloc,
+            front,
+            Want::Refused("nix-dispatch: history: Version"),
+        );
     };
     if front.ends_with(b"\n") {
         return match format!(in alloc; "legal {entries}\n") {
@@ -94,7 +99,14 @@ fn is_cut_history<R: Threads + Sync>(rt: &R, alloc: Global, front: &[u8]) -> boo
 
 /// Whether `audit` answers so for the stored run's bundle and a history.
 fn is_audited<R: Threads + Sync>(rt: &R, alloc: Global, history: &[u8], want: Want) -> bool {
-    audits(rt, alloc, CHAIN.as_bytes(), &builders("m", 0), history, want)
+    audits(
+        rt,
+        alloc,
+        CHAIN.as_bytes(),
+        &builders("m", 0),
+        history,
+        want,
+    )
 }
 
 /// Whether it is so of each front of the stored run's history.

@@ -23,6 +23,7 @@ pub returns-in-Err-clause-refused : goal.returns-in-Err-clause-refused
 returns-in-Err-clause-refused c =
     let i = c.args.dispatch.now.inputs in
     let all : c.len-drvs.result ≡ length i.graph.paths = c.len-drvs.ensures.len ∙ ap (λ (nodes : Nodes). length nodes.paths) c.graph.ensures in
-    let park : length c.machines.result.now + 1 ≡ machines_in i = ap (λ (machines : List Builder). length machines + 1) c.machines.ensures.value in
-    (c.if-script-gt-LIMIT.false,
-    script_refused i c.len-drvs.result (length c.machines.result.now + 1) c.args.script.now c.in-Err.refusal all park c.in-Err.ensures.refused)
+    let park : length c.machines.result.now + 1 ≡ machines_in i = ap (λ (machines : List Builder). length machines + 1) c.machines.ensures.value in (
+      c.if-script-gt-LIMIT.false,
+      script_refused i c.len-drvs.result (length c.machines.result.now + 1) c.args.script.now c.in-Err.refusal all park c.in-Err.ensures.refused,
+    )
