@@ -9,7 +9,8 @@ the table has the seconds and the peak memory of one run, how both compare to th
 linear.
 
 After `ask` come the commands over a dispatch, on plain lines: `sim` with a script that starts and
-builds every derivation, and `audit` of the history that this simulation wrote.
+builds every derivation, and `audit` of the history that this simulation wrote; and `run` of 2,000
+plain lines on 1, 8 and 64 slots of one machine.
 """
 
 import base64
@@ -228,6 +229,16 @@ def dispatched(program, folder):
             sys.exit(f"audit: {said!r}")
 
 
+def runs(program, folder):
+    bundle = os.path.join(folder, "bundle")
+    with open(bundle, "w", encoding="ascii") as out:
+        out.write(plain(2_000))
+    bytes_in = os.path.getsize(bundle)
+    for slots in (1, 8, 64):
+        words = ["run", "--builders", f"m - - {slots}", "--jobs", "0"]
+        Table(f"plain lines, {slots} slots").line("run", 2_000, bytes_in, *best_of(program, words, bundle))
+
+
 def main():
     if sys.argv[1:2] == ["--make"]:
         name, size, file = sys.argv[2:]
@@ -242,6 +253,7 @@ def main():
     with tempfile.TemporaryDirectory() as folder:
         ask(program, folder)
         dispatched(program, folder)
+        runs(program, folder)
 
 
 if __name__ == "__main__":

@@ -2,7 +2,7 @@
 # Refuses the first, second, third allocation of the built program and so on, until a run meets none,
 # for `ask`, `path`, `sim` and `audit`. Each run must end with the ample output and its status, or with
 # status 5, the line "nix-dispatch: out of memory" and no output, or for `sim` the beginning of the ample
-# output. Then it does so to the built test
+# output. A run ends in one of its ways, and its history is legal. Then it does so to the built test
 # `allocations_refused` of `nd_lease_examples`, which looks at what a refused call on a dispatch leaves: each
 # run of it must pass. It needs a C compiler, the program, and the tests that `rt test` leaves.
 set -u
@@ -52,6 +52,30 @@ sed 's/^[^ ]* //' crates/nix_dispatch/stdin | tr -d '\n' > "$work/text"
 sweep "$work/text" path n0.drv
 sweep examples/farm/bundle sim --builders @examples/farm/builders --keep-going --script examples/farm/script
 sweep examples/farm/bundle audit --builders @examples/farm/builders --keep-going --history examples/farm/history
+
+# A run may go on without what it couldn't have: a lease then fails for want of memory, or its stand-in
+# is lost. So it is refused, and writes nothing; or it ends, with a fault or without, and the history that
+# it writes is legal.
+number=1
+refused=0
+last=0
+while [ "$number" -le $((last + 200)) ]; do
+  REFUSE=$number LD_PRELOAD="$work/refuse.so" "$program" run --builders m --jobs 0 \
+    < crates/nix_dispatch/stdin > "$work/out" 2> "$work/err"
+  status=$?
+  if [ -s "$work/out" ]; then
+    verdict=$("$program" audit --builders m --jobs 0 --history "$work/out" < crates/nix_dispatch/stdin)
+  else
+    verdict='legal 0'
+  fi
+  case $status.$verdict in
+    [015].'legal '*) ;;
+    *) echo "run: allocation $number refused: status $status, $verdict"; exit 1 ;;
+  esac
+  [ "$status" -eq 0 ] && [ "$verdict" = 'legal 9' ] || { refused=$((refused + 1)); last=$number; }
+  number=$((number + 1))
+done
+echo "run: $refused runs were not the ample one, the last at allocation $last, and each history is legal"
 
 tests=crates/nd_lease_examples/out/nd_lease_examples_tests
 number=1

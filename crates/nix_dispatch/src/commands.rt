@@ -43,6 +43,7 @@ pub fn run<'a, R: Files + Input + Print + Eprint + AllocGlobal + Threads + Wait 
         Some((_, options)) => ask(rt, alloc, options),
         None => Ok(0),
     };
+    drop(matches);
     match answer {
         Ok(status) => status,
         Err(fault) => told(rt, &fault),
@@ -75,18 +76,20 @@ fn ask<R: Files + Input + Print + AllocGlobal + Threads + Sync>(
     alloc: Global,
     options: &ArgMatches,
 ) -> Result<u8, CliFault> {
-    let options = park_options(rt, alloc, options)?;
+    let park = match park_options(rt, alloc, options) {
+        Ok(park) => park,
+        Err(fault) => return Err(fault),
+    };
     let Ok(buffered) = BufWriter::new(alloc, io::writer(rt)) else {
+        drop(park);
         return Err(CliFault::Memory);
     };
     let mut output = Told::new(buffered);
-    ask_engine(
-        rt,
-        alloc,
-        &options,
-        &mut Told::new(rt.reader()),
-        &mut output,
-    )
+    let mut input = Told::new(rt.reader());
+    let answer = ask_engine(rt, alloc, &park, &mut input, &mut output);
+    drop(output);
+    drop(park);
+    answer
 }
 
 fn sim<R: Files + Input + Print + AllocGlobal + Threads + Sync>(
@@ -94,20 +97,29 @@ fn sim<R: Files + Input + Print + AllocGlobal + Threads + Sync>(
     alloc: Global,
     options: &ArgMatches,
 ) -> Result<u8, CliFault> {
-    let park = park_options(rt, alloc, options)?;
-    let script = read_file(rt, alloc, options.get_str("script").unwrap_or(""))?;
+    let park = match park_options(rt, alloc, options) {
+        Ok(park) => park,
+        Err(fault) => return Err(fault),
+    };
+    let script = match read_file(rt, alloc, options.get_str("script").unwrap_or("")) {
+        Ok(script) => script,
+        Err(fault) => {
+            drop(park);
+            return Err(fault);
+        }
+    };
     let Ok(buffered) = BufWriter::new(alloc, io::writer(rt)) else {
+        drop(script);
+        drop(park);
         return Err(CliFault::Memory);
     };
     let mut output = Told::new(buffered);
-    sim_engine(
-        rt,
-        alloc,
-        &park,
-        script.as_slice(),
-        &mut Told::new(rt.reader()),
-        &mut output,
-    )
+    let mut input = Told::new(rt.reader());
+    let answer = sim_engine(rt, alloc, &park, script.as_slice(), &mut input, &mut output);
+    drop(output);
+    drop(script);
+    drop(park);
+    answer
 }
 
 fn audit<R: Files + Input + Print + AllocGlobal + Threads + Sync>(
@@ -115,17 +127,30 @@ fn audit<R: Files + Input + Print + AllocGlobal + Threads + Sync>(
     alloc: Global,
     options: &ArgMatches,
 ) -> Result<u8, CliFault> {
-    let park = park_options(rt, alloc, options)?;
-    let history = read_file(rt, alloc, options.get_str("history").unwrap_or(""))?;
+    let park = match park_options(rt, alloc, options) {
+        Ok(park) => park,
+        Err(fault) => return Err(fault),
+    };
+    let history = match read_file(rt, alloc, options.get_str("history").unwrap_or("")) {
+        Ok(history) => history,
+        Err(fault) => {
+            drop(park);
+            return Err(fault);
+        }
+    };
     let mut output = Told::new(io::writer(rt));
-    audit_engine(
+    let mut input = Told::new(rt.reader());
+    let verdict = audit_engine(
         rt,
         alloc,
         &park,
         history.as_slice(),
-        &mut Told::new(rt.reader()),
+        &mut input,
         &mut output,
-    )
+    );
+    drop(history);
+    drop(park);
+    verdict
 }
 
 /// The options of a command over a bundle. The files that they name are read here, the builders list

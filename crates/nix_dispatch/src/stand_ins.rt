@@ -53,10 +53,16 @@ fn inputs<R: Files + Input + Threads + Sync>(
     };
     let stand = match file_or_nothing(rt, alloc, options.get_str("stand")) {
         Ok(stand) => stand,
-        Err(fault) => return Err(fault),
+        Err(fault) => {
+            drop(park);
+            return Err(fault);
+        }
     };
     let mut input = Told::new(rt.reader());
-    run_inputs(rt, alloc, &park, stand.as_slice(), &mut input)
+    let given = run_inputs(rt, alloc, &park, stand.as_slice(), &mut input);
+    drop(stand);
+    drop(park);
+    given
 }
 
 /// A stand-in for each place of the park.
@@ -124,11 +130,13 @@ fn run_seated<R: Print + AllocGlobal + Threads + Wait + Sync>(
             transport,
         };
         if workers.push(worker).is_err() {
+            drop(workers);
             drop(dispatch);
             return Err(CliFault::Memory);
         }
     }
     let Ok(buffer) = BufWriter::new(alloc, io::writer(rt)) else {
+        drop(workers);
         drop(dispatch);
         return Err(CliFault::Memory);
     };
