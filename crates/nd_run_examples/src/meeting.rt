@@ -3,10 +3,10 @@
 ghost use Rattle.std.specs.Prelude.{◌≡◌};
 ghost use Rattle.nd_transports.specs.Calls.{Builds};
 
-use crate::parks::dispatch;
+use crate::parks::{close, dispatch, ran};
 use nd_closure::Refs;
 use nd_ledger::Job;
-use nd_workers::running::run_with;
+use nd_workers::run_end::Ran;
 use nd_workers::{Ended, Phase, Seat, StandIn, Transport};
 use std::alloc::{AllocError, Global};
 use std::sync::atomic::{AtomicU64, Ordering};
@@ -88,44 +88,76 @@ impl Transport for Meets {
     }
 }
 
-/// A worker whose transport meets the others.
-fn seat(
-    alloc: Global,
+/// Puts a worker whose transport meets the others on this place.
+fn push_seat(
+    seats: &mut Vec<Seat<Meets>>,
     machine: u32,
     slot: u32,
-    meeting: &Arc<Meeting, Global>,
-) -> Option<Seat<Meets>> {
-    let meeting = Arc::try_clone(meeting).ok()?;
-    let stand = StandIn::new(machine, Vec::new(alloc));
-    Some(Seat {
-        machine,
-        slot,
-        transport: Meets { stand, meeting },
-    })
+    stand: StandIn,
+    meeting: Arc<Meeting, Global>,
+) -> bool {
+    seats
+        .push(Seat {
+            machine,
+            slot,
+            transport: Meets { stand, meeting },
+        })
+        .is_ok()
 }
 
-/// Three workers that meet.
-fn seats(alloc: Global) -> Option<Vec<Seat<Meets>>> {
+/// Puts three workers that meet on their places.
+fn push_seats(
+    alloc: Global,
+    seats: &mut Vec<Seat<Meets>>,
+    meeting: &Arc<Meeting, Global>,
+) -> Option<()> {
+    for place in [(1, 0), (1, 1), (2, 0)] {
+        let known = Arc::try_clone(meeting).ok()?;
+        let stand = StandIn::new(place.0, Vec::new(alloc));
+        push_seat(seats, place.0, place.1, stand, known);
+    }
+    Some(())
+}
+
+/// Three workers that meet; fewer where memory is wanting.
+fn seats(alloc: Global) -> Vec<Seat<Meets>> {
+    let mut seats = Vec::new(alloc);
     let meeting = Meeting {
         copies: AtomicU64::new(0),
         builds: AtomicU64::new(0),
     };
-    let meeting = Arc::new(alloc, meeting).ok()?;
-    let mut seats = Vec::new(alloc);
-    for place in [(1, 0), (1, 1), (2, 0)] {
-        seats.push(seat(alloc, place.0, place.1, &meeting)?).ok()?;
+    if let Ok(meeting) = Arc::new(alloc, meeting) {
+        push_seats(alloc, &mut seats, &meeting);
     }
-    Some(seats)
+    seats
+}
+
+/// How many derivations were built, where the run ended without a fault.
+fn built_in(end: Ran<Meets>) -> Option<usize> {
+    let Ran {
+        dispatch,
+        workers: _,
+        receipts: _,
+        fault,
+    } = end;
+    let built = dispatch.counts().built;
+    close(dispatch);
+    match fault {
+        None => Some(built),
+        Some(_) => None,
+    }
 }
 
 /// How many derivations three workers that meet build, where the run ends without a fault.
 fn built<R: Threads + Wait + Sync>(rt: &R, alloc: Global) -> Option<usize> {
     let opened = dispatch(alloc, 3, false, "m - - 2;n")?;
-    let end = run_with(rt, opened, seats(alloc)?).ok()?;
-    if end.fault.is_some() {
-        return None;
+    match ran(rt, opened, seats(alloc)) {
+        Ok(end) => built_in(end),
+        Err(refused) => {
+            close(refused.dispatch);
+            None
+        }
     }
-    Some(end.dispatch.counts().built)
 }
 
 #[test]

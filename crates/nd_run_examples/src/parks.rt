@@ -8,8 +8,12 @@ use nd_graph::Graph;
 use nd_graph::plain::read_bundle;
 use nd_ledger::Dispatch;
 use nd_machines::{FeatureSet, Machine, parse_builders};
-use nd_workers::{Rule, Seat, StandIn};
+use nd_workers::run_end::{NotRun, Ran};
+use nd_workers::running::run_with;
+use nd_workers::{Rule, Seat, StandIn, Transport};
 use std::alloc::Global;
+use std::sync::Wait;
+use std::thread::Threads;
 
 /// The local machine, without jobs.
 fn local(alloc: Global) -> Option<Local> {
@@ -32,13 +36,13 @@ fn machines(alloc: Global, builders: &str) -> Option<Vec<Machine>> {
 
 /// A dispatch over so many nodes and these builders alone, which doesn't go on after a failure.
 pub fn dispatch(alloc: Global, nodes: u8, is_chain: bool, builders: &str) -> Option<Dispatch> {
-    let graph = graph(alloc, nodes, is_chain)?;
-    let machines = machines(alloc, builders)?;
     let local = local(alloc)?;
     let info = parse_info(alloc, b"").ok()?;
+    let machines = machines(alloc, builders)?;
     if machines.len() > 1024 {
         return None;
     }
+    let graph = graph(alloc, nodes, is_chain)?;
     Dispatch::new(alloc, graph, machines, local, info, false).ok()
 }
 
@@ -63,18 +67,55 @@ pub fn stand_at(
     })
 }
 
-/// So many workers on the slots of machine 1.
-pub fn stands(alloc: Global, count: u32) -> Option<Vec<Seat<StandIn>>> {
+/// So many workers on the slots of machine 1; fewer where memory is wanting.
+pub fn stands(alloc: Global, count: u32) -> Vec<Seat<StandIn>> {
     let mut seats = Vec::new(alloc);
     for slot in 0..count {
-        let transport = StandIn::new(1, Vec::new(alloc));
-        seats
-            .push(Seat {
-                machine: 1,
-                slot,
-                transport,
-            })
-            .ok()?;
+        push_stand(&mut seats, slot, StandIn::new(1, Vec::new(alloc)));
     }
-    Some(seats)
+    seats
+}
+
+/// Puts a worker on this slot of machine 1.
+fn push_stand(seats: &mut Vec<Seat<StandIn>>, slot: u32, transport: StandIn) -> bool {
+    seats
+        .push(Seat {
+            machine: 1,
+            slot,
+            transport,
+        })
+        .is_ok()
+}
+
+/// Runs a dispatch. No test asks for what the run promises, so that this alone is proved beside it.
+pub fn ran<T: Transport, R: Threads + Wait + Sync>(
+    rt: &R,
+    opened: Dispatch,
+    seats: Vec<Seat<T>>,
+) -> Result<Ran<T>, NotRun<T>> {
+    run_with(rt, opened, seats)
+}
+
+/// Lets go of a dispatch. The end of so large a value is long to prove, so that it is proved once.
+pub fn close(_dispatch: Dispatch) {}
+
+/// Lets go of what came back of a run.
+pub fn close_run(end: Ran<StandIn>) {
+    let Ran {
+        dispatch,
+        workers: _,
+        receipts: _,
+        fault: _,
+    } = end;
+    close(dispatch);
+}
+
+/// Lets go of what a refused run handed back.
+pub fn close_refused(refused: NotRun<StandIn>) {
+    let NotRun {
+        why: _,
+        dispatch,
+        workers: _,
+    } = refused;
+    close(dispatch);
 }

@@ -1,13 +1,14 @@
 //! The worked examples of runs.
 
-use crate::parks::{dispatch, stand_at, stands};
+use crate::parks::{close, close_refused, close_run, dispatch, ran, stand_at, stands};
 use crate::telling::told;
 use nd_closure::Refs;
 use nd_ledger::Dispatch;
 use nd_path::{PathSet, StorePath};
-use nd_workers::run_end::Ran;
-use nd_workers::running::{run, run_with};
-use nd_workers::{Receipt, Rule, RunRefusal, Seat, StandIn, Transport, Worker, abandon};
+use nd_workers::run_end::{NotRun, Ran};
+use nd_workers::{
+    Receipt, Rule, RunEnd, RunRefusal, Seat, StandIn, Transport, Worker, abandon, run,
+};
 use std::alloc::Global;
 use std::sync::Wait;
 use std::test::Fail;
@@ -89,32 +90,30 @@ fn rule_of(alloc: Global, stand: Stand) -> Option<Rule> {
     }
 }
 
-/// Workers on these places, whose stand-ins do so.
-fn workers(alloc: Global, places: &[(u32, u32)], stand: Stand) -> Option<Vec<Seat<StandIn>>> {
-    let mut seats = Vec::new(alloc);
-    for place in places {
-        let rule = rule_of(alloc, stand)?;
-        let passes = match stand {
-            Stand::Fuse(passes) => Some(passes),
-            _ => None,
-        };
-        seats
-            .push(stand_at(alloc, place.0, place.1, rule, passes)?)
-            .ok()?;
-    }
-    Some(seats)
+/// Puts a worker on this place, whose stand-in does so.
+fn push_worker(
+    alloc: Global,
+    seats: &mut Vec<Seat<StandIn>>,
+    place: (u32, u32),
+    stand: Stand,
+) -> Option<()> {
+    let passes = match stand {
+        Stand::Fuse(passes) => Some(passes),
+        _ => None,
+    };
+    let rule = rule_of(alloc, stand)?;
+    seats
+        .push(stand_at(alloc, place.0, place.1, rule, passes)?)
+        .ok()
 }
 
-/// The end of a run by such workers.
-fn ran<R: Threads + Wait + Sync>(
-    rt: &R,
-    alloc: Global,
-    dispatch: Dispatch,
-    places: &[(u32, u32)],
-    stand: Stand,
-) -> Option<Ran<StandIn>> {
-    let seats = workers(alloc, places, stand)?;
-    run_with(rt, dispatch, seats).ok()
+/// Workers on these places, whose stand-ins do so; fewer where memory is wanting.
+fn workers(alloc: Global, places: &[(u32, u32)], stand: Stand) -> Vec<Seat<StandIn>> {
+    let mut seats = Vec::new(alloc);
+    for place in places {
+        push_worker(alloc, &mut seats, *place, stand);
+    }
+    seats
 }
 
 /// The one place of a park with one slot.
@@ -123,7 +122,14 @@ const ONE: &[(u32, u32)] = &[(1, 0)];
 /// The places of two machines with a slot each.
 const TWO: &[(u32, u32)] = &[(1, 0), (2, 0)];
 
-/// Whether a run over so many nodes ends without a fault and with these lines.
+/// Whether a run ended without a fault and with these lines.
+fn is_end(alloc: Global, end: Ran<StandIn>, lines: &str) -> bool {
+    let right = end.fault.is_none() && has_lines(alloc, &end.dispatch, lines);
+    close_run(end);
+    right
+}
+
+/// Whether a run of this dispatch ends without a fault and with these lines.
 fn gives<R: Threads + Wait + Sync>(
     rt: &R,
     alloc: Global,
@@ -135,13 +141,26 @@ fn gives<R: Threads + Wait + Sync>(
     let Some(opened) = opened else {
         return false;
     };
-    match ran(rt, alloc, opened, places, stand) {
-        Some(end) => end.fault.is_none() && has_lines(alloc, &end.dispatch, lines),
-        None => false,
+    match ran(rt, opened, workers(alloc, places, stand)) {
+        Ok(end) => is_end(alloc, end, lines),
+        Err(refused) => {
+            close_refused(refused);
+            false
+        }
     }
 }
 
-/// Whether these are the receipts of the first worker of a run over a plain node.
+/// Whether these are the receipts of the two workers of a run.
+fn are_receipts(receipts: &[Vec<Receipt>], first: &[(usize, u8)], second: &[(usize, u8)]) -> bool {
+    match (receipts.get(0), receipts.get(1)) {
+        (Some(one), Some(two)) => {
+            has_receipts(one.as_slice(), first) && has_receipts(two.as_slice(), second)
+        }
+        _ => false,
+    }
+}
+
+/// Whether these are the receipts of the two workers of a run over a plain node.
 fn gives_receipts<R: Threads + Wait + Sync>(
     rt: &R,
     alloc: Global,
@@ -152,14 +171,16 @@ fn gives_receipts<R: Threads + Wait + Sync>(
     let Some(opened) = dispatch(alloc, 1, false, "m;n") else {
         return false;
     };
-    let Some(end) = ran(rt, alloc, opened, TWO, stand) else {
-        return false;
-    };
-    match (end.receipts.get(0), end.receipts.get(1)) {
-        (Some(one), Some(two)) => {
-            has_receipts(one.as_slice(), first) && has_receipts(two.as_slice(), second)
+    match ran(rt, opened, workers(alloc, TWO, stand)) {
+        Ok(end) => {
+            let right = are_receipts(end.receipts.as_slice(), first, second);
+            close_run(end);
+            right
         }
-        _ => false,
+        Err(refused) => {
+            close_refused(refused);
+            false
+        }
     }
 }
 
@@ -167,23 +188,37 @@ fn gives_receipts<R: Threads + Wait + Sync>(
 const STORED: &str =
     "chosen 0 1 0\nstarted 0 s1\nbuilt 0 o\nchosen 1 1 0\nstarted 1\nbuilt 1 o\nchosen 2 1 0\nstarted 2\nbuilt 2 o\n";
 
-/// Whether the stored run by this worker gives its history, and the receipts that belong to it.
-fn gives_stored<R: Threads + Wait + Sync>(rt: &R, alloc: Global, workers: Vec<Worker>) -> bool {
-    let Some(opened) = dispatch(alloc, 3, true, "m") else {
-        return false;
-    };
-    let Ok(end) = run(rt, opened, workers) else {
-        return false;
-    };
-    if end.fault.is_some() || !has_lines(alloc, &end.dispatch, STORED) {
-        return false;
-    }
-    match end.receipts.get(0) {
+/// Whether a run ended with the stored run's history, and with the receipts that belong to it.
+fn is_stored(alloc: Global, end: RunEnd) -> bool {
+    let Ran {
+        dispatch,
+        workers: _,
+        receipts,
+        fault,
+    } = end;
+    let told = has_lines(alloc, &dispatch, STORED);
+    close(dispatch);
+    let noted = match receipts.get(0) {
         Some(receipts) => has_receipts(
             receipts.as_slice(),
             &[(1, 2), (2, 1), (4, 2), (5, 1), (7, 2), (8, 1)],
         ),
         None => false,
+    };
+    told && noted && fault.is_none()
+}
+
+/// Whether the stored run by this worker gives its history, and the receipts that belong to it.
+fn gives_stored<R: Threads + Wait + Sync>(rt: &R, alloc: Global, workers: Vec<Worker>) -> bool {
+    let Some(opened) = dispatch(alloc, 3, true, "m") else {
+        return false;
+    };
+    match run(rt, opened, workers) {
+        Ok(end) => is_stored(alloc, end),
+        Err(refused) => {
+            close(refused.dispatch);
+            false
+        }
     }
 }
 
@@ -241,25 +276,33 @@ fn empty_run(rt: HostRuntime) {
     assert!(rt; gives(&rt, alloc, plain, &[], Stand::Plain, "nobuilder 0\n"));
 }
 
+/// Whether a refused run hands back so many workers and a dispatch without entries, and this cause.
+fn is_refused(alloc: Global, refused: NotRun<StandIn>, count: usize, why: RunRefusal) -> bool {
+    let right = refused.why == why
+        && refused.workers.len() == count
+        && has_lines(alloc, &refused.dispatch, "");
+    close_refused(refused);
+    right
+}
+
 /// Whether a run is refused so, and hands back the dispatch and so many workers.
 fn refuses<R: Threads + Wait + Sync>(
     rt: &R,
     alloc: Global,
     builders: &str,
-    seats: Option<Vec<Seat<StandIn>>>,
+    seats: Vec<Seat<StandIn>>,
     why: RunRefusal,
 ) -> bool {
-    let (Some(opened), Some(seats)) = (dispatch(alloc, 1, false, builders), seats) else {
+    let Some(opened) = dispatch(alloc, 1, false, builders) else {
         return false;
     };
     let count = seats.len();
-    match run_with(rt, opened, seats) {
-        Ok(_) => false,
-        Err(refused) => {
-            refused.why == why
-                && refused.workers.len() == count
-                && has_lines(alloc, &refused.dispatch, "")
+    match ran(rt, opened, seats) {
+        Ok(end) => {
+            close_run(end);
+            false
         }
+        Err(refused) => is_refused(alloc, refused, count, why),
     }
 }
 
@@ -274,36 +317,43 @@ fn refused_run(rt: HostRuntime) {
     assert!(rt; refuses(&rt, alloc, "m - - 1025", many, RunRefusal::TooManySlots));
 }
 
-/// The dispatch of two plain nodes and two slots, pumped.
-fn pumped(alloc: Global) -> Option<Dispatch> {
-    let mut opened = dispatch(alloc, 2, false, "m - - 2")?;
-    opened.pump().ok()?;
-    Some(opened)
+/// Whether two calls of `abandon` leave these lines after a pump.
+fn abandons(alloc: Global, mut opened: Dispatch, lines: &str) -> bool {
+    let pumped = opened.pump().is_ok();
+    abandon(&mut opened, ONE);
+    let once = has_lines(alloc, &opened, lines);
+    abandon(&mut opened, ONE);
+    let twice = has_lines(alloc, &opened, lines);
+    close(opened);
+    pumped && once && twice
 }
 
 #[test]
 fn abandoned(rt: HostRuntime) {
     let alloc = rt.alloc();
     let lines = "chosen 0 1 0\nchosen 1 1 1\nstop\nfailed 1 noworker\n";
-    let held = match pumped(alloc) {
-        Some(mut opened) => {
-            abandon(&mut opened, ONE);
-            let once = has_lines(alloc, &opened, lines);
-            abandon(&mut opened, ONE);
-            once && has_lines(alloc, &opened, lines)
-        }
+    let held = match dispatch(alloc, 2, false, "m - - 2") {
+        Some(opened) => abandons(alloc, opened, lines),
         None => false,
     };
     assert!(rt; held);
 }
 
+/// Drains machine 1.
+fn drain_first(opened: &mut Dispatch) -> bool {
+    if opened.machines().is_empty() {
+        return false;
+    }
+    opened.drain(1).is_ok()
+}
+
 /// The dispatch of one plain node and two machines, of which the first is drained.
 fn drained(alloc: Global) -> Option<Dispatch> {
     let mut opened = dispatch(alloc, 1, false, "m;n")?;
-    if opened.machines().is_empty() {
+    if !drain_first(&mut opened) {
+        close(opened);
         return None;
     }
-    opened.drain(1).ok()?;
     Some(opened)
 }
 
