@@ -385,14 +385,14 @@ fn blown(passes: u32) -> &'static str {
 #[test]
 fn blown_fuse(rt: HostRuntime) {
     let alloc = rt.alloc();
-    let mut right = 0;
+    let mut all = true;
     for passes in 0..10u32 {
         let chain = dispatch(alloc, 3, true, "m");
-        if gives(&rt, alloc, chain, ONE, Stand::Fuse(passes), blown(passes)) {
-            right += 1;
+        if !gives(&rt, alloc, chain, ONE, Stand::Fuse(passes), blown(passes)) {
+            all = false;
         }
     }
-    assert_eq!(rt; right, 10);
+    assert!(rt; all);
 }
 
 #[test]
