@@ -41,16 +41,16 @@ fn bytes(alloc: Global, text: &str) -> ByteString {
     }
 }
 
-fn options(alloc: Global, words: &Words) -> ParkOptions {
+fn options(alloc: Global, builders: ByteString, info: ByteString, jobs: u16) -> ParkOptions {
     ParkOptions {
-        builders: bytes(alloc, words.builders),
+        builders,
         system: bytes(alloc, "x86_64-linux"),
         extra: bytes(alloc, ""),
         features: bytes(alloc, ""),
-        jobs: words.jobs,
+        jobs,
         keep_going: false,
         check_paths: false,
-        info: bytes(alloc, words.info),
+        info,
     }
 }
 
@@ -61,7 +61,8 @@ pub fn given<R: Threads + Sync>(
     words: &Words,
     bundle: &str,
 ) -> Result<Seen, CliFault> {
-    let options = options(alloc, words);
+    let builders = bytes(alloc, words.builders);
+    let options = options(alloc, builders, bytes(alloc, words.info), words.jobs);
     let mut input = Told::new(bundle.as_bytes());
     let RunInputs { dispatch, rules } = run_inputs(
         rt,
