@@ -80,17 +80,35 @@ pub fn simulates<R: Threads + Sync>(
     let Ok(options) = options(alloc, setup) else {
         return false;
     };
-    let mut input = Told::new(CountedReader::new(bundle, setup.reads));
-    let mut output = Told::new(CountedWriter::new(alloc, setup.writes));
+    let reader = CountedReader::new(bundle, setup.reads);
+    let writer = CountedWriter::new(alloc, setup.writes);
+    let answers = simulates_on(rt, alloc, &options, script, reader, writer, want);
+    drop(options);
+    answers
+}
+
+/// Whether `sim` answers so on these devices, which end here.
+fn simulates_on<R: Threads + Sync>(
+    rt: &R,
+    alloc: Global,
+    options: &ParkOptions,
+    script: &str,
+    reader: CountedReader<'_>,
+    writer: CountedWriter,
+    want: Want<'_>,
+) -> bool {
+    let mut input = Told::new(reader);
+    let mut output = Told::new(writer);
     let answer = sim_engine(
         rt,
         alloc,
-        &options,
+        options,
         script.as_bytes(),
         &mut input,
         &mut output,
     );
-    is_answer(alloc, answer, output.into_inner().bytes(), want)
+    drop(input);
+    is_answer(alloc, answer, output, want)
 }
 
 /// Whether `audit` answers so for a bundle and a history text. Want of memory is a no.
@@ -105,14 +123,45 @@ pub fn audits<R: Threads + Sync>(
     let Ok(options) = options(alloc, setup) else {
         return false;
     };
-    let mut input = Told::new(CountedReader::new(bundle, setup.reads));
-    let mut output = Told::new(CountedWriter::new(alloc, setup.writes));
-    let answer = audit_engine(rt, alloc, &options, history, &mut input, &mut output);
-    is_answer(alloc, answer, output.into_inner().bytes(), want)
+    let reader = CountedReader::new(bundle, setup.reads);
+    let writer = CountedWriter::new(alloc, setup.writes);
+    let answers = audits_on(rt, alloc, &options, history, reader, writer, want);
+    drop(options);
+    answers
+}
+
+/// Whether `audit` answers so on these devices, which end here.
+fn audits_on<R: Threads + Sync>(
+    rt: &R,
+    alloc: Global,
+    options: &ParkOptions,
+    history: &[u8],
+    reader: CountedReader<'_>,
+    writer: CountedWriter,
+    want: Want<'_>,
+) -> bool {
+    let mut input = Told::new(reader);
+    let mut output = Told::new(writer);
+    let answer = audit_engine(rt, alloc, options, history, &mut input, &mut output);
+    drop(input);
+    is_answer(alloc, answer, output, want)
 }
 
 /// Whether this is the wanted answer, with what was written.
-fn is_answer(alloc: Global, answer: Result<u8, CliFault>, written: &[u8], want: Want<'_>) -> bool {
+fn is_answer(
+    alloc: Global,
+    answer: Result<u8, CliFault>,
+    output: Told<CountedWriter>,
+    want: Want<'_>,
+) -> bool {
+    let writer = output.into_inner();
+    let is_wanted = is_wanted(alloc, answer, writer.bytes(), want);
+    drop(writer);
+    is_wanted
+}
+
+/// Whether this is the wanted answer, where this was written.
+fn is_wanted(alloc: Global, answer: Result<u8, CliFault>, written: &[u8], want: Want<'_>) -> bool {
     match (answer, want) {
         (Ok(status), Want::Written(text, wanted)) => status == wanted && written == text.as_bytes(),
         (Err(fault), Want::Refused(line)) => {
