@@ -5,16 +5,30 @@ use std::alloc::{AllocError, Global};
 
 /// The whole command line.
 pub fn command_line<'a>(alloc: Global) -> Result<Command<'a>, AllocError> {
-    Command::new(alloc, "nix-dispatch")
+    let command = Command::new(alloc, "nix-dispatch")
         .version("0.1.0")
         .bin_name("nix-dispatch")?
         .about("Hands the derivations of a graph to local slots and remote builders")
-        .subcommand_required(true)
-        .subcommand(path_command(alloc)?)?
-        .subcommand(ask_command(alloc)?)?
-        .subcommand(sim_command(alloc)?)?
-        .subcommand(audit_command(alloc)?)?
-        .subcommand(run_command(alloc)?)
+        .subcommand_required(true);
+    let command = with_command(command, path_command(alloc))?;
+    let command = with_command(command, ask_command(alloc))?;
+    let command = with_command(command, sim_command(alloc))?;
+    let command = with_command(command, audit_command(alloc))?;
+    with_command(command, run_command(alloc))
+}
+
+/// The command line with one more command.
+fn with_command<'a>(
+    line: Command<'a>,
+    command: Result<Command<'a>, AllocError>,
+) -> Result<Command<'a>, AllocError> {
+    match command {
+        Ok(command) => line.subcommand(command),
+        Err(refused) => {
+            drop(line);
+            Err(refused)
+        }
+    }
 }
 
 fn path_command<'a>(alloc: Global) -> Result<Command<'a>, AllocError> {
@@ -37,37 +51,41 @@ fn ask_command<'a>(alloc: Global) -> Result<Command<'a>, AllocError> {
 }
 
 fn sim_command<'a>(alloc: Global) -> Result<Command<'a>, AllocError> {
-    let script = text_option(alloc, "script", "FILE").required(true).help(
-        "The script: one command a line, as start 0, built 0, fail 0 1, down 0, stop, ask 1",
-    );
     let command = Command::new(alloc, "sim").about(
         "Does what a script says over the bundle on standard input, and writes each step and a report",
     );
-    with_park_options(alloc, command)?.arg(script)
+    let command = with_park_options(alloc, command)?;
+    let script = text_option(alloc, "script", "FILE").required(true).help(
+        "The script: one command a line, as start 0, built 0, fail 0 1, down 0, stop, ask 1",
+    );
+    command.arg(script)
 }
 
 fn audit_command<'a>(alloc: Global) -> Result<Command<'a>, AllocError> {
-    let history = text_option(alloc, "history", "FILE")
-        .required(true)
-        .help("The history text that is audited");
     let command = Command::new(alloc, "audit").about(
         "Says whether a history is a legal one over the bundle on standard input, and else why not",
     );
-    with_park_options(alloc, command)?.arg(history)
+    let command = with_park_options(alloc, command)?;
+    let history = text_option(alloc, "history", "FILE")
+        .required(true)
+        .help("The history text that is audited");
+    command.arg(history)
 }
 
 fn run_command<'a>(alloc: Global) -> Result<Command<'a>, AllocError> {
     let command = Command::new(alloc, "run").about(
         "Builds the bundle on standard input with stand-ins for the machines, and writes the history",
     );
+    let command = with_park_options(alloc, command)?;
     let stand = text_option(alloc, "stand", "FILE").help(
         "What the stand-ins answer: a line for each rule",
     );
+    let command = command.arg(stand)?;
     let report = Arg::new(alloc, "report")
         .long("report")
         .action(ArgAction::SetTrue)
         .help("Writes the report behind the history");
-    with_park_options(alloc, command)?.arg(stand)?.arg(report)
+    command.arg(report)
 }
 
 /// The options of the commands over a bundle.
