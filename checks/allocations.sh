@@ -48,7 +48,7 @@ sweep() {
 }
 
 sweep crates/nix_dispatch/stdin ask --builders m
-sed 's/^[^ ]* //' crates/nix_dispatch/stdin | tr -d '\n' > "$work/text"
+head -n 1 crates/nix_dispatch/stdin | sed 's/^[^ ]* //' | tr -d '\n' > "$work/text"
 sweep "$work/text" path n0.drv
 sweep examples/farm/bundle sim --builders @examples/farm/builders --keep-going --script examples/farm/script
 sweep examples/farm/bundle audit --builders @examples/farm/builders --keep-going --history examples/farm/history
