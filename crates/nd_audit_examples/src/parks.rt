@@ -136,7 +136,7 @@ fn audited_text(alloc: Global, dispatch: &Dispatch, text: &[u8]) -> Outcome {
 }
 
 /// What the text of a history comes to over a park.
-pub fn audited(alloc: Global, park: &Park, text: &[u8]) -> Outcome {
+pub(crate) fn audited(alloc: Global, park: &Park, text: &[u8]) -> Outcome {
     match dispatch_of(alloc, park) {
         Some(dispatch) => {
             let outcome = audited_text(alloc, &dispatch, text);
@@ -170,7 +170,7 @@ fn admits_text(alloc: Global, dispatch: &mut Dispatch, text: &[u8]) -> bool {
 }
 
 /// A dispatch over a park with the history of this text.
-pub fn replayed(alloc: Global, park: &Park, text: &[u8]) -> Option<Dispatch> {
+pub(crate) fn replayed(alloc: Global, park: &Park, text: &[u8]) -> Option<Dispatch> {
     match dispatch_of(alloc, park) {
         Some(mut dispatch) => {
             if admits_text(alloc, &mut dispatch, text) {
@@ -194,7 +194,7 @@ fn is_report_of(alloc: Global, dispatch: &Dispatch, report: &[u8]) -> bool {
 }
 
 /// Whether this is the report of a dispatch over a park with the history of this text.
-pub fn reports(alloc: Global, park: &Park, text: &[u8], report: &[u8]) -> bool {
+pub(crate) fn reports(alloc: Global, park: &Park, text: &[u8], report: &[u8]) -> bool {
     match replayed(alloc, park, text) {
         Some(dispatch) => {
             let is = is_report_of(alloc, &dispatch, report);

@@ -11,7 +11,7 @@ use std::alloc::Global;
 /// The entries of a history text.
 ///
 /// `TooLarge`: it has more than [`LIMIT`] bytes. `History`: it is refused. `Memory`.
-pub fn read_entries(alloc: Global, history: &[u8]) -> Result<Vec<Entry>, CliFault>
+pub(crate) fn read_entries(alloc: Global, history: &[u8]) -> Result<Vec<Entry>, CliFault>
     ensures read { IfOk result (λ entries. HasHistory history.now entries.items) }
     ensures refused { IfErr result (IsHistoryFault history.now) }
 {

@@ -40,7 +40,7 @@ pub struct AuditInputs {
 /// The first refusal in this order is answered, whatever becomes of a writer: `Read`; `TooLarge` or
 /// `Drvs` for the bundle; `TooLarge` or `Builders` for the builders list; `TooLarge` or `Info` for the
 /// info text; `TooLarge` or `Script` for the script. `Memory` may come at any point.
-pub fn read_sim_inputs<R: Read>(
+pub(crate) fn read_sim_inputs<R: Read>(
     rt: &(impl Threads + Sync),
     alloc: Global,
     options: &ParkOptions,
@@ -75,7 +75,7 @@ pub fn read_sim_inputs<R: Read>(
 /// The first refusal in this order is answered, whatever becomes of a writer: `Read`; `TooLarge` or
 /// `Drvs` for the bundle; `TooLarge` or `Builders` for the builders list; `TooLarge` or `Info` for the
 /// info text; `TooLarge` or `History` for the history text. `Memory` may come at any point.
-pub fn read_audit_inputs<R: Read>(
+pub(crate) fn read_audit_inputs<R: Read>(
     rt: &(impl Threads + Sync),
     alloc: Global,
     options: &ParkOptions,

@@ -14,7 +14,7 @@ use std::alloc::Global;
 /// The commands of a script for this dispatch.
 ///
 /// `TooLarge`: it has more than [`LIMIT`] bytes. `Script`: it is refused. `Memory`.
-pub fn read_script(
+pub(crate) fn read_script(
     alloc: Global,
     dispatch: &Dispatch,
     script: &[u8],

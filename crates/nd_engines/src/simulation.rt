@@ -22,7 +22,7 @@ use std::io;
 ///
 /// Refuses with `Write` (1), where the device refused a write and is marked, and with `Memory` (2) where
 /// an allocation is refused. The beginning of the text is out then.
-pub fn simulate<W: io::Write>(
+pub(crate) fn simulate<W: io::Write>(
     alloc: Global,
     dispatch: &mut Dispatch,
     commands: Vec<Command>,

@@ -14,7 +14,7 @@ use std::io::Write;
 
 /// Writes that a history of so many entries is legal, and has the writer pass on what it holds back.
 #[tactic(auto, using(crate::proofs::Answering::writes), unfolding(crate::specs::Audited::legal_line, nd_hook::specs::ReplyText::line))]
-pub fn write_legal<W: Write>(count: usize, output: &mut Told<W>) -> Result<(), Fault>
+pub(crate) fn write_legal<W: Write>(count: usize, output: &mut Told<W>) -> Result<(), Fault>
     ensures written { OnOk result (Appends (W.contents output.old.device) (W.contents output.new.device) (legal_line count)) }
     ensures partly { OnErr result (WritesPart (W.contents output.old.device) (W.contents output.new.device) (legal_line count)) }
     ensures mark { output.new.is_marked ≡ (output.old.is_marked || is_err result) }
@@ -26,7 +26,11 @@ pub fn write_legal<W: Write>(count: usize, output: &mut Told<W>) -> Result<(), F
 /// Writes which entry of a history is the first that is not allowed, and by which rule, and has the
 /// writer pass on what it holds back.
 #[tactic(auto, using(crate::proofs::Answering::writes), unfolding(crate::specs::Audited::illegal_line, nd_hook::specs::ReplyText::line))]
-pub fn write_illegal<W: Write>(index: usize, rule: Rule, output: &mut Told<W>) -> Result<(), Fault>
+pub(crate) fn write_illegal<W: Write>(
+    index: usize,
+    rule: Rule,
+    output: &mut Told<W>,
+) -> Result<(), Fault>
     ensures written { OnOk result (Appends (W.contents output.old.device) (W.contents output.new.device) (illegal_line index rule)) }
     ensures partly { OnErr result (WritesPart (W.contents output.old.device) (W.contents output.new.device) (illegal_line index rule)) }
     ensures mark { output.new.is_marked ≡ (output.old.is_marked || is_err result) }

@@ -4,6 +4,7 @@ use nd_bytes::ByteString;
 use nd_cli::{CliFault, ParkOptions, ask_engine, path_engine};
 use nd_hook::Told;
 use std::alloc::{AllocError, Global};
+use std::fmt;
 use std::thread::Threads;
 
 /// What a command is to answer.
@@ -27,7 +28,7 @@ pub struct Park<'a> {
 }
 
 /// These builders and one local job.
-pub fn builders(builders: &[u8]) -> Park<'_> {
+pub(crate) fn builders(builders: &[u8]) -> Park<'_> {
     Park {
         builders,
         jobs: 1,
@@ -36,7 +37,7 @@ pub fn builders(builders: &[u8]) -> Park<'_> {
 }
 
 /// These builders and no local job.
-pub fn builders_alone(builders: &[u8]) -> Park<'_> {
+pub(crate) fn builders_alone(builders: &[u8]) -> Park<'_> {
     Park {
         builders,
         jobs: 0,
@@ -45,7 +46,7 @@ pub fn builders_alone(builders: &[u8]) -> Park<'_> {
 }
 
 /// The options of `ask` on a park.
-pub fn options(alloc: Global, park: Park) -> Result<ParkOptions, AllocError> {
+pub(crate) fn options(alloc: Global, park: Park) -> Result<ParkOptions, AllocError> {
     let builders = ByteString::from_slice(alloc, park.builders)?;
     let system = ByteString::from_slice(alloc, b"x86_64-linux")?;
     Ok(ParkOptions {
@@ -61,7 +62,7 @@ pub fn options(alloc: Global, park: Park) -> Result<ParkOptions, AllocError> {
 }
 
 /// The parts, one behind the other.
-pub fn joined(alloc: Global, parts: &[&[u8]]) -> Result<Vec<u8>, AllocError> {
+pub(crate) fn joined(alloc: Global, parts: &[&[u8]]) -> Result<Vec<u8>, AllocError> {
     let mut bytes = Vec::new(alloc);
     for part in parts {
         bytes.extend_from_slice(part)?;
@@ -69,10 +70,10 @@ pub fn joined(alloc: Global, parts: &[&[u8]]) -> Result<Vec<u8>, AllocError> {
     Ok(bytes)
 }
 
-/// Whether a fault has this line. Want of memory is a no.
-pub fn has_line(alloc: Global, fault: &CliFault, line: &str) -> bool {
-    match format!(in alloc; "{fault}") {
-        Ok(said) => said.as_str() == line,
+/// Whether a value is printed so. Want of memory is a no.
+pub(crate) fn is_printed<T: fmt::Display>(alloc: Global, value: &T, text: &str) -> bool {
+    match format!(in alloc; "{value}") {
+        Ok(printed) => printed.as_str() == text,
         Err(_) => false,
     }
 }
@@ -82,7 +83,7 @@ fn is_answer(alloc: Global, answer: Result<u8, CliFault>, written: &[u8], want: 
     match (&answer, want) {
         (Ok(status), Want::Written(text)) => *status == 0 && written == text,
         (Err(fault), Want::Refused(line)) => {
-            written.is_empty() && fault.status() == 3 && has_line(alloc, fault, line)
+            written.is_empty() && fault.status() == 3 && is_printed(alloc, fault, line)
         }
         _ => false,
     }
@@ -102,7 +103,7 @@ fn answers<R: Threads + Sync>(
 }
 
 /// Whether `ask` answers so on a park. Want of memory is a no.
-pub fn asks<R: Threads + Sync>(
+pub(crate) fn asks<R: Threads + Sync>(
     rt: &R,
     alloc: Global,
     park: Park,
@@ -117,7 +118,12 @@ pub fn asks<R: Threads + Sync>(
 
 /// Whether `ask` answers so for the bundle of these parts, on a park with the one builder `m`. Want of
 /// memory is a no.
-pub fn asks_of<R: Threads + Sync>(rt: &R, alloc: Global, parts: &[&[u8]], want: Want) -> bool {
+pub(crate) fn asks_of<R: Threads + Sync>(
+    rt: &R,
+    alloc: Global,
+    parts: &[&[u8]],
+    want: Want,
+) -> bool {
     match joined(alloc, parts) {
         Ok(bundle) => asks(rt, alloc, builders(b"m"), bundle.as_slice(), want),
         Err(_) => false,
@@ -125,14 +131,14 @@ pub fn asks_of<R: Threads + Sync>(rt: &R, alloc: Global, parts: &[&[u8]], want: 
 }
 
 /// Whether `path` answers so.
-pub fn path_answers(alloc: Global, name: &[u8], text: &[u8], want: Want) -> bool {
+pub(crate) fn path_answers(alloc: Global, name: &[u8], text: &[u8], want: Want) -> bool {
     let mut output = Told::new(Vec::new(alloc));
     let answer = path_engine(alloc, name, &mut Told::new(text), &mut output);
     is_answer(alloc, answer, output.into_inner().as_slice(), want)
 }
 
 /// What `path` writes, or none where it refuses.
-pub fn path_of(alloc: Global, name: &[u8], text: &[u8]) -> Option<Vec<u8>> {
+pub(crate) fn path_of(alloc: Global, name: &[u8], text: &[u8]) -> Option<Vec<u8>> {
     let mut output = Told::new(Vec::new(alloc));
     match path_engine(alloc, name, &mut Told::new(text), &mut output) {
         Ok(0) => Some(output.into_inner()),

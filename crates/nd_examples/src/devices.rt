@@ -1,6 +1,6 @@
 //! Devices that fail, and inputs that are too large.
 
-use crate::asking::{builders, has_line, options};
+use crate::asking::{builders, is_printed, options};
 use crate::bundles::{N0_LINE, N0_TEXT};
 use nd_cli::{CliFault, ParkOptions, ask_engine, path_engine};
 use nd_hook::Told;
@@ -155,7 +155,7 @@ fn ask_ends<R: Threads + Sync>(rt: &R, alloc: Global, options: &ParkOptions) -> 
         Ok(_) => false,
         Err(fault) => {
             output.into_inner().is_empty()
-                && has_line(alloc, &fault, "nix-dispatch: drvs: TooLarge")
+                && is_printed(alloc, &fault, "nix-dispatch: drvs: TooLarge")
         }
     }
 }

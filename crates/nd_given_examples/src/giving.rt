@@ -6,6 +6,7 @@ use nd_hook::Told;
 use nd_run::{RunInputs, places, run_inputs};
 use nd_script::Rule;
 use std::alloc::Global;
+use std::fmt;
 use std::thread::Threads;
 
 /// A bundle of one derivation without inputs and sources.
@@ -55,7 +56,7 @@ fn options(alloc: Global, builders: ByteString, info: ByteString, jobs: u16) -> 
 }
 
 /// What `run` is given by these words and this bundle.
-pub fn given<R: Threads + Sync>(
+pub(crate) fn given<R: Threads + Sync>(
     rt: &R,
     alloc: Global,
     words: &Words,
@@ -64,32 +65,43 @@ pub fn given<R: Threads + Sync>(
     let builders = bytes(alloc, words.builders);
     let options = options(alloc, builders, bytes(alloc, words.info), words.jobs);
     let mut input = Told::new(bundle.as_bytes());
-    let RunInputs { dispatch, rules } = run_inputs(
-        rt,
-        alloc,
-        &options,
-        words.stand.as_bytes(),
-        &mut input,
-    )?;
-    Ok(Seen {
-        sizes: (
-            dispatch.graph().len(),
-            dispatch.machines().len(),
-            dispatch.history().len(),
-        ),
+    let given = run_inputs(rt, alloc, &options, words.stand.as_bytes(), &mut input);
+    drop(options);
+    match given {
+        Ok(given) => Ok(seen(alloc, given)),
+        Err(fault) => Err(fault),
+    }
+}
+
+/// What is looked at of this.
+fn seen(alloc: Global, given: RunInputs) -> Seen {
+    let RunInputs { dispatch, rules } = given;
+    let sizes = (
+        dispatch.graph().len(),
+        dispatch.machines().len(),
+        dispatch.history().len(),
+    );
+    let places = places(alloc, &dispatch);
+    drop(dispatch);
+    Seen {
+        sizes,
         rules,
-        places: places(alloc, &dispatch),
-    })
+        places,
+    }
+}
+
+/// Whether a fault with this status is printed so. Want of memory is a no.
+fn is_printed<T: fmt::Display>(alloc: Global, status: u8, fault: &T, text: &str) -> bool {
+    match format!(in alloc; "{status} {fault}") {
+        Ok(printed) => printed.as_str() == text,
+        Err(_) => false,
+    }
 }
 
 /// Whether this answer is a refusal with this status and line.
-pub fn is_refused<T: Drop>(alloc: Global, answer: Result<T, CliFault>, said: &str) -> bool {
-    let Err(fault) = answer else {
-        return false;
-    };
-    let status = fault.status();
-    match format!(in alloc; "{status} {fault}") {
-        Ok(line) => line.as_str() == said,
-        Err(_) => false,
+pub(crate) fn is_refused<T: Drop>(alloc: Global, answer: Result<T, CliFault>, said: &str) -> bool {
+    match answer {
+        Ok(_) => false,
+        Err(fault) => is_printed(alloc, fault.status(), &fault, said),
     }
 }

@@ -33,7 +33,7 @@ pub const NEEDS_N0: &[u8] = b"(\"/nix/store/00000000000000000000000000000000-n0.
 pub const NEEDS_DEV: &[u8] = b"(\"/nix/store/00000000000000000000000000000000-n0.drv\",[\"dev\"])";
 
 /// The parts, one behind the other.
-pub fn joined(alloc: Global, parts: &[&[u8]]) -> Result<Vec<u8>, AllocError> {
+pub(crate) fn joined(alloc: Global, parts: &[&[u8]]) -> Result<Vec<u8>, AllocError> {
     let mut bytes = Vec::new(alloc);
     for part in parts {
         bytes.extend_from_slice(part)?;
@@ -43,7 +43,7 @@ pub fn joined(alloc: Global, parts: &[&[u8]]) -> Result<Vec<u8>, AllocError> {
 
 /// Whether both readers, which check paths or don't, refuse a text for this reason, or take it where
 /// there is none.
-pub fn both_answer<R: Threads + Sync>(
+pub(crate) fn both_answer<R: Threads + Sync>(
     rt: &R,
     alloc: Global,
     text: &[u8],
@@ -55,7 +55,7 @@ pub fn both_answer<R: Threads + Sync>(
 }
 
 /// Whether they do so of these parts, and check no paths. Want of memory is a no.
-pub fn answer<R: Threads + Sync>(
+pub(crate) fn answer<R: Threads + Sync>(
     rt: &R,
     alloc: Global,
     parts: &[&[u8]],
@@ -68,7 +68,7 @@ pub fn answer<R: Threads + Sync>(
 }
 
 /// The number of nodes of an answer, or none where the text is refused.
-pub fn size_of(read: Result<Graph, GraphError>) -> Option<usize> {
+pub(crate) fn size_of(read: Result<Graph, GraphError>) -> Option<usize> {
     match read {
         Ok(graph) => Some(graph.len()),
         Err(_) => None,
@@ -76,7 +76,7 @@ pub fn size_of(read: Result<Graph, GraphError>) -> Option<usize> {
 }
 
 /// Whether both readers, which check paths or don't, find this many nodes in a text.
-pub fn both_find<R: Threads + Sync>(
+pub(crate) fn both_find<R: Threads + Sync>(
     rt: &R,
     alloc: Global,
     text: &[u8],
@@ -88,7 +88,12 @@ pub fn both_find<R: Threads + Sync>(
 }
 
 /// Whether they do so in these parts, and check no paths. Want of memory is a no.
-pub fn find<R: Threads + Sync>(rt: &R, alloc: Global, parts: &[&[u8]], nodes: usize) -> bool {
+pub(crate) fn find<R: Threads + Sync>(
+    rt: &R,
+    alloc: Global,
+    parts: &[&[u8]],
+    nodes: usize,
+) -> bool {
     match joined(alloc, parts) {
         Ok(text) => both_find(rt, alloc, text.as_slice(), false, nodes),
         Err(_) => false,
@@ -96,7 +101,7 @@ pub fn find<R: Threads + Sync>(rt: &R, alloc: Global, parts: &[&[u8]], nodes: us
 }
 
 /// The graph of these parts, or none where they are refused or memory is wanting.
-pub fn graph_of(alloc: Global, parts: &[&[u8]]) -> Option<Graph> {
+pub(crate) fn graph_of(alloc: Global, parts: &[&[u8]]) -> Option<Graph> {
     match joined(alloc, parts) {
         Ok(text) => plain::read_bundle(alloc, text.as_slice(), false).ok(),
         Err(_) => None,

@@ -82,7 +82,7 @@ fn push_inputs(text: &mut Vec<u8>, low: usize, high: usize) -> Result<(), AllocE
 }
 
 /// Writes the line of a node that needs those from `low` up to `high`.
-pub fn push_line(
+pub(crate) fn push_line(
     text: &mut Vec<u8>,
     node: usize,
     low: usize,
@@ -97,7 +97,7 @@ pub fn push_line(
 }
 
 /// The bundle of a graph with this many nodes.
-pub fn text_of(alloc: Global, shape: Shape, len: usize) -> Result<Vec<u8>, AllocError> {
+pub(crate) fn text_of(alloc: Global, shape: Shape, len: usize) -> Result<Vec<u8>, AllocError> {
     let mut text = Vec::new(alloc);
     for node in 0..len {
         let (low, high) = inputs_of(shape, node, len);

@@ -10,7 +10,7 @@ pub const S2: &str = "/nix/store/qqqqqqqqqqqqqqqqqqqqqqqqqqqqqqqq-s2";
 pub const S3: &str = "/nix/store/rrrrrrrrrrrrrrrrrrrrrrrrrrrrrrrr-s3";
 
 /// The path of a source by its name.
-pub fn path_named(name: &str) -> &'static str {
+pub(crate) fn path_named(name: &str) -> &'static str {
     match name {
         "s1" => S1,
         "s2" => S2,
@@ -182,7 +182,7 @@ fn push_diamond(text: &mut String) -> Result<(), AllocError> {
 }
 
 /// The text of a bundle.
-pub fn text_of(alloc: Global, bundle: Bundle) -> Result<String, AllocError> {
+pub(crate) fn text_of(alloc: Global, bundle: Bundle) -> Result<String, AllocError> {
     let mut text = String::new(alloc);
     push_bundle(&mut text, bundle)?;
     Ok(text)

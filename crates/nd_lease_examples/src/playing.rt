@@ -33,7 +33,7 @@ pub struct Park<'a> {
 
 /// A park with these builders alone: without local jobs, without an info text, and without going on
 /// after a failure.
-pub fn builders_alone(builders: &str) -> Park<'_> {
+pub(crate) fn builders_alone(builders: &str) -> Park<'_> {
     Park {
         builders,
         jobs: 0,
@@ -99,7 +99,11 @@ fn graph_of(alloc: Global, bundle: Bundle) -> Result<Graph, Unplayed> {
 }
 
 /// A dispatch over this bundle and this park.
-pub fn dispatch_of(alloc: Global, bundle: Bundle, park: &Park) -> Result<Dispatch, Unplayed> {
+pub(crate) fn dispatch_of(
+    alloc: Global,
+    bundle: Bundle,
+    park: &Park,
+) -> Result<Dispatch, Unplayed> {
     let local = local_of(alloc, park.jobs)?;
     let info = parse_info(alloc, park.info.as_bytes())?;
     let machines = parse_builders(alloc, park.builders.as_bytes(), b"x86_64-linux")?;
@@ -112,7 +116,7 @@ pub fn dispatch_of(alloc: Global, bundle: Bundle, park: &Park) -> Result<Dispatc
 
 /// Lets go of a dispatch. The end of so large a value is long to prove, so that whoever owns one calls
 /// this, and it is proved once.
-pub fn close(_dispatch: Dispatch) {}
+pub(crate) fn close(_dispatch: Dispatch) {}
 
 /// The set of the paths that a line names behind this many words.
 fn paths_behind(alloc: Global, line: &str, words: usize) -> Result<PathSet, AllocError> {
@@ -147,7 +151,7 @@ fn ticket_in(dispatch: &Dispatch, line: &str) -> Result<Ticket, Refusal> {
 }
 
 /// The ticket of the live lease of a derivation.
-pub fn ticket_of(dispatch: &Dispatch, drv: u32) -> Result<Ticket, Refusal> {
+pub(crate) fn ticket_of(dispatch: &Dispatch, drv: u32) -> Result<Ticket, Refusal> {
     dispatch.lease(drv).ok_or(Refusal::NotLive)
 }
 
@@ -213,7 +217,7 @@ fn enable(dispatch: &mut Dispatch, line: &str) -> Result<(), Refusal> {
 }
 
 /// Makes the call of a line; `ask` and other words make none.
-pub fn make(alloc: Global, dispatch: &mut Dispatch, line: &str) -> Result<(), Refusal> {
+pub(crate) fn make(alloc: Global, dispatch: &mut Dispatch, line: &str) -> Result<(), Refusal> {
     match line.split(' ').next() {
         Some("start") => start(alloc, dispatch, line),
         Some("startwith") => start_with(alloc, dispatch, line),
@@ -228,7 +232,7 @@ pub fn make(alloc: Global, dispatch: &mut Dispatch, line: &str) -> Result<(), Re
 }
 
 /// Writes the lines of the entries from this place on.
-pub fn push_entries(
+pub(crate) fn push_entries(
     alloc: Global,
     lines: &mut Vec<u8>,
     dispatch: &Dispatch,
@@ -273,7 +277,11 @@ fn play(
 }
 
 /// The lines of a script on a dispatch.
-pub fn played(alloc: Global, dispatch: &mut Dispatch, script: &str) -> Result<Vec<u8>, Unplayed> {
+pub(crate) fn played(
+    alloc: Global,
+    dispatch: &mut Dispatch,
+    script: &str,
+) -> Result<Vec<u8>, Unplayed> {
     let mut lines = Vec::new(alloc);
     dispatch.pump()?;
     push_entries(alloc, &mut lines, dispatch, 0)?;
@@ -292,7 +300,7 @@ fn told(alloc: Global, bundle: Bundle, park: &Park, script: &str) -> Result<Vec<
 }
 
 /// Whether a script, on a new dispatch, gives these lines. Want of memory is a no.
-pub fn gives(alloc: Global, bundle: Bundle, park: &Park, script: &str, lines: &str) -> bool {
+pub(crate) fn gives(alloc: Global, bundle: Bundle, park: &Park, script: &str, lines: &str) -> bool {
     match told(alloc, bundle, park, script) {
         Ok(told) => told.as_slice() == lines.as_bytes(),
         Err(_) => false,

@@ -67,7 +67,11 @@ fn push_head(alloc: Global, lines: &mut Vec<u8>, entry: &Entry) -> Result<(), Al
 }
 
 /// Writes the line of an entry.
-pub fn push_entry(alloc: Global, lines: &mut Vec<u8>, entry: &Entry) -> Result<(), AllocError> {
+pub(crate) fn push_entry(
+    alloc: Global,
+    lines: &mut Vec<u8>,
+    entry: &Entry,
+) -> Result<(), AllocError> {
     push_head(alloc, lines, entry)?;
     match entry {
         Entry::Started { paths, .. } => push_names(lines, paths)?,
@@ -89,7 +93,11 @@ fn push_uri(lines: &mut Vec<u8>, dispatch: &Dispatch, place: usize) -> Result<()
 }
 
 /// Writes the reply about a derivation, and the URI of an accepted machine on a line of its own.
-pub fn push_reply(lines: &mut Vec<u8>, dispatch: &Dispatch, drv: u32) -> Result<(), AllocError> {
+pub(crate) fn push_reply(
+    lines: &mut Vec<u8>,
+    dispatch: &Dispatch,
+    drv: u32,
+) -> Result<(), AllocError> {
     let drv = drv as usize;
     if drv >= dispatch.graph().len() {
         return Ok(());

@@ -7,12 +7,12 @@ use std::alloc::{AllocError, Global};
 use std::fmt;
 
 /// The machines of a builders list, on an `x86_64-linux` machine.
-pub fn machines_of(alloc: Global, text: &[u8]) -> Result<Vec<Machine>, MachineError> {
+pub(crate) fn machines_of(alloc: Global, text: &[u8]) -> Result<Vec<Machine>, MachineError> {
     parse_builders(alloc, text, b"x86_64-linux")
 }
 
 /// The last machine of a list.
-pub fn last_machine(alloc: Global, text: &[u8]) -> Option<Machine> {
+pub(crate) fn last_machine(alloc: Global, text: &[u8]) -> Option<Machine> {
     match machines_of(alloc, text) {
         Ok(mut machines) => machines.pop(),
         Err(_) => None,
@@ -20,7 +20,7 @@ pub fn last_machine(alloc: Global, text: &[u8]) -> Option<Machine> {
 }
 
 /// A need for this platform and these features.
-pub fn need_of(alloc: Global, system: &[u8], features: &[u8]) -> Result<Need, AllocError> {
+pub(crate) fn need_of(alloc: Global, system: &[u8], features: &[u8]) -> Result<Need, AllocError> {
     let system = ByteString::from_slice(alloc, system)?;
     let features = words(alloc, features)?;
     Ok(Need {
@@ -32,12 +32,12 @@ pub fn need_of(alloc: Global, system: &[u8], features: &[u8]) -> Result<Need, Al
 }
 
 /// The need of a plain `x86_64-linux` derivation.
-pub fn plain_need(alloc: Global) -> Result<Need, AllocError> {
+pub(crate) fn plain_need(alloc: Global) -> Result<Need, AllocError> {
     need_of(alloc, b"x86_64-linux", b"")
 }
 
 /// Whether a set has just the items of a list. Want of memory is a no.
-pub fn is_listed(alloc: Global, set: &FeatureSet, list: &[u8]) -> bool {
+pub(crate) fn is_listed(alloc: Global, set: &FeatureSet, list: &[u8]) -> bool {
     match FeatureSet::from_list(alloc, list) {
         Ok(listed) => *set == listed,
         Err(_) => false,
@@ -45,7 +45,7 @@ pub fn is_listed(alloc: Global, set: &FeatureSet, list: &[u8]) -> bool {
 }
 
 /// Whether a value is printed so. Want of memory is a no.
-pub fn is_printed<T: fmt::Display>(alloc: Global, value: &T, text: &str) -> bool {
+pub(crate) fn is_printed<T: fmt::Display>(alloc: Global, value: &T, text: &str) -> bool {
     match format!(in alloc; "{value}") {
         Ok(printed) => printed.as_str() == text,
         Err(_) => false,

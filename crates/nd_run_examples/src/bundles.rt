@@ -48,7 +48,7 @@ fn push_line(text: &mut String, number: u8, is_chain: bool) -> Result<(), AllocE
 }
 
 /// The text of a bundle with so many nodes.
-pub fn text_of(alloc: Global, nodes: u8, is_chain: bool) -> Result<String, AllocError> {
+pub(crate) fn text_of(alloc: Global, nodes: u8, is_chain: bool) -> Result<String, AllocError> {
     let mut text = String::new(alloc);
     for number in 0..nodes {
         push_line(&mut text, number, is_chain)?;

@@ -35,7 +35,12 @@ fn machines(alloc: Global, builders: &str) -> Option<Vec<Machine>> {
 }
 
 /// A dispatch over so many nodes and these builders alone, which doesn't go on after a failure.
-pub fn dispatch(alloc: Global, nodes: u8, is_chain: bool, builders: &str) -> Option<Dispatch> {
+pub(crate) fn dispatch(
+    alloc: Global,
+    nodes: u8,
+    is_chain: bool,
+    builders: &str,
+) -> Option<Dispatch> {
     let local = local(alloc)?;
     let info = parse_info(alloc, b"").ok()?;
     let machines = machines(alloc, builders)?;
@@ -47,7 +52,7 @@ pub fn dispatch(alloc: Global, nodes: u8, is_chain: bool, builders: &str) -> Opt
 }
 
 /// A worker with a stand-in that follows this rule and, where there is a fuse, lets so many calls pass.
-pub fn stand_at(
+pub(crate) fn stand_at(
     alloc: Global,
     machine: u32,
     slot: u32,
@@ -68,7 +73,7 @@ pub fn stand_at(
 }
 
 /// So many workers on the slots of machine 1; fewer where memory is wanting.
-pub fn stands(alloc: Global, count: u32) -> Vec<Seat<StandIn>> {
+pub(crate) fn stands(alloc: Global, count: u32) -> Vec<Seat<StandIn>> {
     let mut seats = Vec::new(alloc);
     for slot in 0..count {
         push_stand(&mut seats, slot, StandIn::new(1, Vec::new(alloc)));
@@ -88,7 +93,7 @@ fn push_stand(seats: &mut Vec<Seat<StandIn>>, slot: u32, transport: StandIn) -> 
 }
 
 /// Runs a dispatch. No test asks for what the run promises, so that this alone is proved beside it.
-pub fn ran<T: Transport, R: Threads + Wait + Sync>(
+pub(crate) fn ran<T: Transport, R: Threads + Wait + Sync>(
     rt: &R,
     opened: Dispatch,
     seats: Vec<Seat<T>>,
@@ -97,10 +102,10 @@ pub fn ran<T: Transport, R: Threads + Wait + Sync>(
 }
 
 /// Lets go of a dispatch. The end of so large a value is long to prove, so that it is proved once.
-pub fn close(_dispatch: Dispatch) {}
+pub(crate) fn close(_dispatch: Dispatch) {}
 
 /// Lets go of what came back of a run.
-pub fn close_run(end: Ran<StandIn>) {
+pub(crate) fn close_run(end: Ran<StandIn>) {
     let Ran {
         dispatch,
         workers: _,
@@ -111,7 +116,7 @@ pub fn close_run(end: Ran<StandIn>) {
 }
 
 /// Lets go of what a refused run handed back.
-pub fn close_refused(refused: NotRun<StandIn>) {
+pub(crate) fn close_refused(refused: NotRun<StandIn>) {
     let NotRun {
         why: _,
         dispatch,

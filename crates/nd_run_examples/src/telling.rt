@@ -79,7 +79,7 @@ fn push_entry(alloc: Global, lines: &mut Vec<u8>, entry: &Entry) -> Result<(), A
 }
 
 /// The lines of these entries.
-pub fn told(alloc: Global, history: &[Entry]) -> Result<Vec<u8>, AllocError> {
+pub(crate) fn told(alloc: Global, history: &[Entry]) -> Result<Vec<u8>, AllocError> {
     let mut lines = Vec::new(alloc);
     for entry in history {
         push_entry(alloc, &mut lines, entry)?;

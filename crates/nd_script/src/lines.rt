@@ -14,7 +14,7 @@ use nd_bytes::cut;
 use std::alloc::Global;
 
 /// The command of a line, for a graph of `drvs` derivations and a park of `machines` machines.
-pub fn read_line(
+pub(crate) fn read_line(
     alloc: Global,
     line: &[u8],
     drvs: usize,

@@ -15,7 +15,7 @@ use nd_closure::Refs;
 use std::alloc::Global;
 
 /// The rule of a line, for a graph of `drvs` derivations and a park of `machines` machines.
-pub fn read_rule(
+pub(crate) fn read_rule(
     alloc: Global,
     line: &[u8],
     drvs: usize,

@@ -14,7 +14,7 @@ pub enum Topic {
 }
 
 /// What this word speaks of, if it is one of those that a line may begin with.
-pub fn topic_named(word: &[u8]) -> Option<Topic>
+pub(crate) fn topic_named(word: &[u8]) -> Option<Topic>
     ensures { result ≡ topic_of word.now }
 {
     if word == b"noconnect".as_slice() {

@@ -19,7 +19,7 @@ pub enum Verb {
 }
 
 /// What this word asks for, if it is one of those that a line may begin with.
-pub fn verb_named(word: &[u8]) -> Option<Verb>
+pub(crate) fn verb_named(word: &[u8]) -> Option<Verb>
     ensures { result ≡ verb_of word.now }
 {
     if word == b"start".as_slice() {

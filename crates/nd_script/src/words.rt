@@ -14,7 +14,7 @@ use nd_path::{PathError, PathSet, StorePath};
 use std::alloc::Global;
 
 /// The value of a number without needless zeros that is at most `limit`.
-pub fn number(word: &[u8], limit: u32) -> Option<u32>
+pub(crate) fn number(word: &[u8], limit: u32) -> Option<u32>
     ensures { result ≡ number_of limit word.now }
 {
     if let [b'0', _, ..] = word {
@@ -25,7 +25,7 @@ pub fn number(word: &[u8], limit: u32) -> Option<u32>
 
 /// The number below `bound` with which these words begin, and the words behind it.
 #[tactic(auto, using(crate::proofs::Operands::no_words))]
-pub fn operand(words: Option<&[u8]>, bound: usize) -> Option<(u32, Option<&[u8]>)>
+pub(crate) fn operand(words: Option<&[u8]>, bound: usize) -> Option<(u32, Option<&[u8]>)>
     ensures { MatchOption result (NeverBegins bound (pieces 32 (option_copied words.entry))) (λ x. Begins bound (pieces 32 (option_copied words.entry)) x.0 (pieces 32 (option_copied x.1))) }
 {
     let Some(bytes) = words else {
@@ -43,7 +43,7 @@ pub fn operand(words: Option<&[u8]>, bound: usize) -> Option<(u32, Option<&[u8]>
 
 /// The number below `bound` that is the only word.
 #[tactic(auto, using(crate::proofs::Operands::never_alone))]
-pub fn only_operand(words: Option<&[u8]>, bound: usize) -> Option<u32>
+pub(crate) fn only_operand(words: Option<&[u8]>, bound: usize) -> Option<u32>
     ensures { MatchOption result (IsNoNumber bound (pieces 32 (option_copied words.entry))) (λ n. Begins bound (pieces 32 (option_copied words.entry)) n []) }
 {
     match operand(words, bound) {
@@ -54,7 +54,7 @@ pub fn only_operand(words: Option<&[u8]>, bound: usize) -> Option<u32>
 }
 
 /// The status that is the only word.
-pub fn status(words: Option<&[u8]>) -> Option<u8>
+pub(crate) fn status(words: Option<&[u8]>) -> Option<u8>
     ensures { MatchOption result (IsNoStatus (pieces 32 (option_copied words.entry))) (IsStatus (pieces 32 (option_copied words.entry))) }
 {
     let Some(bytes) = words else {
@@ -84,7 +84,7 @@ fn path_of(alloc: Global, word: &[u8]) -> Result<StorePath, LineFault>
 }
 
 /// The set of the store paths that these words are.
-pub fn path_set(alloc: Global, words: Option<&[u8]>) -> Result<PathSet, LineFault>
+pub(crate) fn path_set(alloc: Global, words: Option<&[u8]>) -> Result<PathSet, LineFault>
     ensures found { IfOk result (IsSetOf (pieces 32 (option_copied words.entry))) }
     ensures refused { IfErr result (RulesOut (IsSetOf (pieces 32 (option_copied words.entry)))) }
 {
@@ -110,7 +110,7 @@ fn is_mark(word: &[u8]) -> bool
 
 /// The lists of references that these words are: a word `o` begins each.
 #[tactic(auto, using(crate::proofs::Lists::nothing_listed, crate::proofs::Lists::no_mark))]
-pub fn reference_lists(alloc: Global, words: Option<&[u8]>) -> Result<Refs, LineFault>
+pub(crate) fn reference_lists(alloc: Global, words: Option<&[u8]>) -> Result<Refs, LineFault>
     ensures found { IfOk result (AreLists (pieces 32 (option_copied words.entry))) }
     ensures refused { IfErr result (RulesOut (AreLists (pieces 32 (option_copied words.entry)))) }
 {

@@ -9,7 +9,7 @@ pub const S2: &str = "/nix/store/qqqqqqqqqqqqqqqqqqqqqqqqqqqqqqqq-s2";
 pub const S3: &str = "/nix/store/rrrrrrrrrrrrrrrrrrrrrrrrrrrrrrrr-s3";
 
 /// Whether the set holds just these paths, which rise.
-pub fn is_set(set: &PathSet, paths: &[&str]) -> bool {
+pub(crate) fn is_set(set: &PathSet, paths: &[&str]) -> bool {
     if set.len() != paths.len() {
         return false;
     }

@@ -15,7 +15,7 @@ use std::alloc::{AllocError, Global};
 
 /// `start`: the lease starts, once what its machine lacks was copied.
 #[tactic(auto, using(crate::proofs::Recording::full_start, crate::proofs::Recording::full_start_refused))]
-pub fn start(alloc: Global, dispatch: &mut Dispatch, drv: u32) -> Result<Answer, Refusal>
+pub(crate) fn start(alloc: Global, dispatch: &mut Dispatch, drv: u32) -> Result<Answer, Refusal>
     ensures inputs { dispatch.new.inputs ≡ dispatch.old.inputs }
     ensures answer { IfOk result (IsAnswer dispatch.old.inputs dispatch.old.history dispatch.new.history (Command.Start drv)) }
     ensures refused { IfErr result (IsRefusal dispatch.old.inputs (reverse dispatch.old.history) (Command.Start drv)) }
@@ -37,7 +37,7 @@ pub fn start(alloc: Global, dispatch: &mut Dispatch, drv: u32) -> Result<Answer,
 
 /// `startwith`: it starts, once these paths were copied.
 #[tactic(auto, using(crate::proofs::Recording::started, crate::proofs::Recording::start_refused))]
-pub fn start_with(
+pub(crate) fn start_with(
     alloc: Global,
     dispatch: &mut Dispatch,
     drv: u32,
@@ -60,7 +60,7 @@ pub fn start_with(
 
 /// `built`: the build ends with its outputs, which refer to nothing.
 #[tactic(auto, using(crate::proofs::Recording::bare_end, crate::proofs::Recording::bare_end_refused))]
-pub fn built(alloc: Global, dispatch: &mut Dispatch, drv: u32) -> Result<Answer, Refusal>
+pub(crate) fn built(alloc: Global, dispatch: &mut Dispatch, drv: u32) -> Result<Answer, Refusal>
     requires { drv < length dispatch.old.inputs.graph.paths }
     ensures inputs { dispatch.new.inputs ≡ dispatch.old.inputs }
     ensures answer { IfOk result (IsAnswer dispatch.old.inputs dispatch.old.history dispatch.new.history (Command.Built drv)) }
@@ -83,7 +83,7 @@ pub fn built(alloc: Global, dispatch: &mut Dispatch, drv: u32) -> Result<Answer,
 
 /// `built` with lists: the build ends with its outputs, which have these references.
 #[tactic(auto, using(crate::proofs::Recording::ended, crate::proofs::Recording::end_refused))]
-pub fn built_with(
+pub(crate) fn built_with(
     alloc: Global,
     dispatch: &mut Dispatch,
     drv: u32,
@@ -106,7 +106,7 @@ pub fn built_with(
 
 /// `fail`: the build ends with this status.
 #[tactic(auto, using(crate::proofs::Recording::failed, crate::proofs::Recording::fail_refused))]
-pub fn fail(dispatch: &mut Dispatch, drv: u32, status: u8) -> Result<Answer, Refusal>
+pub(crate) fn fail(dispatch: &mut Dispatch, drv: u32, status: u8) -> Result<Answer, Refusal>
     ensures inputs { dispatch.new.inputs ≡ dispatch.old.inputs }
     ensures answer { IfOk result (IsAnswer dispatch.old.inputs dispatch.old.history dispatch.new.history (Command.Fail drv status)) }
     ensures refused { IfErr result (IsRefusal dispatch.old.inputs (reverse dispatch.old.history) (Command.Fail drv status)) }
@@ -124,7 +124,7 @@ pub fn fail(dispatch: &mut Dispatch, drv: u32, status: u8) -> Result<Answer, Ref
 
 /// `lose`: the transport is lost during the build.
 #[tactic(auto, using(crate::proofs::Recording::lost, crate::proofs::Recording::lose_refused))]
-pub fn lose(dispatch: &mut Dispatch, drv: u32) -> Result<Answer, Refusal>
+pub(crate) fn lose(dispatch: &mut Dispatch, drv: u32) -> Result<Answer, Refusal>
     ensures inputs { dispatch.new.inputs ≡ dispatch.old.inputs }
     ensures answer { IfOk result (IsAnswer dispatch.old.inputs dispatch.old.history dispatch.new.history (Command.Lose drv)) }
     ensures refused { IfErr result (IsRefusal dispatch.old.inputs (reverse dispatch.old.history) (Command.Lose drv)) }
@@ -142,7 +142,7 @@ pub fn lose(dispatch: &mut Dispatch, drv: u32) -> Result<Answer, Refusal>
 
 /// `down`: the lease is given back before its start.
 #[tactic(auto, using(crate::proofs::Recording::given_back, crate::proofs::Recording::down_refused))]
-pub fn down(dispatch: &mut Dispatch, drv: u32) -> Result<Answer, Refusal>
+pub(crate) fn down(dispatch: &mut Dispatch, drv: u32) -> Result<Answer, Refusal>
     ensures inputs { dispatch.new.inputs ≡ dispatch.old.inputs }
     ensures answer { IfOk result (IsAnswer dispatch.old.inputs dispatch.old.history dispatch.new.history (Command.Down drv)) }
     ensures refused { IfErr result (IsRefusal dispatch.old.inputs (reverse dispatch.old.history) (Command.Down drv)) }
@@ -160,7 +160,7 @@ pub fn down(dispatch: &mut Dispatch, drv: u32) -> Result<Answer, Refusal>
 
 /// `stop`: nothing more is begun.
 #[tactic(auto, using(crate::proofs::Recording::added))]
-pub fn stop(dispatch: &mut Dispatch) -> Result<Answer, Refusal>
+pub(crate) fn stop(dispatch: &mut Dispatch) -> Result<Answer, Refusal>
     ensures inputs { dispatch.new.inputs ≡ dispatch.old.inputs }
     ensures answer { IfOk result (IsAnswer dispatch.old.inputs dispatch.old.history dispatch.new.history Command.Stop) }
     ensures refused { IfErr result (IsRefusal dispatch.old.inputs (reverse dispatch.old.history) Command.Stop) }
@@ -174,7 +174,7 @@ pub fn stop(dispatch: &mut Dispatch) -> Result<Answer, Refusal>
 
 /// `drain`: the machine gets no more leases.
 #[tactic(auto, using(crate::proofs::Recording::added))]
-pub fn drain(dispatch: &mut Dispatch, machine: u32) -> Result<Answer, Refusal>
+pub(crate) fn drain(dispatch: &mut Dispatch, machine: u32) -> Result<Answer, Refusal>
     requires { machine < machines_in dispatch.old.inputs }
     ensures inputs { dispatch.new.inputs ≡ dispatch.old.inputs }
     ensures answer { IfOk result (IsAnswer dispatch.old.inputs dispatch.old.history dispatch.new.history (Command.Drain machine)) }
@@ -189,7 +189,7 @@ pub fn drain(dispatch: &mut Dispatch, machine: u32) -> Result<Answer, Refusal>
 
 /// `enable`: the machine gets leases again.
 #[tactic(auto, using(crate::proofs::Recording::added))]
-pub fn enable(dispatch: &mut Dispatch, machine: u32) -> Result<Answer, Refusal>
+pub(crate) fn enable(dispatch: &mut Dispatch, machine: u32) -> Result<Answer, Refusal>
     requires { machine < machines_in dispatch.old.inputs }
     ensures inputs { dispatch.new.inputs ≡ dispatch.old.inputs }
     ensures answer { IfOk result (IsAnswer dispatch.old.inputs dispatch.old.history dispatch.new.history (Command.Enable machine)) }

@@ -16,7 +16,7 @@ use std::alloc::{AllocError, Global};
 ///
 /// Refuses with `NotLive` where it has none.
 #[tactic(auto, using(crate::proofs::Tickets::own_ticket, crate::proofs::Tickets::live_lease))]
-pub fn live_ticket(dispatch: &Dispatch, drv: u32) -> Result<Ticket, Refusal>
+pub(crate) fn live_ticket(dispatch: &Dispatch, drv: u32) -> Result<Ticket, Refusal>
     ensures found { IfOk result (λ t. lease_of drv (reverse dispatch.now.history) ≡ Some t) }
     ensures own { IfOk result (λ t. t.drv ≡ drv) }
     ensures live { IfOk result (IsLive (reverse dispatch.now.history)) }
@@ -32,7 +32,11 @@ pub fn live_ticket(dispatch: &Dispatch, drv: u32) -> Result<Ticket, Refusal>
 ///
 /// Refuses for want of memory alone.
 #[tactic(auto, using(crate::proofs::Tickets::memory_alone))]
-pub fn lacking(alloc: Global, dispatch: &Dispatch, ticket: Ticket) -> Result<PathSet, Refusal>
+pub(crate) fn lacking(
+    alloc: Global,
+    dispatch: &Dispatch,
+    ticket: Ticket,
+) -> Result<PathSet, Refusal>
     requires { IsLive (reverse dispatch.now.history) ticket }
     ensures missing { IfOk result (IsMissing dispatch.now.inputs (reverse dispatch.now.history) ticket.drv ticket.machine) }
     ensures rising { IfOk result IsRising }
@@ -48,7 +52,7 @@ pub fn lacking(alloc: Global, dispatch: &Dispatch, ticket: Ticket) -> Result<Pat
 }
 
 /// No references for any output of the derivation.
-pub fn no_reports(alloc: Global, dispatch: &Dispatch, drv: u32) -> Result<Refs, AllocError>
+pub(crate) fn no_reports(alloc: Global, dispatch: &Dispatch, drv: u32) -> Result<Refs, AllocError>
     requires { drv < length dispatch.now.inputs.graph.paths }
     ensures { IfOk result (λ refs. refs ≡ no_references dispatch.now.inputs drv) }
 {

@@ -15,7 +15,7 @@ use nd_report::write_lines;
 use std::io;
 
 /// Writes the lines of the entries from the one with number `before` on.
-pub fn write_added<W: io::Write>(
+pub(crate) fn write_added<W: io::Write>(
     dispatch: &Dispatch,
     before: usize,
     out: &mut Told<W>,
@@ -30,7 +30,7 @@ pub fn write_added<W: io::Write>(
 }
 
 /// Writes the reply about a derivation.
-pub fn write_replied<W: io::Write>(
+pub(crate) fn write_replied<W: io::Write>(
     reply: &Reply,
     dispatch: &Dispatch,
     out: &mut Told<W>,
@@ -44,7 +44,10 @@ pub fn write_replied<W: io::Write>(
 }
 
 /// Writes `refused` and the refusal's name.
-pub fn write_refused<W: io::Write>(refusal: Refusal, out: &mut Told<W>) -> Result<(), WriteError>
+pub(crate) fn write_refused<W: io::Write>(
+    refusal: Refusal,
+    out: &mut Told<W>,
+) -> Result<(), WriteError>
     ensures written { OnOk result (Appends (W.contents out.old.device) (W.contents out.new.device) (refused_line refusal)) }
     ensures partly { OnErr result (WritesPart (W.contents out.old.device) (W.contents out.new.device) (refused_line refusal)) }
     ensures mark { out.new.is_marked ≡ (out.old.is_marked || is_err result) }

@@ -16,7 +16,7 @@ pub struct CountedReader<'a> {
 
 impl<'a> CountedReader<'a> {
     /// A reader over these bytes that grants this number of reads.
-    pub fn new(bytes: &'a [u8], good: usize) -> Self {
+    pub(crate) fn new(bytes: &'a [u8], good: usize) -> Self {
         CountedReader { bytes, good }
     }
 }
@@ -45,7 +45,7 @@ pub struct CountedWriter {
 
 impl CountedWriter {
     /// A writer that grants this number of writes.
-    pub fn new(alloc: Global, good: usize) -> Self {
+    pub(crate) fn new(alloc: Global, good: usize) -> Self {
         CountedWriter {
             written: Vec::new(alloc),
             good,
@@ -53,7 +53,7 @@ impl CountedWriter {
     }
 
     /// What was written.
-    pub fn bytes(&self) -> &[u8] {
+    pub(crate) fn bytes(&self) -> &[u8] {
         self.written.as_slice()
     }
 }

@@ -6,6 +6,7 @@ use nd_cli::{CliFault, ParkOptions};
 use nd_engines::{audit_engine, sim_engine};
 use nd_hook::Told;
 use std::alloc::{AllocError, Global};
+use std::fmt;
 use std::thread::Threads;
 
 /// What a command of an example is run with.
@@ -28,7 +29,7 @@ pub struct Setup<'a> {
 }
 
 /// These builders and this number of local jobs, and devices that never fail.
-pub fn builders(builders: &str, jobs: u16) -> Setup<'_> {
+pub(crate) fn builders(builders: &str, jobs: u16) -> Setup<'_> {
     Setup {
         builders,
         jobs,
@@ -69,7 +70,7 @@ fn options(alloc: Global, setup: &Setup<'_>) -> Result<ParkOptions, AllocError> 
 }
 
 /// Whether `sim` answers so for a bundle and a script. Want of memory is a no.
-pub fn simulates<R: Threads + Sync>(
+pub(crate) fn simulates<R: Threads + Sync>(
     rt: &R,
     alloc: Global,
     bundle: &[u8],
@@ -112,7 +113,7 @@ fn simulates_on<R: Threads + Sync>(
 }
 
 /// Whether `audit` answers so for a bundle and a history text. Want of memory is a no.
-pub fn audits<R: Threads + Sync>(
+pub(crate) fn audits<R: Threads + Sync>(
     rt: &R,
     alloc: Global,
     bundle: &[u8],
@@ -183,19 +184,21 @@ fn is_front(written: &[u8], text: &[u8]) -> bool {
     written.len() < text.len() && text.starts_with(written)
 }
 
-/// Whether a fault has this status and this line. Want of memory is a no.
-fn is_fault(alloc: Global, fault: &CliFault, status: u8, line: &str) -> bool {
-    if fault.status() != status {
-        return false;
-    }
-    match format!(in alloc; "{fault}") {
-        Ok(said) => said.as_str() == line,
+/// Whether a value is printed so. Want of memory is a no.
+fn is_printed<T: fmt::Display>(alloc: Global, value: &T, text: &str) -> bool {
+    match format!(in alloc; "{value}") {
+        Ok(printed) => printed.as_str() == text,
         Err(_) => false,
     }
 }
 
+/// Whether a fault has this status and this line. Want of memory is a no.
+fn is_fault(alloc: Global, fault: &CliFault, status: u8, line: &str) -> bool {
+    fault.status() == status && is_printed(alloc, fault, line)
+}
+
 /// Whether `sim` writes this text for a script, and ends with this status.
-pub fn says<R: Threads + Sync + AllocGlobal>(
+pub(crate) fn says<R: Threads + Sync + AllocGlobal>(
     rt: &R,
     bundle: &str,
     setup: &Setup<'_>,
@@ -208,7 +211,7 @@ pub fn says<R: Threads + Sync + AllocGlobal>(
 }
 
 /// Whether `sim` refuses an input with this line.
-pub fn refuses<R: Threads + Sync + AllocGlobal>(
+pub(crate) fn refuses<R: Threads + Sync + AllocGlobal>(
     rt: &R,
     bundle: &str,
     setup: &Setup<'_>,
@@ -220,7 +223,7 @@ pub fn refuses<R: Threads + Sync + AllocGlobal>(
 }
 
 /// Whether `audit` writes this line for a history text, and ends with this status.
-pub fn says_of<R: Threads + Sync + AllocGlobal>(
+pub(crate) fn says_of<R: Threads + Sync + AllocGlobal>(
     rt: &R,
     bundle: &str,
     setup: &Setup<'_>,
@@ -240,7 +243,7 @@ pub fn says_of<R: Threads + Sync + AllocGlobal>(
 }
 
 /// Whether `audit` refuses an input with this line.
-pub fn refuses_history<R: Threads + Sync + AllocGlobal>(
+pub(crate) fn refuses_history<R: Threads + Sync + AllocGlobal>(
     rt: &R,
     bundle: &str,
     setup: &Setup<'_>,

@@ -10,6 +10,7 @@ use nd_cli::{CliFault, ParkOptions, ask_engine, path_engine};
 use nd_engines::{audit_engine, sim_engine};
 use nd_hook::Told;
 use std::alloc::Global;
+use std::fmt;
 use std::io::{self, BufWriter};
 use std::rt::Files;
 use std::sync::Wait;
@@ -17,7 +18,7 @@ use std::thread::Threads;
 
 /// Runs the command that the words name, and answers the exit status. Help that is asked for goes
 /// to standard output with status 0, a word that isn't understood to standard error with status 2.
-pub fn run<'a, R: Files + Input + Print + Eprint + AllocGlobal + Threads + Wait + Sync>(
+pub(crate) fn run<'a, R: Files + Input + Print + Eprint + AllocGlobal + Threads + Wait + Sync>(
     rt: &R,
     alloc: Global,
     given: &'a [String],
@@ -51,9 +52,14 @@ pub fn run<'a, R: Files + Input + Print + Eprint + AllocGlobal + Threads + Wait 
 }
 
 /// Says a fault in one line on standard error, and answers its exit status.
-pub fn told<R: Eprint>(rt: &R, fault: &CliFault) -> u8 {
-    let _ = eprintln!(rt; "{fault}");
+pub(crate) fn told<R: Eprint>(rt: &R, fault: &CliFault) -> u8 {
+    say(rt, fault);
     fault.status()
+}
+
+/// Writes a value in a line on standard error, as far as that takes it.
+fn say<R: Eprint, T: fmt::Display>(rt: &R, value: &T) {
+    let _ = eprintln!(rt; "{value}");
 }
 
 fn path<R: Input + Print + AllocGlobal>(

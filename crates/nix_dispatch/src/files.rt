@@ -9,7 +9,11 @@ use std::rt::Files;
 
 /// What the value of an option stands for: the bytes of the file that it names behind `@`, and else
 /// its own bytes.
-pub fn text_or_file<R: Files>(rt: &R, alloc: Global, value: &str) -> Result<ByteString, CliFault> {
+pub(crate) fn text_or_file<R: Files>(
+    rt: &R,
+    alloc: Global,
+    value: &str,
+) -> Result<ByteString, CliFault> {
     match value.strip_prefix('@') {
         Some(name) => read_file(rt, alloc, name),
         None => Ok(ByteString::from_slice(alloc, value.as_bytes())?),
@@ -17,7 +21,7 @@ pub fn text_or_file<R: Files>(rt: &R, alloc: Global, value: &str) -> Result<Byte
 }
 
 /// The bytes of the file of an option, and none without the option.
-pub fn file_or_nothing<R: Files>(
+pub(crate) fn file_or_nothing<R: Files>(
     rt: &R,
     alloc: Global,
     name: Option<&str>,
@@ -31,7 +35,11 @@ pub fn file_or_nothing<R: Files>(
 /// The bytes of a file, to its end or to one byte past the limit of an input.
 ///
 /// `Read`: it can't be opened, or a read was refused. `Memory`.
-pub fn read_file<R: Files>(rt: &R, alloc: Global, name: &str) -> Result<ByteString, CliFault> {
+pub(crate) fn read_file<R: Files>(
+    rt: &R,
+    alloc: Global,
+    name: &str,
+) -> Result<ByteString, CliFault> {
     let Ok(file) = fs::open(rt, name) else {
         return Err(CliFault::Read);
     };

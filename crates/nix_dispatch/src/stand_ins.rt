@@ -19,7 +19,7 @@ use std::thread::Threads;
 
 /// Runs what is given with a stand-in for each slot of the park, and writes the history, and where asked
 /// the report. Without `--stand` each stand-in says yes to all.
-pub fn run_stand_ins<R: Files + Input + Print + AllocGlobal + Threads + Wait + Sync>(
+pub(crate) fn run_stand_ins<R: Files + Input + Print + AllocGlobal + Threads + Wait + Sync>(
     rt: &R,
     alloc: Global,
     options: &ArgMatches,
