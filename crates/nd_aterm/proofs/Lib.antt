@@ -2,4 +2,5 @@ pub mod ListLemmas
 pub mod OrderLemmas
 pub mod PrefixLemmas
 pub mod RefusalLemmas
+pub mod SectionLemmas
 pub mod StringLemmas

@@ -3,4 +3,5 @@ pub mod SpellingOnce
 pub mod Derivations
 pub mod DerivationsOnce
 pub mod Refusals
+pub mod Sections
 pub mod Texts

@@ -76,7 +76,7 @@ fn have_rising_outputs(input_drvs: &[InputDrv]) -> bool
 }
 
 /// Whether all five kinds of list strictly rise.
-pub fn is_in_order(parts: &Parts) -> bool
+pub(crate) fn is_in_order(parts: &Parts) -> bool
     ensures { result ≡ in_order parts.now }
 {
     if !is_rising(parts.outputs.as_slice()) {

@@ -31,7 +31,7 @@ pub trait Part: Drop {
 }
 
 /// What stands behind this byte, where the bytes begin with it.
-pub fn strip(bytes: &[u8], first: u8) -> Option<&[u8]>
+pub(crate) fn strip(bytes: &[u8], first: u8) -> Option<&[u8]>
     ensures { MatchOption result
         ((rest : List ℕ) → bytes.now ≡ first ∷ rest → ⊥)
         (λ rest. bytes.now ≡ first ∷ rest.now) }
@@ -43,7 +43,7 @@ pub fn strip(bytes: &[u8], first: u8) -> Option<&[u8]>
 }
 
 /// What stands behind this byte, which has to come first.
-pub fn expect(bytes: &[u8], first: u8) -> Result<&[u8], AtermError>
+pub(crate) fn expect(bytes: &[u8], first: u8) -> Result<&[u8], AtermError>
     ensures found { IfOk result (λ rest. bytes.now ≡ first ∷ rest.now) }
     ensures none { IfErr result (λ e.
         (e ≡ AtermError.NotDerivation) × ((rest : List ℕ) → bytes.now ≡ first ∷ rest → ⊥)) }
@@ -63,8 +63,24 @@ pub fn field<T: Part>(alloc: Global, bytes: &[u8], end: u8) -> Result<(T, &[u8])
     Ok((part, rest))
 }
 
+/// Reads two parts with a comma between them, and the byte that has to stand behind the second.
+pub(crate) fn two_fields<T: Part, U: Part>(
+    alloc: Global,
+    bytes: &[u8],
+    end: u8,
+) -> Result<(T, U, &[u8]), AtermError>
+    ensures found { IfOk result (λ x. bytes.now ≡ T.text x.0 (44 ∷ U.text x.1 (end ∷ x.2.now))) }
+    ensures shorter { IfOk result (λ x. length x.2.now < length bytes.now) }
+    ensures none { IfErr result (λ e. Refuses e
+        ((x : T) (y : U) (rest : List ℕ) → bytes.now ≡ T.text x (44 ∷ U.text y (end ∷ rest)) → ⊥)) }
+{
+    let (first, rest) = field(alloc, bytes, b',')?;
+    let (second, rest) = field(alloc, rest, end)?;
+    Ok((first, second, rest))
+}
+
 /// Writes a part at the end, and this byte behind it.
-pub fn put_field<T: Part>(part: &T, end: u8, out: &mut Vec<u8>) -> Result<(), AllocError>
+pub(crate) fn put_field<T: Part>(part: &T, end: u8, out: &mut Vec<u8>) -> Result<(), AllocError>
     ensures { OnOk result ((rest : List ℕ)
         → out.new.items ++ rest ≡ out.old.items ++ T.text part.now (end ∷ rest)) }
 {

@@ -5,20 +5,18 @@ ghost use Rattle.nd_aterm.specs.Derivations.{output, input_drv, env_entry};
 ghost use Rattle.nd_aterm.specs.DerivationsOnce.{output_once, output_opens, input_drv_once, input_drv_opens, env_entry_once, env_entry_opens};
 
 use crate::fault::AtermError;
-use crate::part::{Part, expect, field, put_field};
+use crate::part::{Part, expect, put_field, two_fields};
 use crate::records::{EnvEntry, InputDrv, Output};
 use std::alloc::{AllocError, Global};
 
 impl Part for Output {
     ghost text = { output };
 
-    #[tactic(auto, using(crate::specs::DerivationsOnce::onces), unfolding(crate::specs::Derivations::output))]
+    #[tactic(auto, using(crate::specs::SpellingOnce::string_once), unfolding(crate::specs::Derivations::output))]
     fn read(alloc: Global, bytes: &[u8]) -> Result<(Self, &[u8]), AtermError> {
         let rest = expect(bytes, b'(')?;
-        let (name, rest) = field(alloc, rest, b',')?;
-        let (path, rest) = field(alloc, rest, b',')?;
-        let (hash_algo, rest) = field(alloc, rest, b',')?;
-        let (hash, rest) = field(alloc, rest, b')')?;
+        let (name, path, rest) = two_fields(alloc, rest, b',')?;
+        let (hash_algo, hash, rest) = two_fields(alloc, rest, b')')?;
         let output = Output {
             name,
             path,
@@ -46,11 +44,10 @@ impl Part for Output {
 impl Part for InputDrv {
     ghost text = { input_drv };
 
-    #[tactic(auto, using(crate::specs::DerivationsOnce::onces), unfolding(crate::specs::Derivations::input_drv))]
+    #[tactic(auto, unfolding(crate::specs::Derivations::input_drv))]
     fn read(alloc: Global, bytes: &[u8]) -> Result<(Self, &[u8]), AtermError> {
         let rest = expect(bytes, b'(')?;
-        let (path, rest) = field(alloc, rest, b',')?;
-        let (outputs, rest) = field(alloc, rest, b')')?;
+        let (path, outputs, rest) = two_fields(alloc, rest, b')')?;
         Ok((InputDrv { path, outputs }, rest))
     }
 
@@ -70,11 +67,10 @@ impl Part for InputDrv {
 impl Part for EnvEntry {
     ghost text = { env_entry };
 
-    #[tactic(auto, using(crate::specs::DerivationsOnce::onces), unfolding(crate::specs::Derivations::env_entry))]
+    #[tactic(auto, unfolding(crate::specs::Derivations::env_entry))]
     fn read(alloc: Global, bytes: &[u8]) -> Result<(Self, &[u8]), AtermError> {
         let rest = expect(bytes, b'(')?;
-        let (key, rest) = field(alloc, rest, b',')?;
-        let (value, rest) = field(alloc, rest, b')')?;
+        let (key, value, rest) = two_fields(alloc, rest, b')')?;
         Ok((EnvEntry { key, value }, rest))
     }
 

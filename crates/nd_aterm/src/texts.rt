@@ -4,12 +4,14 @@ ghost use Rattle.std.specs.Prelude.{◌≡◌, ℕ, ◌≤◌, ◌<◌, List, []
 ghost use Rattle.nd_aterm.specs.declared.records.Parts.{Parts};
 ghost use Rattle.nd_aterm.specs.Derivations.{derivation, Loose, Text};
 ghost use Rattle.nd_aterm.specs.Refusals.{Refuses};
+ghost use Rattle.nd_aterm.specs.Sections.{paths, command, joined};
 ghost use Rattle.nd_aterm.specs.Texts.{parts_of, text_limit, IsRefused, IsUnwritten};
 
 use crate::derivations::Derivation;
 use crate::fault::AtermError;
-use crate::part::{expect, field, put_field};
-use crate::records::Parts;
+use crate::part::{field, put_field, two_fields};
+use crate::records::{EnvEntry, InputDrv, Output, Parts};
+use nd_bytes::{ByteString, Items};
 use std::alloc::{AllocError, Global};
 
 /// The most bytes that a derivation text may have.
@@ -27,23 +29,74 @@ fn behind_word(bytes: &[u8]) -> Option<&[u8]>
     }
 }
 
-/// Reads the parts of a derivation, its lists in any order, and gives them with what stands behind
-/// the text.
-#[tactic(auto, using(crate::specs::DerivationsOnce::onces), unfolding(crate::specs::Derivations::derivation))]
-fn parts_at(alloc: Global, bytes: &[u8]) -> Result<(Parts, &[u8]), AtermError>
-    ensures found { IfOk result (λ x. bytes.now ≡ derivation x.0 x.1.now) }
+/// What a derivation makes, and the store paths that it needs.
+#[derive(Drop)]
+struct Paths {
+    outputs: Items<Output>,
+    input_drvs: Items<InputDrv>,
+    input_srcs: Items<ByteString>,
+}
+
+/// How a derivation is built.
+#[derive(Drop)]
+struct Command {
+    platform: ByteString,
+    builder: ByteString,
+    args: Items<ByteString>,
+    env: Items<EnvEntry>,
+}
+
+/// Reads the first section of a derivation text, up to the sources and their comma.
+#[tactic(auto, using(crate::specs::DerivationsOnce::outputs_once, crate::specs::DerivationsOnce::input_drvs_once), unfolding(crate::specs::Sections::paths))]
+fn paths_at(alloc: Global, bytes: &[u8]) -> Result<(Paths, &[u8]), AtermError>
+    ensures found { IfOk result (λ x. bytes.now ≡ paths x.0 x.1.now) }
     ensures none { IfErr result (λ e. Refuses e
-        ((p : Parts) (rest : List ℕ) → bytes.now ≡ derivation p rest → ⊥)) }
+        ((p : Paths) (rest : List ℕ) → bytes.now ≡ paths p rest → ⊥)) }
 {
-    let rest = behind_word(bytes).ok_or(AtermError::NotDerivation)?;
-    let (outputs, rest) = field(alloc, rest, b',')?;
-    let (input_drvs, rest) = field(alloc, rest, b',')?;
+    let (outputs, input_drvs, rest) = two_fields(alloc, bytes, b',')?;
     let (input_srcs, rest) = field(alloc, rest, b',')?;
-    let (platform, rest) = field(alloc, rest, b',')?;
-    let (builder, rest) = field(alloc, rest, b',')?;
-    let (args, rest) = field(alloc, rest, b',')?;
-    let (env, rest) = field(alloc, rest, b')')?;
-    let parts = Parts {
+    let paths = Paths {
+        outputs,
+        input_drvs,
+        input_srcs,
+    };
+    Ok((paths, rest))
+}
+
+/// Reads the second section of a derivation text, from the platform on.
+#[tactic(auto, using(crate::specs::SpellingOnce::string_once), unfolding(crate::specs::Sections::command))]
+fn command_at(alloc: Global, bytes: &[u8]) -> Result<(Command, &[u8]), AtermError>
+    ensures found { IfOk result (λ x. bytes.now ≡ command x.0 x.1.now) }
+    ensures none { IfErr result (λ e. Refuses e
+        ((c : Command) (rest : List ℕ) → bytes.now ≡ command c rest → ⊥)) }
+{
+    let (platform, builder, rest) = two_fields(alloc, bytes, b',')?;
+    let (args, env, rest) = two_fields(alloc, rest, b')')?;
+    let command = Command {
+        platform,
+        builder,
+        args,
+        env,
+    };
+    Ok((command, rest))
+}
+
+/// The parts of a derivation with these two sections.
+fn join(paths: Paths, command: Command) -> Parts
+    ensures { result ≡ joined paths command }
+{
+    let Paths {
+        outputs,
+        input_drvs,
+        input_srcs,
+    } = paths;
+    let Command {
+        platform,
+        builder,
+        args,
+        env,
+    } = command;
+    Parts {
         outputs,
         input_drvs,
         input_srcs,
@@ -51,8 +104,30 @@ fn parts_at(alloc: Global, bytes: &[u8]) -> Result<(Parts, &[u8]), AtermError>
         builder,
         args,
         env,
+    }
+}
+
+/// Reads the parts of a derivation, its lists in any order, and gives them with what stands behind
+/// the text.
+fn parts_at(alloc: Global, bytes: &[u8]) -> Result<(Parts, &[u8]), AtermError>
+    ensures found { IfOk result (λ x. bytes.now ≡ derivation x.0 x.1.now) }
+    ensures none { IfErr result (λ e. Refuses e
+        ((p : Parts) (rest : List ℕ) → bytes.now ≡ derivation p rest → ⊥)) }
+{
+    let Some(rest) = behind_word(bytes) else {
+        return Err(AtermError::NotDerivation);
     };
-    Ok((parts, rest))
+    let (paths, rest) = match paths_at(alloc, rest) {
+        Ok(found) => found,
+        Err(fault) => return Err(fault),
+    };
+    match command_at(alloc, rest) {
+        Ok((command, rest)) => Ok((join(paths, command), rest)),
+        Err(fault) => {
+            drop(paths);
+            Err(fault)
+        }
+    }
 }
 
 /// Reads a derivation text, in one pass, and gives the derivation whose text the bytes are. Refusals,
