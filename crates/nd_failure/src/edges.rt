@@ -50,7 +50,7 @@ impl Model for Rows {
 
 impl Rows {
     /// The inputs of each node of a graph.
-    pub fn new(alloc: Global, graph: &Graph) -> Result<Rows, AllocError>
+    pub(crate) fn new(alloc: Global, graph: &Graph) -> Result<Rows, AllocError>
         ensures rows { IfOk result (λ rows. rows ≡ rows_of graph.now) }
         ensures ranged { OnOk result (AreInRange (rows_of graph.now)) }
     {
@@ -74,14 +74,14 @@ impl Rows {
     }
 
     /// The number of nodes.
-    pub fn len(&self) -> usize
+    pub(crate) fn len(&self) -> usize
         ensures { result ≡ length self.now }
     {
         self.lists.len()
     }
 
     /// The list of a node.
-    pub fn row(&self, node: usize) -> &[usize]
+    pub(crate) fn row(&self, node: usize) -> &[usize]
         requires { node < length self.now }
         ensures { result.now ≡ inputs_of self.now node }
     {
@@ -89,7 +89,7 @@ impl Rows {
     }
 
     /// Equal lists.
-    pub fn try_clone(&self) -> Result<Rows, AllocError>
+    pub(crate) fn try_clone(&self) -> Result<Rows, AllocError>
         ensures { IfOk result (λ copy. copy ≡ self.now) }
     {
         self.clone()
@@ -150,7 +150,7 @@ impl Model for Edges {
 
 impl Edges {
     /// The edges of a graph.
-    pub fn new(alloc: Global, graph: &Graph) -> Result<Edges, AllocError>
+    pub(crate) fn new(alloc: Global, graph: &Graph) -> Result<Edges, AllocError>
         ensures { IfOk result (λ edges. edges ≡ rows_of graph.now) }
     {
         Edges::of_inputs(alloc, Rows::new(alloc, graph)?)
@@ -166,7 +166,7 @@ impl Edges {
     }
 
     /// Equal edges.
-    pub fn try_clone(&self) -> Result<Edges, AllocError>
+    pub(crate) fn try_clone(&self) -> Result<Edges, AllocError>
         ensures { IfOk result (λ copy. copy ≡ self.now) }
     {
         self.clone()
@@ -180,7 +180,7 @@ impl Edges {
     }
 
     /// The inputs of a node.
-    pub fn inputs(&self, node: usize) -> &[usize]
+    pub(crate) fn inputs(&self, node: usize) -> &[usize]
         requires { node < length self.now }
         ensures { result.now ≡ inputs_of self.now node }
     {
@@ -188,7 +188,7 @@ impl Edges {
     }
 
     /// The nodes that have a node among their inputs, each as often as it has it there.
-    pub fn dependants(&self, node: usize) -> &[usize]
+    pub(crate) fn dependants(&self, node: usize) -> &[usize]
         requires { node < length self.now }
         ensures { AreDependants self.now node result.now }
     {

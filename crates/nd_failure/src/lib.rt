@@ -12,5 +12,4 @@ mod unbuilt;
 
 pub use board::Board;
 pub use edges::Edges;
-pub use node_set::NodeSet;
 pub use status::{Counts, Mark, Status};

@@ -28,7 +28,12 @@ fn visit(doomed: &mut NodeSet, work: &mut Vec<usize>, nodes: &[usize]) -> usize
 /// Puts all nodes that depend on the root into the set, and counts those that were not there.
 ///
 /// The work list is empty before and after, and has room for each node once.
-pub fn spread(edges: &Edges, doomed: &mut NodeSet, work: &mut Vec<usize>, root: usize) -> usize
+pub(crate) fn spread(
+    edges: &Edges,
+    doomed: &mut NodeSet,
+    work: &mut Vec<usize>,
+    root: usize,
+) -> usize
     requires root { root < length edges.now }
     requires sized { length doomed.old ≡ length edges.now }
     requires closed { IsClosed edges.now doomed.old }

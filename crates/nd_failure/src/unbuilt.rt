@@ -24,7 +24,7 @@ impl Model for UnbuiltInputs {
 
 impl UnbuiltInputs {
     /// The counters where nothing is built.
-    pub fn new(alloc: Global, edges: &Edges) -> Result<UnbuiltInputs, AllocError>
+    pub(crate) fn new(alloc: Global, edges: &Edges) -> Result<UnbuiltInputs, AllocError>
         ensures { IfOk result (λ made. made ≡ map length edges.now) }
     {
         let mut counts = Vec::with_capacity(alloc, edges.len())?;
@@ -35,7 +35,7 @@ impl UnbuiltInputs {
     }
 
     /// The nodes whose inputs are all built.
-    pub fn nodes_with_none(&self, alloc: Global) -> Result<NodeSet, AllocError>
+    pub(crate) fn nodes_with_none(&self, alloc: Global) -> Result<NodeSet, AllocError>
         ensures { IfOk result (λ nodes. AreZero self.now nodes) }
     {
         let mut nodes = NodeSet::new(alloc, self.counts.len())?;
@@ -48,14 +48,14 @@ impl UnbuiltInputs {
     }
 
     /// Equal counters.
-    pub fn try_clone(&self) -> Result<UnbuiltInputs, AllocError>
+    pub(crate) fn try_clone(&self) -> Result<UnbuiltInputs, AllocError>
         ensures { IfOk result (λ copy. copy ≡ self.now) }
     {
         self.clone()
     }
 
     /// Whether every input of a node is built.
-    pub fn is_none(&self, node: usize) -> bool
+    pub(crate) fn is_none(&self, node: usize) -> bool
         requires { node < length self.now }
         ensures { result ≡ (slice_index_or self.now node 0 == 0) }
     {
@@ -71,7 +71,7 @@ impl UnbuiltInputs {
     }
 
     /// One input of each of `nodes` is built.
-    pub fn lower_all(&mut self, nodes: &[usize])
+    pub(crate) fn lower_all(&mut self, nodes: &[usize])
         requires { (d : ℕ) → count_by (nat_eq d) nodes.now ≤ slice_index_or self.old d 0 }
         ensures sized { length self.new ≡ length self.old }
         ensures lowered { (d : ℕ) → slice_index_or self.new d 0 + count_by (nat_eq d) nodes.now ≡ slice_index_or self.old d 0 }
@@ -83,7 +83,7 @@ impl UnbuiltInputs {
 }
 
 /// Puts those of `nodes` into the set whose inputs are all built.
-pub fn wake(ready: &mut NodeSet, unbuilt: &UnbuiltInputs, nodes: &[usize])
+pub(crate) fn wake(ready: &mut NodeSet, unbuilt: &UnbuiltInputs, nodes: &[usize])
     requires in_range { All (λ d. d < length ready.old) nodes.now }
     requires sized { length unbuilt.now ≡ length ready.old }
     ensures { AreWoken nodes.now unbuilt.now ready.old ready.new }
