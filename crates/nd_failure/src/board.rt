@@ -1,5 +1,6 @@
 //! The statuses of a graph's nodes, kept as they change.
-ghost use Rattle.std.specs.Prelude.{◌≡◌, ◌<◌, true, false, slice_set, length, MatchBool, IfOk};
+ghost use Rattle.std.specs.Prelude.{◌≡◌, ◌<◌, [], true, false, slice_set, length, replicate, vec_capacity, MatchBool, IfOk};
+ghost use Rattle.nd_failure.specs.Kept.{AreZero};
 ghost use Rattle.nd_failure.specs.Progress.{IsReady, IsStopped, HasFailure, untouched};
 ghost use Rattle.nd_graph.specs.Graphs.{rows_of};
 ghost use Rattle.nd_failure.specs.Statuses.{HasStatus, CanFail, AreCounts, IsNextReady, total_of};
@@ -12,6 +13,60 @@ use crate::unbuilt::{UnbuiltInputs, wake};
 use nd_graph::Graph;
 use std::alloc::{AllocError, Global};
 use std::marker::Model;
+
+/// The marks of `len` nodes, all of them free, and an empty work list with room for each node and one more.
+fn fresh_lists(alloc: Global, len: usize) -> Result<(Vec<Mark>, Vec<usize>), AllocError>
+    ensures marks { IfOk result (λ lists. lists.0.items ≡ replicate len Mark.Free) }
+    ensures idle { IfOk result (λ lists. lists.1.items ≡ []) }
+    ensures room { IfOk result (λ lists. len < vec_capacity lists.1) }
+{
+    let marks = vec![in alloc; Mark::Free; len]?;
+    let work = Vec::with_capacity(alloc, len + 1)?;
+    Ok((marks, work))
+}
+
+/// No node of `len`, and the nodes whose inputs are all built.
+fn fresh_sets(
+    alloc: Global,
+    len: usize,
+    unbuilt: &UnbuiltInputs,
+) -> Result<(NodeSet, NodeSet), AllocError>
+    ensures doomed { IfOk result (λ sets. sets.0 ≡ replicate len false) }
+    ensures ready { IfOk result (λ sets. AreZero unbuilt.now sets.1) }
+{
+    let doomed = NodeSet::new(alloc, len)?;
+    let ready = unbuilt.nodes_with_none(alloc)?;
+    Ok((doomed, ready))
+}
+
+/// Equal marks, and an empty work list with this much room.
+fn copied_lists(
+    alloc: Global,
+    marks: &[Mark],
+    room: usize,
+) -> Result<(Vec<Mark>, Vec<usize>), AllocError>
+    ensures marks { IfOk result (λ lists. lists.0.items ≡ marks.now) }
+    ensures idle { IfOk result (λ lists. lists.1.items ≡ []) }
+    ensures room { IfOk result (λ lists. vec_capacity lists.1 ≡ room) }
+{
+    let copy = Vec::from_slice(alloc, marks)?;
+    let work = Vec::with_capacity(alloc, room)?;
+    Ok((copy, work))
+}
+
+/// Two equal sets.
+fn copied_sets(
+    alloc: Global,
+    doomed: &NodeSet,
+    ready: &NodeSet,
+) -> Result<(NodeSet, NodeSet), AllocError>
+    ensures doomed { IfOk result (λ sets. sets.0 ≡ doomed.now) }
+    ensures ready { IfOk result (λ sets. sets.1 ≡ ready.now) }
+{
+    let first = doomed.try_clone(alloc)?;
+    let second = ready.try_clone(alloc)?;
+    Ok((first, second))
+}
 
 /// The statuses of a graph's nodes.
 ///
@@ -58,17 +113,18 @@ impl Board {
     {
         let len = edges.len();
         let unbuilt = UnbuiltInputs::new(alloc, &edges)?;
-        let ready = unbuilt.nodes_with_none(alloc)?;
+        let (marks, work) = fresh_lists(alloc, len)?;
+        let (doomed, ready) = fresh_sets(alloc, len, &unbuilt)?;
         Ok(Board {
             edges,
             keep_going,
             stop: false,
-            marks: vec![in alloc; Mark::Free; len]?,
+            marks,
             unbuilt,
-            doomed: NodeSet::new(alloc, len)?,
+            doomed,
             ready,
             counts: Counts::all_waiting(len),
-            work: Vec::with_capacity(alloc, len + 1)?,
+            work,
         })
     }
 
@@ -76,16 +132,20 @@ impl Board {
     pub fn try_clone(&self, alloc: Global) -> Result<Board, AllocError>
         ensures { IfOk result (λ copy. copy ≡ self.now) }
     {
+        let (marks, work) = copied_lists(alloc, self.marks.as_slice(), self.work.capacity())?;
+        let unbuilt = self.unbuilt.try_clone()?;
+        let (doomed, ready) = copied_sets(alloc, &self.doomed, &self.ready)?;
+        let edges = self.edges.try_clone()?;
         Ok(Board {
-            edges: self.edges.try_clone()?,
+            edges,
             keep_going: self.keep_going,
             stop: self.stop,
-            marks: Vec::from_slice(alloc, self.marks.as_slice())?,
-            unbuilt: self.unbuilt.try_clone()?,
-            doomed: self.doomed.try_clone(alloc)?,
-            ready: self.ready.try_clone(alloc)?,
+            marks,
+            unbuilt,
+            doomed,
+            ready,
             counts: self.counts,
-            work: Vec::with_capacity(alloc, self.work.capacity())?,
+            work,
         })
     }
 

@@ -4,12 +4,12 @@ use Rattle.nd_failure.proofs.board.Board.try_clone.Goals as goal
 
 pub invariant_of-result : goal.invariant_of-result
 invariant_of-result c =
-    IsKept-same c.self.inside _ c.self.invariant c.in_ok-try_clone.ensures (c.in_ok-from_slice.ensures.items ∙ c.as_slice.ensures.value)
-    c.in_ok-try_clone-2.ensures c.in_ok-try_clone-3.ensures c.in_ok-try_clone-4.ensures refl c.in_ok-with_capacity.ensures.items
-    (c.in_ok-with_capacity.ensures.exact ∙ c.capacity.ensures)
+    IsKept-same c.self.inside _ c.self.invariant c.in_ok-edges.ensures (c.in_ok-marks.ensures.marks ∙ c.as_slice.ensures.value)
+    c.in_ok-unbuilt.ensures c.in_ok-doomed.ensures.doomed c.in_ok-doomed.ensures.ready refl c.in_ok-marks.ensures.idle
+    (c.in_ok-marks.ensures.room ∙ c.capacity.ensures)
 
 pub returns : goal.returns
 returns c =
-    shown-same c.self.inside.edges c.in_ok-try_clone.field-0 c.self.inside.keep_going c.self.inside.marks.items
-    c.in_ok-from_slice.field-0.items c.self.inside.stop c.in_ok-try_clone.ensures (c.in_ok-from_slice.ensures.items ∙ c.as_slice.ensures.value)
+    shown-same c.self.inside.edges _ c.self.inside.keep_going c.self.inside.marks.items
+    _ c.self.inside.stop c.in_ok-edges.ensures (c.in_ok-marks.ensures.marks ∙ c.as_slice.ensures.value)
     ∙ c.self.view_is
