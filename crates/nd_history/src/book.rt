@@ -163,7 +163,7 @@ impl Book {
 
     /// Whether a live lease is on this slot of this machine.
     #[tactic(auto, using(crate::proofs::Following::any_reverse))]
-    pub fn is_taken(&self, machine: u32, slot: u32) -> bool
+    pub(crate) fn is_taken(&self, machine: u32, slot: u32) -> bool
         ensures { result ≡ is_taken machine slot (reverse self.now.entries) }
     {
         is_any_on(self.leases.as_slice(), machine, slot)
@@ -171,14 +171,14 @@ impl Book {
 
     /// Whether derivation `drv` has a live lease.
     #[tactic(auto, using(crate::proofs::Following::any_reverse))]
-    pub fn is_leased(&self, drv: u32) -> bool
+    pub(crate) fn is_leased(&self, drv: u32) -> bool
         ensures { result ≡ is_leased drv (reverse self.now.entries) }
     {
         is_any_of(self.leases.as_slice(), drv)
     }
 
     /// Whether derivation `drv` is built.
-    pub fn is_built(&self, drv: usize) -> bool
+    pub(crate) fn is_built(&self, drv: usize) -> bool
         requires { drv < self.now.drvs }
         ensures { result ≡ is_built drv (reverse self.now.entries) }
     {
@@ -186,7 +186,7 @@ impl Book {
     }
 
     /// Whether derivation `drv` failed.
-    pub fn is_failed(&self, drv: usize) -> bool
+    pub(crate) fn is_failed(&self, drv: usize) -> bool
         requires { drv < self.now.drvs }
         ensures { result ≡ is_failed drv (reverse self.now.entries) }
     {
@@ -194,7 +194,7 @@ impl Book {
     }
 
     /// Whether any derivation failed.
-    pub fn has_failure(&self) -> bool
+    pub(crate) fn has_failure(&self) -> bool
         ensures { result ≡ list_any is_failure (reverse self.now.entries) }
     {
         self.failure

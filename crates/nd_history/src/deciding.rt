@@ -66,7 +66,7 @@ fn is_local_free(inputs: &Inputs, book: &Book, need: &Need) -> bool
 }
 
 /// The decision about derivation `drv`. It takes no memory.
-pub fn decide_now(inputs: &Inputs, book: &Book, drv: usize) -> Decision
+pub(crate) fn decide_now(inputs: &Inputs, book: &Book, drv: usize) -> Decision
     requires sound { IsSound inputs.now.graph }
     requires node { drv < length inputs.now.graph.paths }
     requires few { length inputs.now.machines ≤ 1024 }
@@ -109,7 +109,7 @@ pub fn reply_now(inputs: &Inputs, book: &Book, drv: usize) -> Reply
 }
 
 /// The least slot of a machine that no live lease is on.
-pub fn free_slot(book: &Book, machine: u32, jobs: u32) -> u32
+pub(crate) fn free_slot(book: &Book, machine: u32, jobs: u32) -> u32
     requires { load machine (reverse book.now.entries) < jobs }
     ensures within { result < jobs }
     ensures least { IsLeastFree (reverse book.now.entries) machine result }

@@ -34,7 +34,7 @@ fn are_inputs_built(inputs: &Inputs, book: &Book, drv: usize) -> bool
 }
 
 /// Whether nothing has been said of derivation `drv`, nothing stops it, and its inputs are built.
-pub fn is_ready(inputs: &Inputs, book: &Book, drv: u32) -> bool
+pub(crate) fn is_ready(inputs: &Inputs, book: &Book, drv: u32) -> bool
     requires legal { IsLegal (premises_of inputs.now) (reverse book.now.entries) }
     requires sound { IsSound inputs.now.graph }
     requires node { drv < drvs_in (premises_of inputs.now) }
