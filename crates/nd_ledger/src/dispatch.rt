@@ -44,7 +44,7 @@ use std::marker::Model;
 
 /// Leases and their history: it only ever holds a legal one. Contracts see the five inputs, which
 /// never change, and the entries, oldest first.
-#[derive(Drop, Debug)]
+#[derive(Drop)]
 pub struct Dispatch {
     inputs: Inputs,
     book: Book,
@@ -509,11 +509,27 @@ impl Dispatch {
     pub fn try_clone(&self, alloc: Global) -> Result<Dispatch, AllocError>
         ensures { IfOk result (λ copy. copy ≡ self.now) }
     {
+        let inputs = self.inputs.try_clone(alloc)?;
+        let Ok(book) = self.book.try_clone(alloc) else {
+            drop(inputs);
+            return Err(AllocError);
+        };
+        let Ok(stores) = self.stores.try_clone() else {
+            drop(inputs);
+            drop(book);
+            return Err(AllocError);
+        };
+        let Ok(board) = self.board.try_clone(alloc) else {
+            drop(inputs);
+            drop(book);
+            drop(stores);
+            return Err(AllocError);
+        };
         Ok(Dispatch {
-            inputs: self.inputs.try_clone(alloc)?,
-            book: self.book.try_clone(alloc)?,
-            stores: self.stores.try_clone()?,
-            board: self.board.try_clone(alloc)?,
+            inputs,
+            book,
+            board,
+            stores,
         })
     }
 

@@ -4,7 +4,7 @@ use nd_history::entry::Ticket;
 use nd_path::{PathSet, StorePath};
 
 /// A lease with what is to be built and what is to be copied first.
-#[derive(Drop, Debug)]
+#[derive(Drop)]
 pub struct Job {
     /// The lease.
     pub ticket: Ticket,
