@@ -9,9 +9,9 @@ use Rattle.nd_history.specs.declared.rule.Rule.{Rule}
 use Rattle.nd_history.specs.Premises.{Premises}
 use Rattle.nd_history.specs.Legal.{IsLegal}
 use Rattle.nd_history.specs.Audit.{rule_name}
-use Rattle.nd_report.specs.Sound.{IsHistoryText, IsRefused}
+use Rattle.nd_texts.specs.Sound.{IsHistoryText, IsRefused}
 use Rattle.nd_report.specs.Audits.{IsFirstIllegal}
-use Rattle.nd_report.specs.declared.history_error.HistoryError.{HistoryError}
+use Rattle.nd_texts.specs.declared.history_error.HistoryError.{HistoryError}
 use Rattle.nd_cli.specs.Inputs.{limit}
 use Rattle.nd_cli.specs.Asked.{RefusesPark}
 use Rattle.nd_cli.specs.declared.options.ParkOptions.{ParkOptions}

@@ -1,12 +1,2 @@
-pub mod Sent
-pub mod Spelled
-pub mod Decimals
-pub mod Plain
-pub mod Once
-pub mod LineKinds
-pub mod PathLists
-pub mod Texts
-pub mod Parts
-pub mod Written
 pub mod Rows
 pub mod Admitting

@@ -15,16 +15,16 @@ use Rattle.nd_history.specs.declared.entry.Entry.{Entry}
 use Rattle.nd_history.specs.Premises.{Premises}
 use Rattle.nd_history.specs.Standing.{drvs_in}
 use Rattle.nd_history.specs.Statuses.{HasStatusIn, AreCountsIn}
-use Rattle.nd_report.specs.Lines.{spaced}
-use Rattle.nd_report.specs.Sending.{Sends, SendsPart}
+use Rattle.nd_texts.specs.Lines.{spaced}
+use Rattle.nd_texts.specs.Sending.{Sends, SendsPart}
 use Rattle.nd_machines.specs.Builders.{Builder}
 use Rattle.nd_choose.specs.Best.{jobs_at}
 use Rattle.nd_hook.specs.ReplyText.{uri_at}
 use Rattle.nd_history.specs.Choices.{machines_in, jobs_of}
 use Rattle.std.specs.Fmt.{decimal}
 use Rattle.nd_report.specs.Reports.{share, drv_row, drvs_text, counts_text, machine_row, machines_text, builder_row, AreFirstStatuses, IsReport, Reports, ReportsPart, SendsDrvs, SendsDrvsPart}
-use Rattle.nd_report.proofs.Sent.{both, part_first, part_then, nothing, all_sent, end_in_part, sent_in_part}
-use Rattle.nd_report.proofs.Spelled.{front_more, parted, renamed, renamed_part, spaced-one}
+use Rattle.nd_texts.proofs.Sent.{both, part_first, part_then, nothing, all_sent, end_in_part, sent_in_part}
+use Rattle.nd_texts.proofs.Spelled.{front_more, parted, renamed, renamed_part, spaced-one}
 
 -- ---- the slots of a machine
 

@@ -16,8 +16,8 @@ use Rattle.nd_history.specs.History.{load, is_up}
 use Rattle.nd_history.specs.Choices.{jobs_of}
 use Rattle.nd_history.specs.Standing.{drvs_in}
 use Rattle.nd_history.specs.Statuses.{HasStatusIn, AreCountsIn}
-use Rattle.nd_report.specs.Lines.{spaced}
-use Rattle.nd_report.specs.Sending.{Sends, SendsPart}
+use Rattle.nd_texts.specs.Lines.{spaced}
+use Rattle.nd_texts.specs.Sending.{Sends, SendsPart}
 
 -- a line: its first word, and the others with a space before each
 unfoldable pub row : List ℕ → List (List ℕ) → List ℕ

@@ -71,13 +71,55 @@ fn idle(
     ensures inputs { IfOk result (λ d. d.inputs ≡ premises graph.now machines.now local.now info.now keep_going) }
     ensures empty { IfOk result (λ d. d.history ≡ []) }
 {
-    let graph = graph.try_clone(alloc)?;
-    let machines = copies(alloc, machines)?;
-    let local = local.try_clone(alloc)?;
-    let info = info.try_clone()?;
+    let (machines, local) = park(alloc, machines, local)?;
+    let (graph, info) = match tables(alloc, graph, info) {
+        Ok(both) => both,
+        Err(fault) => {
+            drop(machines);
+            drop(local);
+            return Err(fault);
+        }
+    };
     match Dispatch::new(alloc, graph, machines, local, info, keep_going) {
         Ok(dispatch) => Ok(dispatch),
-        Err(_parts) => Err(AllocError),
+        Err(parts) => {
+            drop(parts);
+            Err(AllocError)
+        }
+    }
+}
+
+/// Copies of the machines and of the local one's settings.
+fn park(
+    alloc: Global,
+    machines: &[Machine],
+    local: &Local,
+) -> Result<(Vec<Machine>, Local), AllocError>
+    ensures machines { IfOk result (λ x. x.0.items ≡ machines.now) }
+    ensures local { IfOk result (λ x. x.1 ≡ local.now) }
+{
+    let local = local.try_clone(alloc)?;
+    match copies(alloc, machines) {
+        Ok(machines) => Ok((machines, local)),
+        Err(fault) => {
+            drop(local);
+            Err(fault)
+        }
+    }
+}
+
+/// Copies of the graph and of the references.
+fn tables(alloc: Global, graph: &Graph, info: &RefTable) -> Result<(Graph, RefTable), AllocError>
+    ensures graph { IfOk result (λ x. x.0 ≡ graph.now) }
+    ensures info { IfOk result (λ x. x.1.entries ≡ info.now.entries) }
+{
+    let info = info.try_clone()?;
+    match graph.try_clone(alloc) {
+        Ok(graph) => Ok((graph, info)),
+        Err(fault) => {
+            drop(info);
+            Err(fault)
+        }
     }
 }
 

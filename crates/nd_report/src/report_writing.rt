@@ -5,17 +5,16 @@ ghost use Rattle.std.specs.Fmt.{decimal};
 ghost use Rattle.std.specs.List.{flat_map, range_with_len};
 ghost use Rattle.nd_history.specs.Standing.{drvs_in};
 ghost use Rattle.nd_history.specs.Choices.{machines_in, jobs_of};
-ghost use Rattle.nd_report.specs.Lines.{spaced};
+ghost use Rattle.nd_texts.specs.Lines.{spaced};
 ghost use Rattle.nd_report.specs.Reports.{row, count_row, begun_text, ended_text, counts_text, up_word, share, builder_row, machine_row, machines_text, status_word, drv_row, Reports, ReportsPart, SendsDrvs, SendsDrvsPart};
-ghost use Rattle.nd_report.specs.Sending.{Sends, SendsPart};
+ghost use Rattle.nd_texts.specs.Sending.{Sends, SendsPart};
 
-use crate::history_writing::{put_number, put_word};
-use crate::page::Page;
 use itoa::Buffer;
 use nd_failure::{Counts, Status};
 use nd_hook::{Fault, Told, WriteError};
 use nd_ledger::Dispatch;
 use nd_machines::Machine;
+use nd_texts::page::{Page, put_number, put_word};
 use std::io;
 
 /// Writes how a dispatch stands: `total`, `waiting`, `leased`, `built`, `failed` and `cancelled` with
@@ -41,7 +40,7 @@ pub fn write_report<W: io::Write>(dispatch: &Dispatch, out: &mut Told<W>) -> Res
 }
 
 /// Writes the counts and the machines.
-#[tactic(auto, using(crate::proofs::Sent::texts))]
+#[tactic(auto, using(nd_texts::proofs::Sent::texts))]
 fn put_park<W: io::Write>(
     total: usize,
     counts: &Counts,
@@ -58,7 +57,7 @@ fn put_park<W: io::Write>(
 }
 
 /// Writes how many derivations there are, and how many have each status.
-#[tactic(auto, using(crate::proofs::Sent::texts))]
+#[tactic(auto, using(nd_texts::proofs::Sent::texts))]
 fn put_counts<W: io::Write>(
     total: usize,
     counts: &Counts,
@@ -74,7 +73,7 @@ fn put_counts<W: io::Write>(
 }
 
 /// Writes the number of derivations, and of those that wait and are leased.
-#[tactic(auto, using(crate::proofs::Sent::texts))]
+#[tactic(auto, using(nd_texts::proofs::Sent::texts))]
 fn put_begun<W: io::Write>(
     total: usize,
     counts: &Counts,
@@ -90,7 +89,7 @@ fn put_begun<W: io::Write>(
 }
 
 /// Writes the numbers of derivations that are built, failed and cancelled.
-#[tactic(auto, using(crate::proofs::Sent::texts))]
+#[tactic(auto, using(nd_texts::proofs::Sent::texts))]
 fn put_ended<W: io::Write>(counts: &Counts, page: &mut Page, out: &mut Told<W>) -> Result<(), Fault>
     ensures written { OnOk result (Sends (W.contents out.old.device) page.old (W.contents out.new.device) page.new (ended_text counts.now)) }
     ensures partly { OnErr result (SendsPart (W.contents out.old.device) page.old (W.contents out.new.device) (ended_text counts.now)) }
@@ -101,7 +100,7 @@ fn put_ended<W: io::Write>(counts: &Counts, page: &mut Page, out: &mut Told<W>) 
 }
 
 /// Writes the numbers of derivations that wait and that are leased.
-#[tactic(auto, using(crate::proofs::Sent::texts))]
+#[tactic(auto, using(nd_texts::proofs::Sent::texts))]
 fn put_open<W: io::Write>(counts: &Counts, page: &mut Page, out: &mut Told<W>) -> Result<(), Fault>
     ensures written { OnOk result (Sends (W.contents out.old.device) page.old (W.contents out.new.device) page.new (count_row (codes "waiting") counts.now.waiting ++ count_row (codes "leased") counts.now.leased)) }
     ensures partly { OnErr result (SendsPart (W.contents out.old.device) page.old (W.contents out.new.device) (count_row (codes "waiting") counts.now.waiting ++ count_row (codes "leased") counts.now.leased)) }
@@ -112,7 +111,7 @@ fn put_open<W: io::Write>(counts: &Counts, page: &mut Page, out: &mut Told<W>) -
 }
 
 /// Writes the numbers of derivations that failed and that are cancelled.
-#[tactic(auto, using(crate::proofs::Sent::texts))]
+#[tactic(auto, using(nd_texts::proofs::Sent::texts))]
 fn put_lost<W: io::Write>(counts: &Counts, page: &mut Page, out: &mut Told<W>) -> Result<(), Fault>
     ensures written { OnOk result (Sends (W.contents out.old.device) page.old (W.contents out.new.device) page.new (count_row (codes "failed") counts.now.failed ++ count_row (codes "cancelled") counts.now.cancelled)) }
     ensures partly { OnErr result (SendsPart (W.contents out.old.device) page.old (W.contents out.new.device) (count_row (codes "failed") counts.now.failed ++ count_row (codes "cancelled") counts.now.cancelled)) }
@@ -123,7 +122,7 @@ fn put_lost<W: io::Write>(counts: &Counts, page: &mut Page, out: &mut Told<W>) -
 }
 
 /// Writes a number under its name.
-#[tactic(auto, using(crate::proofs::Sent::texts), unfolding(crate::specs::Reports::row))]
+#[tactic(auto, using(nd_texts::proofs::Sent::texts), unfolding(crate::specs::Reports::row))]
 fn put_count<W: io::Write>(
     name: &[u8],
     number: usize,
@@ -139,7 +138,7 @@ fn put_count<W: io::Write>(
 }
 
 /// Writes a name and a number behind it.
-#[tactic(auto, using(crate::proofs::Sent::texts))]
+#[tactic(auto, using(nd_texts::proofs::Sent::texts))]
 fn put_named<W: io::Write>(
     name: &[u8],
     number: usize,
@@ -165,7 +164,7 @@ fn put_index<W: io::Write>(number: usize, page: &mut Page, out: &mut Told<W>) ->
 }
 
 /// Writes the machines, the local one first.
-#[tactic(auto, using(crate::proofs::Sent::texts))]
+#[tactic(auto, using(nd_texts::proofs::Sent::texts))]
 fn put_machines<W: io::Write>(
     dispatch: &Dispatch,
     page: &mut Page,
@@ -253,7 +252,7 @@ fn put_machine<W: io::Write>(
 }
 
 /// Writes the line of a machine.
-#[tactic(auto, using(crate::proofs::Sent::texts), unfolding(crate::specs::Reports::row))]
+#[tactic(auto, using(nd_texts::proofs::Sent::texts), unfolding(crate::specs::Reports::row))]
 fn put_machine_row<W: io::Write>(
     first: &[u8],
     state: MachineState,
@@ -270,7 +269,7 @@ fn put_machine_row<W: io::Write>(
 }
 
 /// Writes the words of a machine's line.
-#[tactic(auto, using(crate::proofs::Sent::texts))]
+#[tactic(auto, using(nd_texts::proofs::Sent::texts))]
 fn put_machine_words<W: io::Write>(
     first: &[u8],
     state: MachineState,
@@ -287,7 +286,7 @@ fn put_machine_words<W: io::Write>(
 }
 
 /// Writes a machine's number and what follows it.
-#[tactic(auto, using(crate::proofs::Spelled::words))]
+#[tactic(auto, using(nd_texts::proofs::Spelled::words))]
 fn put_machine_state<W: io::Write>(
     state: MachineState,
     name: &[u8],
@@ -303,7 +302,7 @@ fn put_machine_state<W: io::Write>(
 }
 
 /// Writes whether a machine is up, its slots and its name.
-#[tactic(auto, using(crate::proofs::Spelled::words))]
+#[tactic(auto, using(nd_texts::proofs::Spelled::words))]
 fn put_machine_slots<W: io::Write>(
     state: MachineState,
     name: &[u8],
@@ -319,7 +318,7 @@ fn put_machine_slots<W: io::Write>(
 }
 
 /// Writes a machine's slots and its name.
-#[tactic(auto, using(crate::proofs::Spelled::words))]
+#[tactic(auto, using(nd_texts::proofs::Spelled::words))]
 fn put_machine_name<W: io::Write>(
     state: MachineState,
     name: &[u8],
@@ -405,7 +404,7 @@ fn put_drv<W: io::Write>(
 }
 
 /// Writes the line of a derivation.
-#[tactic(auto, using(crate::proofs::Sent::texts), unfolding(crate::specs::Reports::row))]
+#[tactic(auto, using(nd_texts::proofs::Sent::texts), unfolding(crate::specs::Reports::row))]
 fn put_drv_row<W: io::Write>(
     first: &[u8],
     drv: usize,
@@ -423,7 +422,7 @@ fn put_drv_row<W: io::Write>(
 }
 
 /// Writes the words of a derivation's line.
-#[tactic(auto, using(crate::proofs::Sent::texts))]
+#[tactic(auto, using(nd_texts::proofs::Sent::texts))]
 fn put_drv_words<W: io::Write>(
     first: &[u8],
     drv: usize,
@@ -441,7 +440,7 @@ fn put_drv_words<W: io::Write>(
 }
 
 /// Writes a derivation's number, its status and its path.
-#[tactic(auto, using(crate::proofs::Spelled::words))]
+#[tactic(auto, using(nd_texts::proofs::Spelled::words))]
 fn put_drv_state<W: io::Write>(
     drv: usize,
     status: Status,
@@ -458,7 +457,7 @@ fn put_drv_state<W: io::Write>(
 }
 
 /// Writes a derivation's status and its path.
-#[tactic(auto, using(crate::proofs::Spelled::words))]
+#[tactic(auto, using(nd_texts::proofs::Spelled::words))]
 fn put_drv_path<W: io::Write>(
     status: Status,
     path: &[u8],

@@ -8,7 +8,7 @@ use Rattle.nd_ledger.specs.Worlds.{World}
 use Rattle.nd_cli.specs.declared.fault.CliFault.{CliFault}
 use Rattle.nd_workers.specs.declared.run_end.RunFault.{RunFault}
 use Rattle.nd_workers.specs.declared.run_end.RunFault.TheVariants.{Thread, Memory, Receipts}
-use Rattle.nd_report.specs.HistoryTexts.{written_text}
+use Rattle.nd_texts.specs.HistoryTexts.{written_text}
 use Rattle.nd_report.specs.Reports.{Reports, ReportsPart}
 
 -- the report follows where it was asked for, and else nothing

@@ -1,7 +1,7 @@
 use Rattle.std.proofs.Common.{◌≡◌, ◌<◌, ◌≤◌, ◌+◌, length, reverse, ap, arith}
 use Rattle.std.proofs.lemmas.Grind.{common_steps}
 use Rattle.nd_report.specs.Reports.{builder_row}
-use Rattle.nd_report.proofs.Spelled.{on_err}
+use Rattle.nd_texts.proofs.Spelled.{on_err}
 use Rattle.nd_report.proofs.Rows.{row_more, row_part_more, rows_done}
 use Rattle.nd_report.proofs.report_writing.put_builders.Goals as goal
 

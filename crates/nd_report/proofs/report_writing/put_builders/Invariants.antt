@@ -1,7 +1,7 @@
 use Rattle.std.proofs.Common.{◌≡◌, length, reverse, take}
 use Rattle.std.specs.List.{flat_map, range_with_len}
 use Rattle.nd_report.specs.Reports.{builder_row}
-use Rattle.nd_report.specs.Sending.{Sends}
+use Rattle.nd_texts.specs.Sending.{Sends}
 use Rattle.nd_report.proofs.report_writing.put_builders.Given as goal
 
 -- what was passed so far is sent or held back, and no write was refused

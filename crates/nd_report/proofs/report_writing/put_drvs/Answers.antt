@@ -2,7 +2,7 @@ use Rattle.std.proofs.Common.{◌≡◌, ◌<◌, length, ap, refl, arith}
 use Rattle.nd_graph.specs.Graphs.{Nodes, rows_of}
 use Rattle.std.proofs.lemmas.Grind.{common_steps}
 use Rattle.nd_history.specs.Standing.{drvs_in}
-use Rattle.nd_report.proofs.Spelled.{on_err}
+use Rattle.nd_texts.proofs.Spelled.{on_err}
 use Rattle.nd_report.proofs.Rows.{drvs_begun, drvs_more, drvs_part_more}
 use Rattle.nd_report.proofs.report_writing.put_drvs.Goals as goal
 

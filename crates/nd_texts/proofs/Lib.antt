@@ -1,0 +1,10 @@
+pub mod Sent
+pub mod Spelled
+pub mod Decimals
+pub mod Plain
+pub mod Once
+pub mod LineKinds
+pub mod PathLists
+pub mod Texts
+pub mod Parts
+pub mod Written
