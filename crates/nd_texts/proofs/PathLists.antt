@@ -61,11 +61,11 @@ pub record IsReadingPaths (words done left : List (List ℕ)) : Type 0 where
 pub paths_begun : (words : List (List ℕ)) → IsReadingPaths words [] words
 paths_begun words = record { whole = refl; paths = All-nil IsPath }
 
-pub paths_more : (words done left more : List (List ℕ)) (word path : List ℕ) → IsReadingPaths words done left → left ≡ word ∷ more → path ≡ word → IsPath path
-    → IsReadingPaths words (done ++ path ∷ []) more
-paths_more words done left more word path h next same is = record {
-  whole = h.whole ∙ ap (λ (ws : List (List ℕ)). done ++ ws) (next ∙ ap (λ (w : List ℕ). w ∷ more) (sym same)) ∙ sym (append_assoc done (path ∷ []) more);
-  paths = All-push IsPath done path h.paths is;
+pub paths_more : (words done left more : List (List ℕ)) (word : List ℕ) → IsReadingPaths words done left → left ≡ word ∷ more → IsPath word
+    → IsReadingPaths words (done ++ word ∷ []) more
+paths_more words done left more word h next is = record {
+  whole = h.whole ∙ ap (λ (ws : List (List ℕ)). done ++ ws) next ∙ sym (append_assoc done (word ∷ []) more);
+  paths = All-push IsPath done word h.paths is;
 }
 
 -- a word that is no path, where no end stands
@@ -87,12 +87,17 @@ bad_by : (words done left more : List (List ℕ)) (word : List ℕ) → IsReadin
 bad_by words done left more word h open_end next no_path paths rest k =
     bad_word done paths rest left more word h.paths k.set.paths k.end open_end next no_path (sym h.whole ∙ k.whole)
 
-pub paths_refused : (words done left more : List (List ℕ)) (word : List ℕ) (e : PathError) → IsReadingPaths words done left → is_end left ≡ false
-    → left ≡ word ∷ more → IsRefused word e → Refuses (path_fault e) ((paths rest : List (List ℕ)) → ArePathsFirst words paths rest → ⊥)
-paths_refused words done left more word Prefix h open_end next fault = bad_by words done left more word h open_end next (faulty word Prefix fault)
-paths_refused words done left more word Digest h open_end next fault = bad_by words done left more word h open_end next (faulty word Digest fault)
-paths_refused words done left more word Name h open_end next fault = bad_by words done left more word h open_end next (faulty word Name fault)
-paths_refused words done left more word Memory h open_end next fault = tt
+-- a word that is no path, by the fault that it has
+pub faulty_word : (word : List ℕ) (e : PathError) → IsRefused word e → Refuses (path_fault e) (IsPath word → ⊥)
+faulty_word word Prefix fault = faulty word Prefix fault
+faulty_word word Digest fault = faulty word Digest fault
+faulty_word word Name fault = faulty word Name fault
+faulty_word word Memory fault = tt
+
+pub paths_refused : (words done left more : List (List ℕ)) (word : List ℕ) (f : LineFault) → IsReadingPaths words done left → is_end left ≡ false
+    → left ≡ word ∷ more → Refuses f (IsPath word → ⊥) → Refuses f ((paths rest : List (List ℕ)) → ArePathsFirst words paths rest → ⊥)
+paths_refused words done left more word Bad h open_end next fault = bad_by words done left more word h open_end next fault
+paths_refused words done left more word NoMemory h open_end next fault = tt
 
 -- all of them were read
 pub paths_ended : (words done left : List (List ℕ)) → IsReadingPaths words done left → is_end left ≡ true → ArePathWords words done left

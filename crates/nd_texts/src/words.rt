@@ -1,10 +1,11 @@
 //! Reading the words of a line.
 
-ghost use Rattle.std.specs.Prelude.{◌≡◌, ℕ, suc, ◌≤◌, true, false, Some, List, [], ◌∷◌, ◌++◌, IfOk, IfErr, IfSome, MatchOption, nat_eq};
+ghost use Rattle.std.specs.Prelude.{◌≡◌, ℕ, suc, ◌≤◌, true, false, Some, List, [], ◌∷◌, ◌++◌, IfOk, OnOk, IfErr, IfSome, MatchOption, nat_eq};
 ghost use Rattle.std.specs.Cmp.Lexicographic.{pointwise};
 ghost use Rattle.std.specs.Option.{option_copied};
 ghost use Rattle.std.specs.Fmt.{decimal};
 ghost use Rattle.nd_bytes.specs.Cut.{pieces, left_over};
+ghost use Rattle.nd_path.specs.Refusals.{IsPath};
 ghost use Rattle.nd_history.specs.declared.entry.Why.{Why};
 ghost use Rattle.nd_texts.specs.Sound.{greatest};
 ghost use Rattle.nd_texts.specs.Reading.{Refuses, IsNumberFirst, has_needless_zero, rises, is_end, cause_at, ArePathsFirst, ArePathWords, AreOutputs, IsCause};
@@ -193,10 +194,30 @@ fn path_words(
     let mut paths: Vec<StorePath> = Vec::new(alloc);
     let mut rest = left;
     while let Some((word, behind)) = word_before_end(rest) {
-        paths.push(StorePath::parse(alloc, word)?)?;
-        rest = behind;
+        match push_path(alloc, word, &mut paths) {
+            Ok(()) => rest = behind,
+            Err(fault) => {
+                drop(paths);
+                return Err(fault);
+            }
+        }
     }
     Ok((paths, rest))
+}
+
+/// Puts the path that this word is behind those that were read.
+#[tactic(auto, using(crate::proofs::PathLists::faulty_word))]
+fn push_path(alloc: Global, word: &[u8], paths: &mut Vec<StorePath>) -> Result<(), LineFault>
+    ensures found { OnOk result (paths.new.items ≡ paths.old.items ++ word.now ∷ []) }
+    ensures path { OnOk result (IsPath word.now) }
+    ensures refused { IfErr result (λ e. Refuses e (IsPath word.now → ⊥)) }
+{
+    let path = match StorePath::parse(alloc, word) {
+        Ok(path) => path,
+        Err(fault) => return Err(LineFault::from(fault)),
+    };
+    paths.push(path)?;
+    Ok(())
 }
 
 /// The references of outputs that the words that are left are.
