@@ -32,10 +32,7 @@ pub(crate) fn record_step(book: &mut Book, board: &mut Board, step: Entry) -> Re
     ensures same { OnErr result (board.new ≡ board.old) }
 {
     let room = book.live_len() + 3;
-    if let Err(error) = book.make_room(room) {
-        drop(step);
-        return Err(error);
-    }
+    book.make_room(room)?;
     enter(book, board, step);
     Ok(())
 }
