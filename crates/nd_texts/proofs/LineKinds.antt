@@ -1,24 +1,19 @@
 -- What the words of a line of each kind are read as.
-use Rattle.std.proofs.Common.{◌≡◌, ◌∙◌, ℕ, zero, suc, ◌<◌, ◌≤◌, ◌==◌, Bool, true, false, List, [], ◌∷◌, ◌++◌, length, refl, sym, ap, subst, arith, true≢false, Option, Some, None, nat_eq}
-use Rattle.std.specs.Prelude.{codes}
+use Rattle.std.proofs.Common.{◌≡◌, ◌∙◌, ℕ, ◌==◌, List, [], ◌∷◌, length, refl, sym, ap, arith, Some}
 use Rattle.std.specs.Fmt.{decimal}
-use Rattle.std.specs.List.{All, flat_map, slice_split}
+use Rattle.std.specs.List.{flat_map, slice_split}
 use Rattle.std.proofs.lemmas.List.Splits.{length-slice_split}
 use Rattle.nd_bytes.specs.Cut.{pieces}
 use Rattle.nd_history.specs.declared.entry.Why.{Why}
-use Rattle.nd_history.specs.declared.entry.Why.TheVariants.{Status, Lost, BadReferences, NoWorker, Memory}
 use Rattle.nd_history.specs.declared.entry.Entry.{Entry}
 use Rattle.nd_history.specs.declared.entry.Entry.TheVariants.{Chosen, NoBuilder, Started, Down, Built, Failed, Stop, Drain, Enable}
 use Rattle.nd_texts.specs.HistoryTexts.{cause_words, output_words}
-use Rattle.nd_texts.specs.Lines.{kind_of, others_of}
-use Rattle.nd_texts.specs.Sound.{greatest, IsPathSet, IsSound, IsSoundCause}
 use Rattle.nd_texts.specs.declared.history_error.LineFault.{LineFault}
 use Rattle.nd_texts.specs.declared.history_error.LineFault.TheVariants.{Bad, Memory as NoMemory}
-use Rattle.nd_texts.specs.Reading.{Refuses, IsNumberFirst, ArePathsFirst, AreOutputs, IsCause, IsEntryOf, is_end}
-use Rattle.nd_texts.specs.declared.kinds.Kind.{Kind}
+use Rattle.nd_texts.specs.Reading.{Refuses, IsNumberFirst, ArePathsFirst, AreOutputs, IsCause, IsEntryOf}
 use Rattle.nd_texts.specs.declared.kinds.Kind.TheVariants.{Choice, NoChoice, Start, Return, Finish, Failure, Halt, Drained, Enabled}
 use Rattle.std.proofs.lemmas.List.{append-nil}
-use Rattle.nd_texts.proofs.Once.{same_tail, same_head, same_paths}
+use Rattle.nd_texts.proofs.Once.{same_tail, same_paths}
 
 -- where words are left, there is one
 pub some_left : (bytes : List ℕ) → pieces 32 (Some bytes) ≡ [] → ⊥

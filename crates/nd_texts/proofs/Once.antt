@@ -1,11 +1,11 @@
 -- A text is read in one way: entries with the same line are the same.
-use Rattle.std.proofs.Common.{◌≡◌, ◌∙◌, ℕ, zero, suc, ◌<◌, ◌≤◌, ◌==◌, Bool, true, false, List, [], ◌∷◌, ◌++◌, length, take, drop, get_or, refl, sym, ap, subst, arith, append_assoc, true≢false, Option, Some, None, nat_eq}
+use Rattle.std.proofs.Common.{◌≡◌, ◌∙◌, ℕ, ◌≤◌, ◌==◌, Bool, true, false, List, [], ◌∷◌, ◌++◌, drop, get_or, refl, sym, ap, subst, arith, append_assoc, true≢false, Option, Some, None, nat_eq}
 use Rattle.std.specs.Cmp.Lexicographic.{pointwise}
 use Rattle.std.specs.Fmt.{decimal}
 use Rattle.std.specs.List.{All, flat_map, slice_split, join_with_byte}
 use Rattle.std.proofs.lemmas.Bool.{eqb-false}
 use Rattle.std.proofs.lemmas.Fmt.{decimal_injective}
-use Rattle.std.proofs.lemmas.List.Elements.{All-head, All-tail, All-nil}
+use Rattle.std.proofs.lemmas.List.Elements.{All-head, All-tail}
 use Rattle.nd_bytes.specs.Cut.{until, behind}
 use Rattle.nd_path.specs.Refusals.{IsPath}
 use Rattle.nd_history.specs.declared.entry.Why.{Why}
@@ -15,7 +15,7 @@ use Rattle.nd_history.specs.declared.entry.Entry.TheVariants.{Chosen, NoBuilder,
 use Rattle.nd_texts.specs.HistoryTexts.{cause_words, output_words, words_of, line_of, first_line, history_text, is_told_in}
 use Rattle.nd_texts.specs.Lines.{word_of, kind_of, others_of}
 use Rattle.nd_texts.specs.Sound.{greatest, IsPathSet, IsSound, IsSoundCause, IsTold}
-use Rattle.nd_texts.specs.Reading.{is_end, kind_at, ArePathsFirst, AreOutputs}
+use Rattle.nd_texts.specs.Reading.{is_end, kind_at, ArePathsFirst}
 use Rattle.nd_texts.specs.declared.kinds.Kind.{Kind}
 use Rattle.nd_texts.specs.declared.kinds.Kind.TheVariants.{Choice, NoChoice, Start, Return, Finish, Failure, Halt, Drained, Enabled}
 use Rattle.nd_texts.specs.declared.kinds.Version.{Version}

@@ -1,5 +1,5 @@
 -- Reading sets of paths and the references of outputs, word by word.
-use Rattle.std.proofs.Common.{◌≡◌, ◌∙◌, ℕ, Bool, true, false, ◌&&◌, List, [], ◌∷◌, ◌++◌, length, refl, sym, ap, subst, append_assoc, true≢false, Ordering, Less, Equal, Greater, Option, Some, None, nat_eq}
+use Rattle.std.proofs.Common.{◌≡◌, ◌∙◌, ℕ, true, false, List, [], ◌∷◌, ◌++◌, refl, sym, ap, subst, append_assoc, true≢false, Ordering, Less, Equal, Greater, Some, None, nat_eq}
 use Rattle.std.specs.Prelude.{codes}
 use Rattle.std.specs.Cmp.{first_so, second_so}
 use Rattle.std.specs.Cmp.Lexicographic.{pointwise, same_text, other_text}
@@ -10,7 +10,6 @@ use Rattle.std.proofs.lemmas.Cmp.{nat_list_cmp_total}
 use Rattle.std.proofs.lemmas.List.{append-nil}
 use Rattle.std.proofs.lemmas.List.Elements.{All-head, All-tail, All-nil, All-push}
 use Rattle.std.proofs.lemmas.Grind.{flat_map-append}
-use Rattle.nd_bytes.specs.Compared.{bytes_same}
 use Rattle.nd_path.specs.StorePath.{path_cmp}
 use Rattle.nd_path.specs.PathSets.{IsRising, HasSameMembers}
 use Rattle.nd_path.specs.Refusals.{IsPath, IsRefused, fault_of}

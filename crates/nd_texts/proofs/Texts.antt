@@ -1,14 +1,14 @@
 -- Reading a history text line by line.
-use Rattle.std.proofs.Common.{◌≡◌, ◌∙◌, ◌==◌, ℕ, ◌+◌, ◌<◌, ◌≤◌, true, false, true≢false, List, [], ◌∷◌, ◌++◌, length, refl, sym, ap, subst, arith, append_assoc, length-append, Option, Some, None}
+use Rattle.std.proofs.Common.{◌≡◌, ◌∙◌, ◌==◌, ℕ, ◌+◌, ◌<◌, ◌≤◌, true, false, true≢false, List, [], ◌∷◌, ◌++◌, length, refl, sym, ap, subst, arith, append_assoc, length-append, Some, None}
 use Rattle.std.specs.List.{All, flat_map, slice_split}
 use Rattle.std.proofs.lemmas.List.{append-nil}
 use Rattle.std.proofs.lemmas.List.Elements.{All-nil, All-push, All-head}
 use Rattle.std.proofs.lemmas.Grind.{flat_map-append}
 use Rattle.nd_bytes.specs.Cut.{until, behind}
 use Rattle.nd_history.specs.declared.entry.Entry.{Entry}
-use Rattle.nd_texts.specs.HistoryTexts.{words_of, line_of, first_line, history_text, is_told_in}
-use Rattle.nd_texts.specs.Lines.{word_of, kind_of, others_of}
-use Rattle.nd_texts.specs.Sound.{IsSound, IsTold, IsHistoryText, HasNoVersion, IsFirstBad}
+use Rattle.nd_texts.specs.HistoryTexts.{line_of, first_line, history_text, is_told_in}
+use Rattle.nd_texts.specs.Lines.{word_of, kind_of}
+use Rattle.nd_texts.specs.Sound.{IsTold, IsHistoryText, HasNoVersion, IsFirstBad}
 use Rattle.nd_texts.specs.declared.history_error.LineFault.{LineFault}
 use Rattle.nd_texts.specs.declared.history_error.LineFault.TheVariants.{Bad, Memory}
 use Rattle.nd_texts.specs.Reading.{Refuses, IsLineFirst, IsEntryWords, IsEntryOf}
@@ -18,7 +18,7 @@ use Rattle.nd_texts.specs.declared.kinds.Kind.{Kind}
 use Rattle.nd_texts.specs.declared.kinds.Version.{Version}
 use Rattle.nd_texts.specs.declared.kinds.Version.TheVariants.{First, Second}
 use Rattle.nd_texts.proofs.Plain.{line_front, line_behind, line_words, parted, line_from_words}
-use Rattle.nd_texts.proofs.Once.{kind_from_words, same_kind, told_alike, texts_go_on, GoesOn}
+use Rattle.nd_texts.proofs.Once.{kind_from_words, same_kind, told_alike, texts_go_on}
 use Rattle.nd_texts.proofs.Spelled.{words_in_parts}
 
 -- ---- one line

@@ -1,14 +1,13 @@
 -- What is written of a history is one of its texts.
-use Rattle.std.proofs.Common.{◌≡◌, ◌∙◌, ℕ, Bool, true, false, ◌||◌, true≢false, List, [], ◌∷◌, refl, sym, ap}
+use Rattle.std.proofs.Common.{◌≡◌, Bool, true, false, ◌||◌, true≢false, List, [], ◌∷◌, refl}
 use Rattle.std.specs.Prelude.{not}
 use Rattle.std.specs.List.{All, list_any}
 use Rattle.std.proofs.lemmas.List.Elements.{All-nil, All-cons, All-head, All-tail}
 use Rattle.nd_history.specs.declared.entry.Entry.{Entry}
 use Rattle.nd_history.specs.declared.entry.Entry.TheVariants.{Chosen, NoBuilder, Started, Down, Built, Failed, Stop, Drain, Enable}
-use Rattle.nd_texts.specs.HistoryTexts.{is_told_in, version_of, written_text}
-use Rattle.nd_texts.specs.Sound.{IsSound, IsTold, IsHistoryText}
+use Rattle.nd_texts.specs.HistoryTexts.{is_told_in, version_of}
+use Rattle.nd_texts.specs.Sound.{IsSound, IsTold}
 use Rattle.nd_texts.specs.TextLaws.{ReadsBack}
-use Rattle.nd_texts.specs.declared.kinds.Version.{Version}
 use Rattle.nd_texts.specs.declared.kinds.Version.TheVariants.{First, Second}
 
 neither : (a b : Bool) → (a || b) ≡ false → (a ≡ false) × (b ≡ false)
