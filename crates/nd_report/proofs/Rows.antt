@@ -1,5 +1,5 @@
 -- A report that goes to a writer over a page.
-use Rattle.std.proofs.Common.{◌≡◌, ◌∙◌, ℕ, zero, suc, ◌+◌, ◌-◌, ◌<◌, ◌≤◌, List, [], ◌∷◌, ◌++◌, length, take, drop, get_or, Option, refl, sym, ap, subst, arith, inl, inr, append_assoc, append-nil, length-append}
+use Rattle.std.proofs.Common.{◌≡◌, ◌∙◌, ℕ, zero, suc, ◌+◌, ◌<◌, ◌≤◌, List, [], ◌∷◌, ◌++◌, length, take, drop, get_or, Option, refl, sym, ap, subst, arith, inl, inr, append_assoc, append-nil, length-append}
 use Rattle.std.specs.List.{flat_map, range_with_len}
 use Rattle.std.specs.Io.KnownBytes.{Appends}
 use Rattle.std.proofs.Math.Seq.{get_or-append_seam}
@@ -20,7 +20,7 @@ use Rattle.nd_texts.specs.Sending.{Sends, SendsPart}
 use Rattle.nd_machines.specs.Builders.{Builder}
 use Rattle.nd_choose.specs.Best.{jobs_at}
 use Rattle.nd_hook.specs.ReplyText.{uri_at}
-use Rattle.nd_history.specs.Choices.{machines_in, jobs_of}
+use Rattle.nd_history.specs.Choices.{jobs_of}
 use Rattle.std.specs.Fmt.{decimal}
 use Rattle.nd_report.specs.Reports.{share, drv_row, drvs_text, counts_text, machine_row, machines_text, builder_row, AreFirstStatuses, IsReport, Reports, ReportsPart, SendsDrvs, SendsDrvsPart}
 use Rattle.nd_texts.proofs.Sent.{both, part_first, part_then, nothing, all_sent, end_in_part, sent_in_part}

@@ -1,4 +1,4 @@
-use Rattle.std.proofs.Common.{◌≡◌, ◌<◌, ◌≤◌, ◌+◌, length, reverse, ap, arith}
+use Rattle.std.proofs.Common.{◌≡◌, ◌<◌, ◌≤◌, length, reverse, ap, arith}
 use Rattle.std.proofs.lemmas.Grind.{common_steps}
 use Rattle.nd_report.specs.Reports.{builder_row}
 use Rattle.nd_texts.proofs.Spelled.{on_err}
