@@ -127,5 +127,3 @@ pub ended_short : (old new : Noted) (d : ℕ) (refs : List (List (List ℕ))) �
 ended_short old new d refs h = record { either = inr (inr h) }
 
 pub ruleset endings = (ended_built, ended_wrong, ended_short)
-
-pub ruleset goings = (goes_nowhere, goes_further, goes_begun, begun_room, goes_away, goes_short, goes_unserved, goes_ended, goes_status, goes_lost, goes_unreported)

@@ -35,9 +35,9 @@ pub(crate) enum Next {
     Short(Ticket),
 }
 
-#[tactic(auto, using(crate::proofs::Counts::made_one, crate::proofs::Counts::pumped_made, crate::proofs::Counts::pumped_by_made, crate::proofs::Counts::abandoned_made))]
 impl<L: Ledger> Desk<L> {
     /// Records a start.
+    #[tactic(auto, using(crate::proofs::Counts::made_one))]
     pub(crate) fn start(
         &mut self,
         alloc: Global,
@@ -63,6 +63,7 @@ impl<L: Ledger> Desk<L> {
     }
 
     /// Records that a lease is given back.
+    #[tactic(auto, using(crate::proofs::Counts::made_one))]
     pub(crate) fn down(&mut self, ticket: Ticket, mine: &mut Share<L>) -> Result<usize, Refusal>
         requires { 0 < mine.old.parts }
         ensures ok { OnOk result (mine.new.amount ≡ mine.old.amount + 1) }
@@ -81,6 +82,7 @@ impl<L: Ledger> Desk<L> {
     }
 
     /// Records the end of a build with its outputs.
+    #[tactic(auto, using(crate::proofs::Counts::made_one))]
     pub(crate) fn end(
         &mut self,
         alloc: Global,
@@ -100,11 +102,15 @@ impl<L: Ledger> Desk<L> {
                 book.add(mine, 1);
                 Ok(index)
             }
-            Err(refused) => Err(refused.why),
+            Err(Refused { why, value }) => {
+                drop(value);
+                Err(why)
+            }
         }
     }
 
     /// Records the end of a lease without outputs.
+    #[tactic(auto, using(crate::proofs::Counts::made_one))]
     pub(crate) fn fail(
         &mut self,
         ticket: Ticket,
@@ -136,6 +142,7 @@ impl<L: Ledger> Desk<L> {
     }
 
     /// Makes the choices that can be made. Where memory is refused nothing more is begun.
+    #[tactic(auto, using(crate::proofs::Counts::pumped_made, crate::proofs::Counts::pumped_by_made, crate::proofs::Counts::abandoned_made))]
     pub(crate) fn pump(&mut self) {
         let Desk {
             dispatch,
@@ -150,6 +157,7 @@ impl<L: Ledger> Desk<L> {
     }
 
     /// The worker of this place leaves for want of memory, and nothing more is begun.
+    #[tactic(auto, using(crate::proofs::Counts::abandoned_made))]
     pub(crate) fn leave(&mut self, machine: u32, slot: u32) {
         let Desk {
             dispatch,
@@ -163,6 +171,7 @@ impl<L: Ledger> Desk<L> {
     }
 
     /// Only the first `started` workers have threads, and nothing more is begun.
+    #[tactic(auto, using(crate::proofs::Counts::abandoned_made))]
     pub(crate) fn unstarted(&mut self, started: usize) {
         let Desk {
             dispatch,

@@ -67,6 +67,7 @@ pub(crate) fn are_receipted(
 {
     let opened = opening.history().len();
     if dispatch.history().len() < opened {
+        drop(tables);
         return false;
     }
     let new = entries_since(dispatch, opened);

@@ -73,7 +73,10 @@ impl<L: Ledger> Hand<L> {
                 notes.note(receipt, copy);
                 Ok(())
             }
-            Err(refused) => Err(refused),
+            Err(refused) => {
+                drop(copy);
+                Err(refused)
+            }
         }
     }
 
@@ -100,7 +103,10 @@ impl<L: Ledger> Hand<L> {
                 notes.note(receipt, Entry::Down { drv: ticket.drv });
                 Ok(())
             }
-            Err(refusal) => Err(refusal),
+            Err(refusal) => {
+                drop(paths);
+                Err(refusal)
+            }
         }
     }
 
@@ -130,7 +136,10 @@ impl<L: Ledger> Hand<L> {
                 notes.note(receipt, copy);
                 Ok(())
             }
-            Err(refusal) => Err(refusal),
+            Err(refusal) => {
+                drop(copy);
+                Err(refusal)
+            }
         }
     }
 
@@ -160,7 +169,10 @@ impl<L: Ledger> Hand<L> {
                 notes.note(receipt, Entry::Failed { drv, why });
                 Ok(())
             }
-            Err(refusal) => Err(refusal),
+            Err(refusal) => {
+                drop(paths);
+                Err(refusal)
+            }
         }
     }
 }

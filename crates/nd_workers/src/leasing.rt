@@ -16,7 +16,7 @@ use nd_receipts::receipt::Kind;
 use nd_transports::kinds::{Ended, Phase};
 use nd_transports::serving::{Fetch, Outcome};
 use nd_transports::transport::Transport;
-use std::alloc::Global;
+use std::alloc::{AllocError, Global};
 use std::sync::ledger::Ledger;
 use std::sync::{Condvar, Mutex, Wait};
 
@@ -77,7 +77,7 @@ fn down<L: Ledger, R: Wait>(
 }
 
 /// Under the lock, ends a lease without outputs.
-pub(crate) fn fail<L: Ledger, R: Wait>(
+fn fail<L: Ledger, R: Wait>(
     rt: &R,
     shared: &Shared<L>,
     hand: &mut Hand<L>,
@@ -137,6 +137,39 @@ fn end<L: Ledger, R: Wait>(
     made
 }
 
+/// Under the lock, ends a lease without outputs, where no copy is to be noted beside it.
+pub(crate) fn give_up<L: Ledger, R: Wait>(
+    rt: &R,
+    alloc: Global,
+    shared: &Shared<L>,
+    hand: &mut Hand<L>,
+    ticket: Ticket,
+    why: Why,
+    calls: u8,
+) -> Result<(), Refusal>
+    requires room { 0 < hand.old.notes.room }
+    requires cause { is_worker_cause why ≡ true }
+    ensures ok { OnOk result (HasNoted hand.old.notes hand.new.notes Kind.Failed calls [] (Entry.Failed ticket.drv why)) }
+{
+    fail(rt, shared, hand, ticket, why, calls, PathSet::new(alloc))
+}
+
+/// The entry of a start with a copy of these paths.
+fn entry_of_start(drv: u32, paths: &PathSet) -> Result<Entry, AllocError>
+    ensures { IfOk result (λ e. e ≡ Entry.Started drv paths.now) }
+{
+    let paths = paths.try_clone()?;
+    Ok(Entry::Started { drv, paths })
+}
+
+/// The entry of an end with a copy of these references.
+fn entry_of_end(drv: u32, refs: &Refs) -> Result<Entry, AllocError>
+    ensures { IfOk result (λ e. e ≡ Entry.Built drv refs.now) }
+{
+    let refs = refs.try_clone()?;
+    Ok(Entry::Built { drv, refs })
+}
+
 /// Makes a start with the paths that were copied. The answer is whether there was memory for it; where
 /// there was none the lease failed.
 fn begin<L: Ledger, R: Wait>(
@@ -150,15 +183,8 @@ fn begin<L: Ledger, R: Wait>(
     requires { 0 < hand.old.notes.room }
     ensures { IfOk result (HasBegun hand.old.notes hand.new.notes ticket.drv paths) }
 {
-    let copy = match paths.try_clone() {
-        Ok(paths) => Entry::Started {
-            drv: ticket.drv,
-            paths,
-        },
-        Err(_) => return match fail(rt, shared, hand, ticket, Why::Memory, 2, paths) {
-            Ok(()) => Ok(false),
-            Err(refusal) => Err(refusal),
-        },
+    let Ok(copy) = entry_of_start(ticket.drv, &paths) else {
+        return unstarted(rt, shared, hand, ticket, Refusal::Memory, paths);
     };
     match start(rt, alloc, shared, hand, ticket, paths, copy) {
         Ok(()) => Ok(true),
@@ -179,6 +205,7 @@ fn unstarted<L: Ledger, R: Wait>(
     ensures { IfOk result (HasBegun hand.old.notes hand.new.notes ticket.drv paths) }
 {
     if why != Refusal::Memory {
+        drop(paths);
         return Err(why);
     }
     match fail(rt, shared, hand, ticket, Why::Memory, 2, paths) {
@@ -201,22 +228,14 @@ fn finish<L: Ledger, R: Wait>(
     requires { 0 < hand.old.notes.room }
     ensures { OnOk result (HasEnded hand.old.notes hand.new.notes ticket.drv refs) }
 {
-    let copy = match refs.try_clone() {
-        Ok(refs) => Entry::Built {
-            drv: ticket.drv,
-            refs,
-        },
-        Err(_) => {
-            let none = PathSet::new(alloc);
-            fail(rt, shared, hand, ticket, Why::Memory, 1, none)?;
-            return Ok(());
-        }
+    let Ok(copy) = entry_of_end(ticket.drv, &refs) else {
+        drop(refs);
+        return unfinished(rt, alloc, shared, hand, ticket, Refusal::Memory);
     };
     let Err(refusal) = end(rt, alloc, shared, hand, ticket, refs, copy) else {
         return Ok(());
     };
-    unfinished(rt, alloc, shared, hand, ticket, refusal)?;
-    Ok(())
+    unfinished(rt, alloc, shared, hand, ticket, refusal)
 }
 
 /// What becomes of an end that was refused: for wrong references and for want of memory the lease
@@ -233,20 +252,19 @@ fn unfinished<L: Ledger, R: Wait>(
     requires { 0 < hand.old.notes.room }
     ensures { (refs : List (List (List ℕ))) → OnOk result (HasEnded hand.old.notes hand.new.notes ticket.drv refs) }
 {
-    let none = PathSet::new(alloc);
     if refusal == Refusal::BadReferences {
-        fail(rt, shared, hand, ticket, Why::BadReferences, 1, none)?;
+        give_up(rt, alloc, shared, hand, ticket, Why::BadReferences, 1)?;
         return Ok(());
     }
-    if refusal == Refusal::Memory {
-        fail(rt, shared, hand, ticket, Why::Memory, 1, none)?;
-        return Ok(());
+    if refusal != Refusal::Memory {
+        return Err(refusal);
     }
-    Err(refusal)
+    give_up(rt, alloc, shared, hand, ticket, Why::Memory, 1)?;
+    Ok(())
 }
 
 /// Builds what was copied, and makes the entry of its end.
-#[tactic(auto, using(crate::proofs::Going::goings))]
+#[tactic(auto, using(crate::proofs::Going::goes_status, crate::proofs::Going::goes_lost, crate::proofs::Going::goes_unreported))]
 fn build_lease<L: Ledger, T: Transport, R: Wait>(
     rt: &R,
     alloc: Global,
@@ -266,25 +284,22 @@ fn build_lease<L: Ledger, T: Transport, R: Wait>(
             Ok(())
         }
         Outcome::Status(code) => {
-            let none = PathSet::new(alloc);
-            fail(rt, shared, hand, ticket, Why::Status(code), 1, none)?;
+            give_up(rt, alloc, shared, hand, ticket, Why::Status(code), 1)?;
             Ok(())
         }
         Outcome::Lost => {
-            let none = PathSet::new(alloc);
-            fail(rt, shared, hand, ticket, Why::Lost, 1, none)?;
+            give_up(rt, alloc, shared, hand, ticket, Why::Lost, 1)?;
             Ok(())
         }
         Outcome::Memory => {
-            let none = PathSet::new(alloc);
-            fail(rt, shared, hand, ticket, Why::Memory, 1, none)?;
+            give_up(rt, alloc, shared, hand, ticket, Why::Memory, 1)?;
             Ok(())
         }
     }
 }
 
 /// Copies what a lease needs, and makes the entry of its start. The answer is whether it started.
-#[tactic(auto, using(crate::proofs::Going::goings))]
+#[tactic(auto, using(crate::proofs::Going::goes_begun, crate::proofs::Going::begun_room, crate::proofs::Going::goes_short))]
 fn fetch_lease<L: Ledger, T: Transport, R: Wait>(
     rt: &R,
     alloc: Global,
@@ -300,12 +315,8 @@ fn fetch_lease<L: Ledger, T: Transport, R: Wait>(
     ensures room { OnOk result (hand.old.notes.room ≤ hand.new.notes.room + 1) }
 {
     let fetched = fetch(transport, &job);
-    let Job {
-        ticket,
-        path: _,
-        outputs: _,
-        paths,
-    } = job;
+    let ticket = job.ticket;
+    let paths = into_paths(job);
     match fetched {
         Fetch::Copied => {
             let begun = begin(rt, alloc, shared, hand, ticket, paths)?;
@@ -317,11 +328,25 @@ fn fetch_lease<L: Ledger, T: Transport, R: Wait>(
             Ok(false)
         }
         Fetch::Memory => {
-            let none = PathSet::new(alloc);
-            fail(rt, shared, hand, ticket, Why::Memory, 0, none)?;
+            drop(paths);
+            give_up(rt, alloc, shared, hand, ticket, Why::Memory, 0)?;
             Ok(false)
         }
     }
+}
+
+/// The paths of a job alone.
+fn into_paths(job: Job) -> PathSet
+    ensures { result ≡ job.paths }
+{
+    let Job {
+        ticket: _,
+        path,
+        outputs: _,
+        paths,
+    } = job;
+    drop(path);
+    paths
 }
 
 /// The paths of a copy among this many calls: there is none where the first call was refused.
@@ -331,11 +356,11 @@ fn copied_paths(alloc: Global, calls: u8, paths: PathSet) -> PathSet
     if calls == 2 {
         return paths;
     }
+    drop(paths);
     PathSet::new(alloc)
 }
 
 /// Serves a lease to its end.
-#[tactic(auto, using(crate::proofs::Going::goings))]
 pub(crate) fn serve<L: Ledger, T: Transport, R: Wait>(
     rt: &R,
     alloc: Global,
@@ -351,6 +376,5 @@ pub(crate) fn serve<L: Ledger, T: Transport, R: Wait>(
     if !fetch_lease(rt, alloc, shared, hand, transport, job)? {
         return Ok(());
     }
-    build_lease(rt, alloc, shared, hand, transport, ticket)?;
-    Ok(())
+    build_lease(rt, alloc, shared, hand, transport, ticket)
 }

@@ -8,6 +8,7 @@ ghost use Rattle.nd_receipts.specs.Noted.{IsNotedIn};
 ghost use Rattle.nd_receipts.specs.Dealt.{AreApart, AreReceipted};
 ghost use Rattle.nd_receipts.specs.Walks.{AreUnknown};
 ghost use Rattle.nd_workers.specs.Runs.{AreManned, IsRunRefused, IsOver, IsServedIn};
+ghost use Rattle.nd_workers.specs.Served.{IsServed};
 
 use crate::desk::Desk;
 use crate::faults::{are_receipted, are_sound, fault_of};
@@ -22,7 +23,7 @@ use nd_receipts::{Receipt, Tables, count_made};
 use nd_transports::Transport;
 use std::alloc::{AllocError, Global};
 use std::marker::Brand;
-use std::sync::ledger::{Blank, Ledger};
+use std::sync::ledger::{Blank, Ledger, Share};
 use std::sync::{Condvar, Mutex, Wait};
 use std::thread::Threads;
 
@@ -59,15 +60,41 @@ fn make_room<L: Ledger, T: Transport>(alloc: Global, count: usize) -> Result<Roo
     ensures workers { IfOk result (λ r. (vec_len r.back.workers ≡ 0) × (count ≤ vec_capacity r.back.workers)) }
     ensures receipts { IfOk result (λ r. (vec_len r.back.receipts ≡ 0) × (count ≤ vec_capacity r.back.receipts)) }
 {
-    let running = Vec::with_capacity(alloc, count)?;
-    let stints = Vec::with_capacity(alloc, count)?;
+    let back = make_back(alloc, count)?;
+    let stints = match Vec::with_capacity(alloc, count) {
+        Ok(stints) => stints,
+        Err(error) => {
+            drop(back);
+            return Err(error);
+        }
+    };
+    match Vec::with_capacity(alloc, count) {
+        Ok(running) => Ok(Room {
+            running,
+            stints,
+            back,
+        }),
+        Err(error) => {
+            drop(back);
+            drop(stints);
+            Err(error)
+        }
+    }
+}
+
+/// Room for so many workers and their receipts.
+fn make_back<T: Transport>(alloc: Global, count: usize) -> Result<Back<T>, AllocError>
+    ensures workers { IfOk result (λ b. (vec_len b.workers ≡ 0) × (count ≤ vec_capacity b.workers)) }
+    ensures receipts { IfOk result (λ b. (vec_len b.receipts ≡ 0) × (count ≤ vec_capacity b.receipts)) }
+{
     let workers = Vec::with_capacity(alloc, count)?;
-    let receipts = Vec::with_capacity(alloc, count)?;
-    Ok(Room {
-        running,
-        stints,
-        back: Back { workers, receipts },
-    })
+    match Vec::with_capacity(alloc, count) {
+        Ok(receipts) => Ok(Back { workers, receipts }),
+        Err(error) => {
+            drop(workers);
+            Err(error)
+        }
+    }
 }
 
 /// The places of these workers, where there is one for each slot of the park, and they aren't too many.
@@ -87,9 +114,11 @@ fn accepted_places<T>(
         return Err(RunRefusal::Memory);
     };
     if !are_manned(dispatch, places.as_slice()) {
+        drop(places);
         return Err(RunRefusal::Slots);
     }
     if seats.len() > MOST_SLOTS {
+        drop(places);
         return Err(RunRefusal::TooManySlots);
     }
     Ok(places)
@@ -108,13 +137,57 @@ fn make_plan(
     ensures choices { IfOk result (λ p. AreUnknown (length places.items) p.tables.choices.items) }
     ensures met { IfOk result (λ p. p.tables.met.items ≡ replicate (length places.items) 0) }
 {
-    let opening = dispatch.try_clone(alloc)?;
-    let tables = Tables::new(alloc, dispatch.graph().len(), places.len())?;
-    Ok(Plan {
-        opening,
-        places,
-        tables,
-    })
+    let tables = match Tables::new(alloc, dispatch.graph().len(), places.len()) {
+        Ok(tables) => tables,
+        Err(error) => {
+            drop(places);
+            return Err(error);
+        }
+    };
+    match dispatch.try_clone(alloc) {
+        Ok(opening) => Ok(Plan {
+            opening,
+            places,
+            tables,
+        }),
+        Err(error) => {
+            drop(places);
+            drop(tables);
+            Err(error)
+        }
+    }
+}
+
+/// The places that workers serve, and what the end of the run is compared with.
+fn prepare<T>(
+    alloc: Global,
+    dispatch: &Dispatch,
+    seats: &[Seat<T>],
+) -> Result<(Vec<(u32, u32)>, Plan), RunRefusal>
+    ensures refused { IfErr result (IsRunRefused dispatch.now.inputs (map (λ w. (w.machine, w.slot)) seats.now)) }
+    ensures manned { OnOk result (AreManned dispatch.now.inputs (map (λ w. (w.machine, w.slot)) seats.now)) }
+    ensures few { OnOk result (length seats.now ≤ 1024) }
+    ensures opening { IfOk result (λ p. p.1.opening ≡ dispatch.now) }
+    ensures apart { IfOk result (λ p. AreApart p.1.places.items) }
+    ensures places { IfOk result (λ p. p.1.places.items ≡ map (λ w. (w.machine, w.slot)) seats.now) }
+    ensures choices { IfOk result (λ p. AreUnknown (length p.1.places.items) p.1.tables.choices.items) }
+    ensures met { IfOk result (λ p. p.1.tables.met.items ≡ replicate (length p.1.places.items) 0) }
+{
+    let places = match accepted_places(alloc, dispatch, seats) {
+        Ok(places) => places,
+        Err(why) => return Err(why),
+    };
+    let Ok(manned) = places_of(alloc, seats) else {
+        drop(places);
+        return Err(RunRefusal::Memory);
+    };
+    match make_plan(alloc, dispatch, places) {
+        Ok(plan) => Ok((manned, plan)),
+        Err(_) => {
+            drop(manned);
+            Err(RunRefusal::Memory)
+        }
+    }
 }
 
 /// Takes the workers and their receipts apart.
@@ -141,9 +214,6 @@ fn take_apart<T: Transport>(
         receipts.push_reserved(notes.into_receipts());
     }
 }
-
-/// Lets go what the end of a run is compared with.
-fn let_go(_opening: Dispatch, _places: Vec<(u32, u32)>) {}
 
 /// Compares what came back with the histories, and hands it back.
 fn settle<T: Transport>(
@@ -190,7 +260,8 @@ fn settle<T: Transport>(
         tables,
     );
     let fault = fault_of(&opening, &dispatch, sound, dealt, short, threadless);
-    let_go(opening, places);
+    drop(opening);
+    drop(places);
     Ran {
         dispatch,
         workers,
@@ -217,7 +288,90 @@ fn refused<T>(
     })
 }
 
-/// Runs the dispatch, with a ledger of the entries that workers make and with room for what comes back.
+/// What came of a run's leases.
+#[derive(Drop)]
+struct Served<T> {
+    dispatch: Dispatch,
+    stints: Vec<Stint<T>>,
+    short: bool,
+    threadless: bool,
+}
+
+/// Serves the leases of a dispatch, with a ledger of the entries that workers make.
+fn serve_leases<L: Ledger + Send + Sync, T: Transport, R: Threads + Wait + Sync>(
+    rt: &R,
+    alloc: Global,
+    dispatch: Dispatch,
+    seats: Vec<Seat<T>>,
+    manned: Vec<(u32, u32)>,
+    running: Vec<Running<L, T>>,
+    stints: Vec<Stint<T>>,
+    blank: Blank,
+) -> Served<T>
+    requires name { blank.name ≡ L.name }
+    requires parts { blank.parts ≡ L.parts }
+    requires one_more { blank.parts ≡ vec_len seats + 1 }
+    requires no_threads { vec_len running ≡ 0 }
+    requires running_room { vec_len seats ≤ vec_capacity running }
+    requires no_stints { vec_len stints ≡ 0 }
+    requires stints_room { vec_len seats ≤ vec_capacity stints }
+    ensures count { vec_len result.stints ≡ vec_len seats }
+    ensures total { made result.dispatch.history ≡ made dispatch.history + sum_by (λ x. length x.notes.receipts) result.stints.items }
+    ensures each { AllZip (λ w x. IsServed (record { machine = w.machine; slot = w.slot; calls = (T.state w.transport).calls }) x.end (record { machine = x.seat.machine; slot = x.seat.slot; calls = (T.state x.seat.transport).calls }) x.notes) seats.items result.stints.items }
+{
+    let (mut book, mut rest) = blank.open::<L>();
+    book.add(&mut rest, count_made(dispatch.history()) as u64);
+    let mut desk = Desk {
+        dispatch,
+        book,
+        manned,
+        short: false,
+        threadless: false,
+    };
+    desk.begin(seats.len());
+    let shared = Shared {
+        desk: Mutex::new(desk),
+        changed: Condvar::new(),
+    };
+    let ready = Ready {
+        seats,
+        rest,
+        running,
+        stints,
+    };
+    let Ended { all, stints } = in_scope(rt, alloc, &shared, ready);
+    let Shared { desk, changed } = shared;
+    drop(changed);
+    let (dispatch, short, threadless) = close(desk.into_inner(), all);
+    Served {
+        dispatch,
+        stints,
+        short,
+        threadless,
+    }
+}
+
+/// What lay under the lock, where the ledger's whole share came back: it is what the workers made.
+fn close<L: Ledger>(desk: Desk<L>, all: Share<L>) -> (Dispatch, bool, bool)
+    requires { all.parts ≡ L.parts }
+    ensures { made result.0.history ≡ all.amount }
+{
+    let mut all = all;
+    let Desk {
+        dispatch,
+        mut book,
+        manned,
+        short,
+        threadless,
+    } = desk;
+    book.audit(&mut all);
+    drop(book);
+    drop(all);
+    drop(manned);
+    (dispatch, short, threadless)
+}
+
+/// Runs the dispatch, with room for what comes back.
 fn run_in<L: Ledger + Send + Sync, T: Transport, R: Threads + Wait + Sync>(
     rt: &R,
     alloc: Global,
@@ -247,42 +401,18 @@ fn run_in<L: Ledger + Send + Sync, T: Transport, R: Threads + Wait + Sync>(
     ensures memory { result.fault ≡ Some RunFault.Memory → list_any is_stop result.dispatch.history ≡ true }
     ensures calls { result.fault ≡ None → AllZip (λ w x. IsServedIn result.dispatch.history (record { machine = w.machine; slot = w.slot; calls = (T.state w.transport).calls }) (record { machine = x.0.machine; slot = x.0.slot; calls = (T.state x.0.transport).calls }) x.1.items) seats.items (zip result.workers.items result.receipts.items) }
 {
-    let (mut book, mut rest) = blank.open::<L>();
-    book.add(&mut rest, count_made(dispatch.history()) as u64);
-    let mut desk = Desk {
-        dispatch,
-        book,
-        manned,
-        short: false,
-        threadless: false,
-    };
-    desk.begin(seats.len());
-    let shared = Shared {
-        desk: Mutex::new(desk),
-        changed: Condvar::new(),
-    };
     let Room {
         running,
         stints,
         back,
     } = room;
-    let ready = Ready {
-        seats,
-        rest,
-        running,
-        stints,
-    };
-    let ended = in_scope(rt, alloc, &shared, ready);
-    let Ended { mut all, stints } = ended;
-    let Shared { desk, changed: _ } = shared;
-    let Desk {
+    let served = serve_leases(rt, alloc, dispatch, seats, manned, running, stints, blank);
+    let Served {
         dispatch,
-        mut book,
-        manned: _,
+        stints,
         short,
         threadless,
-    } = desk.into_inner();
-    book.audit(&mut all);
+    } = served;
     settle(dispatch, stints, plan, back, short, threadless)
 }
 
@@ -315,12 +445,9 @@ fn run_named<L: Ledger + Send + Sync, T: Transport, R: Threads + Wait + Sync>(
     ensures calls { IfOk result (λ e. e.fault ≡ None → AllZip (λ w x. IsServedIn e.dispatch.history (record { machine = w.machine; slot = w.slot; calls = (T.state w.transport).calls }) (record { machine = x.0.machine; slot = x.0.slot; calls = (T.state x.0.transport).calls }) x.1.items) seats.items (zip e.workers.items e.receipts.items)) }
 {
     let Ok(room) = make_room::<L, T>(alloc, seats.len()) else {
-        let Plan {
-            opening,
-            places,
-            tables: _,
-        } = plan;
-        let_go(opening, places);
+        drop(manned);
+        drop(plan);
+        drop(blank);
         return refused(RunRefusal::Memory, dispatch, seats);
     };
     Ok(run_in(rt, alloc, dispatch, seats, manned, plan, room, blank))
@@ -346,18 +473,14 @@ pub fn run_with<T: Transport, R: Threads + Wait + Sync>(
     ensures calls { IfOk result (λ e. e.fault ≡ None → AllZip (λ w x. IsServedIn e.dispatch.history (record { machine = w.machine; slot = w.slot; calls = (T.state w.transport).calls }) (record { machine = x.0.machine; slot = x.0.slot; calls = (T.state x.0.transport).calls }) x.1.items) workers.items (zip e.workers.items e.receipts.items)) }
 {
     let alloc = *workers.allocator();
-    let places = match accepted_places(alloc, &dispatch, workers.as_slice()) {
-        Ok(places) => places,
-        Err(why) => return refused(why, dispatch, workers),
-    };
-    let Ok(manned) = places_of(alloc, workers.as_slice()) else {
-        return refused(RunRefusal::Memory, dispatch, workers);
-    };
-    let Ok(plan) = make_plan(alloc, &dispatch, places) else {
-        return refused(RunRefusal::Memory, dispatch, workers);
-    };
-    let blank = Blank::new(workers.len() as u64 + 1);
-    run_named::<Brand, T, R>(rt, alloc, dispatch, workers, manned, plan, blank)
+    match prepare(alloc, &dispatch, workers.as_slice()) {
+        Ok(prepared) => {
+            let (manned, plan) = prepared;
+            let blank = Blank::new(workers.len() as u64 + 1);
+            run_named::<Brand, T, R>(rt, alloc, dispatch, workers, manned, plan, blank)
+        }
+        Err(why) => refused(why, dispatch, workers),
+    }
 }
 
 /// Runs the dispatch by one worker for each slot of the park, each in a thread of its own, until nothing

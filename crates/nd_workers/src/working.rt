@@ -6,17 +6,16 @@ ghost use Rattle.nd_workers.specs.Ends.{EndsWell};
 
 use crate::desk::Next;
 use crate::hand::Hand;
-use crate::leasing::{Shared, fail, serve};
+use crate::leasing::{Shared, give_up, serve};
 use crate::seat::Seat;
 use nd_history::Why;
-use nd_path::PathSet;
 use nd_transports::transport::Transport;
 use std::alloc::Global;
 use std::sync::Wait;
 use std::sync::ledger::Ledger;
 
 /// How a worker ended, or that it goes on.
-#[derive(Clone, Copy, Debug, PartialEq, Eq)]
+#[derive(Clone, Copy, PartialEq, Eq)]
 pub(crate) enum End {
     /// It served a lease, and goes on.
     Again,
@@ -69,7 +68,7 @@ pub(crate) fn leave<L: Ledger, R: Wait>(rt: &R, shared: &Shared<L>, machine: u32
 }
 
 /// One lease of a worker.
-#[tactic(auto, using(crate::proofs::Going::goings))]
+#[tactic(auto, using(crate::proofs::Going::goes_nowhere))]
 fn turn<L: Ledger, T: Transport, R: Wait>(
     rt: &R,
     alloc: Global,
@@ -85,34 +84,45 @@ fn turn<L: Ledger, T: Transport, R: Wait>(
         leave(rt, shared, seat.machine, seat.slot);
         return End::Left;
     }
-    match take(rt, alloc, shared, seat.machine, seat.slot) {
+    let next = take(rt, alloc, shared, seat.machine, seat.slot);
+    let end = attend(rt, alloc, shared, hand, &mut seat.transport, next);
+    if end == End::Refused {
+        leave(rt, shared, seat.machine, seat.slot);
+    }
+    end
+}
+
+/// Does what there is to do for a worker.
+#[tactic(auto, using(crate::proofs::Going::goes_nowhere, crate::proofs::Going::goes_unserved))]
+fn attend<L: Ledger, T: Transport, R: Wait>(
+    rt: &R,
+    alloc: Global,
+    shared: &Shared<L>,
+    hand: &mut Hand<L>,
+    transport: &mut T,
+    next: Next,
+) -> End
+    requires { 1 < hand.old.notes.room }
+    ensures { EndsWell result (track hand.old.notes (T.state transport.old).calls) (track hand.new.notes (T.state transport.new).calls) }
+{
+    match next {
         Next::Finished => End::Finished,
-        Next::Serve(job) => match serve(rt, alloc, shared, hand, &mut seat.transport, job) {
+        Next::Serve(job) => match serve(rt, alloc, shared, hand, transport, job) {
             Ok(()) => End::Again,
-            Err(_) => {
-                leave(rt, shared, seat.machine, seat.slot);
-                End::Refused
-            }
+            Err(_) => End::Refused,
         },
         Next::Short(ticket) => {
-            let none = PathSet::new(alloc);
-            match fail(rt, shared, hand, ticket, Why::Memory, 0, none) {
+            match give_up(rt, alloc, shared, hand, ticket, Why::Memory, 0) {
                 Ok(()) => End::Again,
-                Err(_) => {
-                    leave(rt, shared, seat.machine, seat.slot);
-                    End::Refused
-                }
+                Err(_) => End::Refused,
             }
         }
-        Next::Wait => {
-            leave(rt, shared, seat.machine, seat.slot);
-            End::Refused
-        }
+        Next::Wait => End::Refused,
     }
 }
 
 /// Serves the leases of a place until nothing is leased or waits any more.
-#[tactic(auto, using(crate::proofs::Going::goings))]
+#[tactic(auto, using(crate::proofs::Going::goes_nowhere, crate::proofs::Going::goes_further))]
 pub(crate) fn work<L: Ledger, T: Transport, R: Wait>(
     rt: &R,
     alloc: Global,

@@ -1,8 +1,9 @@
+use Rattle.std.proofs.Common.{◌∙◌}
 use Rattle.nd_workers.proofs.Going.{goes_away}
 use Rattle.nd_workers.proofs.leasing.fetch_lease.Goals as goal
 
-pub returns-in-Refused-clause-goes : goal.returns-in-Refused-clause-goes
-returns-in-Refused-clause-goes g c =
+pub returns-in_ok-down-in-Refused-clause-goes : goal.returns-in_ok-down-in-Refused-clause-goes
+returns-in_ok-down-in-Refused-clause-goes g c =
     goes_away c.args.hand.now.notes c.down.new.hand.notes c.args.job.ticket.drv c.in-Refused.calls c.args.job.paths c.copied_paths-kept.result
     (g.T.Transport.state c.args.transport.now) (g.T.Transport.state c.fetch-fetched.new.transport)
-    c.in-Refused.ensures c.copied_paths-kept.ensures c.in_ok-down-in-Refused.ensures.ok
+    c.in-Refused.ensures (λ two. c.copied_paths-kept.ensures two ∙ c.into_paths-paths.ensures) c.in_ok-down-in-Refused.ensures.ok

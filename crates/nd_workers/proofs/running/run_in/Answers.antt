@@ -1,4 +1,4 @@
-use Rattle.std.proofs.Common.{◌≡◌, sym, subst, ap, ◌∙◌, arith}
+use Rattle.std.proofs.Common.{◌≡◌, ◌+◌, sym, subst, ap, ◌∙◌}
 use Rattle.std.specs.List.{AllZip}
 use Rattle.nd_ledger.specs.Worlds.{World}
 use Rattle.nd_receipts.specs.Made.{made}
@@ -24,17 +24,9 @@ returns-clause-quiet g c = rw (← c.requires.opening) c.settle.ensures.quiet
 pub returns-clause-calls : goal.returns-clause-calls
 returns-clause-calls g c = λ none.
     let of : Seat g.row.T.Denot → Seated = λ s. record { machine = s.machine; slot = s.slot; calls = (g.T.Transport.state s.transport).calls } in
-    zip_known_via {S = λ (y : Stint g.row.T.Denot). (y.end ≡ Refused → ⊥) × AllZip (IsNotedIn c.settle.result.dispatch.history) y.notes.receipts y.notes.copies} _ _ _ c.in_scope-ended.ensures.each (c.settle.ensures.sound none) c.settle.ensures.each
+    zip_known_via {S = λ (y : Stint g.row.T.Denot). (y.end ≡ Refused → ⊥) × AllZip (IsNotedIn c.settle.result.dispatch.history) y.notes.receipts y.notes.copies} _ _ _ c.serve_leases-served.ensures.each (c.settle.ensures.sound none) c.settle.ensures.each
     (λ w y z p s q. subst (λ (x : Seat g.row.T.Denot). IsServedIn c.settle.result.dispatch.history (of w) (of x) z.1.items) (sym q.0) (served_in c.settle.result.dispatch.history (of w) (of y.seat) y.end y.notes z.1.items s.0 s.1 p q.1))
 
 pub returns-clause-total : goal.returns-clause-total
 returns-clause-total g c =
-    let whole = c.audit.ensures.whole (c.in_scope-ended.ensures.parts ∙ sym c.requires.one_more ∙ c.requires.parts) in
-    let last = ap (λ (w : World). made w.history) c.settle.ensures.dispatch in
-    let counted = c.into_inner-dispatch.result.counted in
-    let joined = c.in_scope-ended.ensures.amount in
-    let opened = c.open-book.ensures.amount in
-    let first = c.count_made.ensures ∙ ap made c.history.ensures.value in
-    let added = c.add.ensures.amount in
-    let receipts = c.settle.ensures.total in
-    omega arith
+    ap (λ (w : World). made w.history) c.settle.ensures.dispatch ∙ c.serve_leases-served.ensures.total ∙ ap (λ n. made c.args.dispatch.history + n) (sym c.settle.ensures.total)
