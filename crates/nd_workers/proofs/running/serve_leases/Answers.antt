@@ -1,4 +1,4 @@
-use Rattle.std.proofs.Common.{◌≡◌, sym, ap, ◌∙◌, arith}
+use Rattle.std.proofs.Common.{sym, ap, ◌∙◌, arith}
 use Rattle.nd_receipts.specs.Made.{made}
 use Rattle.nd_workers.proofs.running.serve_leases.Goals as goal
 
