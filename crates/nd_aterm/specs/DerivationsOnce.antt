@@ -98,5 +98,3 @@ derivation_goes p r s = simp (string_goes, strings_go, outputs_go, input_drvs_go
 -- one text, one derivation
 pub Loose-same : (p q : Parts) (bytes : List ℕ) → Loose p bytes → Loose q bytes → p ≡ q
 Loose-same p q bytes of_p of_q = (derivation_once p q [] [] (sym of_p ∙ of_q)).0
-
-pub ruleset onces = (string_once, strings_once, output_once, input_drv_once, env_entry_once, outputs_once, input_drvs_once, env_once, derivation_once)
