@@ -68,7 +68,12 @@ impl Stores {
     }
 
     /// The input closure of derivation `drv`.
-    pub(crate) fn closure(&self, alloc: Global, inputs: &Inputs, drv: usize) -> Result<PathSet, AllocError>
+    pub(crate) fn closure(
+        &self,
+        alloc: Global,
+        inputs: &Inputs,
+        drv: usize,
+    ) -> Result<PathSet, AllocError>
         requires { drv < length inputs.now.graph.paths }
         ensures { IfOk result (IsClosureBy (premises_of inputs.now) self.now drv) }
     {
