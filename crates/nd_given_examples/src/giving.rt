@@ -68,13 +68,13 @@ pub(crate) fn given<R: Threads + Sync>(
     let given = run_inputs(rt, alloc, &options, words.stand.as_bytes(), &mut input);
     drop(options);
     match given {
-        Ok(given) => Ok(seen(alloc, given)),
+        Ok(given) => Ok(look_at(alloc, given)),
         Err(fault) => Err(fault),
     }
 }
 
-/// What is looked at of this.
-fn seen(alloc: Global, given: RunInputs) -> Seen {
+/// Looks at what `run` is given, and lets it go.
+fn look_at(alloc: Global, given: RunInputs) -> Seen {
     let RunInputs { dispatch, rules } = given;
     let sizes = (
         dispatch.graph().len(),
