@@ -3,7 +3,7 @@ use Rattle.std.specs.Prelude.{◌≡◌, ℕ, List, [], refl}
 use Rattle.std.proofs.Common.{sym, ◌∙◌}
 use Rattle.nd_aterm.specs.declared.records.Parts.{Parts}
 use Rattle.nd_aterm.specs.Spelling.{right_bracket, left_parenthesis, string, list}
-use Rattle.nd_aterm.specs.SpellingOnce.{IsOnce, Opens, GoesOn, tail_is, differ, string_once, string_opens, string_goes, list_once, list_opens, list_goes}
+use Rattle.nd_aterm.specs.SpellingOnce.{IsOnce, Opens, GoesOn, tail_is, differ, string_once, string_opens, string_goes, list_once, list_goes}
 use Rattle.nd_aterm.specs.Derivations.{output, input_drv, env_entry, derivation, Loose}
 
 pub strings_once : IsOnce (list string)

@@ -4,3 +4,4 @@ pub mod Asks
 pub mod Paths
 pub mod Asked
 pub mod Statuses
+pub mod Names

@@ -30,6 +30,11 @@ pub enum Place {
 }
 
 impl fmt::Display for Place {
+    ghost use Rattle.std.specs.Prelude.{Some};
+    ghost use Rattle.nd_cli.specs.Names.{place_name};
+
+    ghost output = { λ e. Some (place_name e) };
+
     fn fmt<W: fmt::Write>(&self, f: &mut fmt::Formatter<W>) -> fmt::Result {
         match self {
             Place::Derivation => write!(f, "derivation"),
@@ -53,6 +58,11 @@ pub enum DerivationRefusal {
 }
 
 impl fmt::Display for DerivationRefusal {
+    ghost use Rattle.std.specs.Prelude.{Some};
+    ghost use Rattle.nd_cli.specs.Names.{refusal_name};
+
+    ghost output = { λ e. Some (refusal_name e) };
+
     fn fmt<W: fmt::Write>(&self, f: &mut fmt::Formatter<W>) -> fmt::Result {
         match self {
             DerivationRefusal::BadPath => write!(f, "BadPath"),
@@ -72,6 +82,11 @@ pub enum HistoryRefusal {
 }
 
 impl fmt::Display for HistoryRefusal {
+    ghost use Rattle.std.specs.Prelude.{Some};
+    ghost use Rattle.nd_cli.specs.Names.{history_refusal_text};
+
+    ghost output = { λ e. Some (history_refusal_text e) };
+
     fn fmt<W: fmt::Write>(&self, f: &mut fmt::Formatter<W>) -> fmt::Result {
         match self {
             HistoryRefusal::Version => write!(f, "Version"),

@@ -3,3 +3,4 @@ pub mod Closures
 pub mod Sets
 pub mod Info
 pub mod Lines
+pub mod Names

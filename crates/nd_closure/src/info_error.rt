@@ -18,6 +18,11 @@ pub enum InfoError {
 }
 
 impl fmt::Display for InfoError {
+    ghost use Rattle.std.specs.Prelude.{Some};
+    ghost use Rattle.nd_closure.specs.Names.{refusal_text};
+
+    ghost output = { λ e. Some (refusal_text e) };
+
     fn fmt<W: fmt::Write>(&self, f: &mut fmt::Formatter<W>) -> fmt::Result {
         match self {
             InfoError::BadLine(line) => write!(f, "BadLine {line}"),

@@ -19,3 +19,4 @@ pub mod Structured
 pub mod Walks
 pub mod Whole
 pub mod Wishes
+pub mod Names

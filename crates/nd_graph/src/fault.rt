@@ -39,6 +39,11 @@ pub enum GraphError {
 }
 
 impl fmt::Display for GraphError {
+    ghost use Rattle.std.specs.Prelude.{Some};
+    ghost use Rattle.nd_graph.specs.Names.{refusal_text};
+
+    ghost output = { λ e. Some (refusal_text e) };
+
     fn fmt<W: fmt::Write>(&self, f: &mut fmt::Formatter<W>) -> fmt::Result {
         match self {
             GraphError::BadLine(line) => write!(f, "BadLine {line}"),

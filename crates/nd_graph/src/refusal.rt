@@ -68,6 +68,11 @@ impl<T: Drop> From<AllocFailed<T>> for LineFault {
 }
 
 impl Display for LineFault {
+    ghost use Rattle.std.specs.Prelude.{Some};
+    ghost use Rattle.nd_graph.specs.Names.{fault_name};
+
+    ghost output = { λ e. Some (fault_name e) };
+
     fn fmt<W: Write>(&self, f: &mut Formatter<W>) -> fmt::Result {
         f.write_str(match self {
             LineFault::BadLine => "BadLine",

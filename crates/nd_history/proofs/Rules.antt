@@ -1,6 +1,6 @@
 -- The rules by which entries are audited say together that an entry is allowed; and which rule is the first that refuses it.
 use Rattle.std.proofs.Common.{◌≡◌, ℕ, zero, suc, ◌-◌, ◌<◌, ◌≤◌, Bool, true, false, ◌==◌, ◌||◌, cond, if◌then◌else◌, List, [], ◌∷◌, refl, sym, ap, ◌∙◌, subst, arith, inl, inr, Some, Result, Ok, Err, MatchResult}
-use Rattle.std.proofs.lemmas.Bool.{cases_lt, cases_eq}
+use Rattle.std.proofs.lemmas.Bool.{cases_lt}
 use Rattle.std.specs.List.{list_any, find}
 use Rattle.nd_hook.specs.declared.kinds.Decision.{Decision as Deciding}
 use Rattle.nd_hook.specs.declared.kinds.Decision.TheVariants.{Local, Remote, Wait, NoBuilder as NobodyBuilds}
@@ -14,7 +14,7 @@ use Rattle.nd_history.specs.Premises.{Premises}
 use Rattle.nd_history.specs.History.{live, is_leased, lease_of, is_started, has_stop}
 use Rattle.nd_history.specs.Standing.{drvs_in, IsReady}
 use Rattle.nd_history.specs.Choices.{HasDecision, IsBestFor}
-use Rattle.nd_history.specs.References.{ArePathsRight, AreReferencesRight}
+use Rattle.nd_history.specs.References.{AreReferencesRight}
 use Rattle.nd_history.specs.Legal.{IsInRange, IsPlaceFor, IsLeastFree, IsAllowed}
 use Rattle.nd_history.specs.Audit.{code_of, IsSupplied, Passes, IsFirstRule, RulesDecide}
 use Rattle.nd_history.proofs.OneChoice.{decision_once, remote_best, best_for_once}

@@ -2,7 +2,7 @@
 use Rattle.std.proofs.Common.{◌≡◌, ◌↔◌, IsTrue, ◌==◌, ℕ, ◌<◌, true, false, List, length, get_or, Contains, refl, sym, ◌∙◌, subst, arith, inl, inr, eq-eqb}
 use Rattle.std.proofs.lemmas.Bool.{cases_lt, eqb-true}
 use Rattle.std.proofs.lemmas.List.{get_or_default}
-use Rattle.nd_failure.specs.Statuses.{same_status, count_of, total_of}
+use Rattle.nd_failure.specs.Statuses.{same_status, count_of}
 use Rattle.nd_failure.specs.declared.status.Counts.{Counts}
 use Rattle.nd_failure.specs.declared.status.Status.{Status}
 use Rattle.nd_failure.specs.declared.status.Status.TheVariants.{Waiting, Leased, Built, Failed, Cancelled}

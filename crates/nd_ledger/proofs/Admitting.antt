@@ -1,10 +1,9 @@
 -- What the refusals of calls say of the rules by which entries are audited.
-use Rattle.std.proofs.Common.{◌≡◌, ◌==◌, ℕ, ◌<◌, Bool, true, false, ◌||◌, cond, List, [], ◌∷◌, ◌++◌, reverse, refl, sym, subst, ap, ◌∙◌, inl, inr, Option, Some, None, MatchOption}
+use Rattle.std.proofs.Common.{◌≡◌, ◌==◌, ℕ, ◌<◌, Bool, true, false, cond, List, [], ◌∷◌, ◌++◌, reverse, refl, sym, subst, ap, ◌∙◌, inl, inr, Option, Some, None, MatchOption}
 use Rattle.std.specs.List.{find}
 use Rattle.nd_history.specs.declared.entry.Entry.{Entry}
-use Rattle.nd_history.specs.declared.entry.Entry.TheVariants.{Started as Starting, Down, Built, Failed, Stop}
+use Rattle.nd_history.specs.declared.entry.Entry.TheVariants.{Started as Starting, Down, Built, Stop}
 use Rattle.nd_history.specs.declared.entry.Ticket.{Ticket}
-use Rattle.nd_history.specs.declared.entry.Why.{Why}
 use Rattle.nd_history.specs.Premises.{Premises}
 use Rattle.nd_history.specs.History.{live, is_leased, lease_of, has_stop}
 use Rattle.nd_history.specs.Standing.{drvs_in}
@@ -13,16 +12,15 @@ use Rattle.nd_history.specs.Legal.{IsAllowed, IsLegal}
 use Rattle.nd_history.specs.Audit.{IsSupplied}
 use Rattle.nd_history.proofs.Following.{newest_first}
 use Rattle.nd_history.proofs.Provisions.{leased_by}
-use Rattle.nd_history.proofs.Rules.{rules_decide, found_lease, started_unleased, started_twice, started_wrongly, down_unleased, down_late, built_unleased, built_early, built_wrongly, failed_unleased, stopped_twice}
+use Rattle.nd_history.proofs.Rules.{rules_decide, found_lease, started_twice, started_wrongly, down_late, built_early, built_wrongly, stopped_twice}
 use Rattle.nd_history.proofs.Slots.{same_of}
 use Rattle.nd_stores.specs.Stored.{IsUncovered, IsExtra}
 use Rattle.nd_ledger.specs.declared.refusal.AdmitError.{AdmitError}
 use Rattle.nd_ledger.specs.declared.refusal.AdmitError.TheVariants.{Illegal, Memory}
 use Rattle.nd_ledger.specs.declared.refusal.Refusal.{Refusal}
 use Rattle.nd_ledger.specs.declared.refusal.Refusal.TheVariants.{NotLive, AlreadyStarted, NotStarted, Uncovered, Extra, BadReferences, AlreadyStopped, Memory as NoMemory}
-use Rattle.nd_ledger.specs.Refusals.{IsLive, IsFailRefused, IsDownRefused, IsStopRefused}
+use Rattle.nd_ledger.specs.Refusals.{IsLive, IsDownRefused, IsStopRefused}
 use Rattle.nd_ledger.specs.Moves.{IsStartRefused, IsEndRefused}
-use Rattle.nd_ledger.specs.Worlds.{World}
 use Rattle.nd_ledger.specs.Admitting.{IsAdmitRefused, admit_error_for}
 
 -- ---- the lease of a derivation

@@ -4,3 +4,4 @@ pub mod Marks
 pub mod Moves
 pub mod Refusals
 pub mod Worlds
+pub mod Names

@@ -33,6 +33,11 @@ pub enum Refusal {
 }
 
 impl fmt::Display for Refusal {
+    ghost use Rattle.std.specs.Prelude.{Some};
+    ghost use Rattle.nd_ledger.specs.Names.{refusal_name};
+
+    ghost output = { λ e. Some (refusal_name e) };
+
     fn fmt<W: fmt::Write>(&self, f: &mut fmt::Formatter<W>) -> fmt::Result {
         f.write_str(match self {
             Refusal::NotLive => "NotLive",
@@ -76,6 +81,11 @@ pub enum AdmitError {
 }
 
 impl fmt::Display for AdmitError {
+    ghost use Rattle.std.specs.Prelude.{Some};
+    ghost use Rattle.nd_ledger.specs.Names.{admit_text};
+
+    ghost output = { λ e. Some (admit_text e) };
+
     fn fmt<W: fmt::Write>(&self, f: &mut fmt::Formatter<W>) -> fmt::Result {
         match self {
             AdmitError::Illegal(rule) => write!(f, "Illegal {rule}"),

@@ -4,3 +4,4 @@ pub mod Fields
 pub mod BuildersList
 pub mod Adding
 pub mod Entries
+pub mod Names

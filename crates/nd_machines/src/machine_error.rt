@@ -27,6 +27,11 @@ pub enum MachineError {
 }
 
 impl fmt::Display for MachineError {
+    ghost use Rattle.std.specs.Prelude.{Some};
+    ghost use Rattle.nd_machines.specs.Names.{refusal_text};
+
+    ghost output = { λ e. Some (refusal_text e) };
+
     fn fmt<W: fmt::Write>(&self, f: &mut fmt::Formatter<W>) -> fmt::Result {
         match self {
             MachineError::Uri(entry) => write!(f, "Uri {entry}"),

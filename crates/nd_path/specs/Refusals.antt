@@ -1,5 +1,5 @@
 -- When a text is refused as a store path, and with which refusal.
-use Rattle.std.specs.Prelude.{◌≡◌, ℕ, true, List, ◌∷◌, ◌++◌, length, drop, nat_eq, Option, Some, None, if◌then◌else◌}
+use Rattle.std.specs.Prelude.{◌≡◌, ℕ, true, List, ◌∷◌, ◌++◌, length, drop, nat_eq, Option, Some, None, codes, if◌then◌else◌}
 use Rattle.std.specs.List.{list_all, starts_with}
 use Rattle.nd_path.specs.declared.path_error.PathError.{PathError}
 use Rattle.nd_path.specs.declared.path_error.PathError.TheVariants.{Prefix, Digest, Name, Memory}
@@ -36,3 +36,10 @@ IsRefused bytes Prefix = fault_of bytes ≡ Some Prefix
 IsRefused bytes Digest = fault_of bytes ≡ Some Digest
 IsRefused bytes Name = fault_of bytes ≡ Some Name
 IsRefused bytes Memory = Unit {0}
+
+-- the plain name of a refusal
+abbrev pub refusal_name : PathError → List ℕ
+refusal_name Prefix = codes "Prefix"
+refusal_name Digest = codes "Digest"
+refusal_name Name = codes "Name"
+refusal_name Memory = codes "Memory"

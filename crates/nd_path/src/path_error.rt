@@ -21,6 +21,11 @@ pub enum PathError {
 }
 
 impl fmt::Display for PathError {
+    ghost use Rattle.std.specs.Prelude.{Some};
+    ghost use Rattle.nd_path.specs.Refusals.{refusal_name};
+
+    ghost output = { λ e. Some (refusal_name e) };
+
     fn fmt<W: fmt::Write>(&self, f: &mut fmt::Formatter<W>) -> fmt::Result {
         f.write_str(match self {
             PathError::Prefix => "Prefix",

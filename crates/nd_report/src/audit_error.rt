@@ -18,6 +18,11 @@ pub enum AuditError {
 }
 
 impl fmt::Display for AuditError {
+    ghost use Rattle.std.specs.Prelude.{Some};
+    ghost use Rattle.nd_report.specs.Names.{refusal_text};
+
+    ghost output = { λ e. Some (refusal_text e) };
+
     fn fmt<W: fmt::Write>(&self, f: &mut fmt::Formatter<W>) -> fmt::Result {
         match self {
             AuditError::Illegal { index, rule } => write!(f, "Illegal {index} {rule}"),

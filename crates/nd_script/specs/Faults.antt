@@ -1,5 +1,6 @@
 -- When words say nothing.
-use Rattle.std.specs.Prelude.{ℕ, List, []}
+use Rattle.std.specs.Prelude.{ℕ, List, [], ◌++◌, codes}
+use Rattle.std.specs.Fmt.{decimal}
 use Rattle.nd_path.specs.Refusals.{IsPath}
 use Rattle.nd_script.specs.declared.line_fault.LineFault.{LineFault}
 use Rattle.nd_script.specs.declared.line_fault.LineFault.TheVariants.{Bad, Memory}
@@ -33,3 +34,8 @@ RulesOut {X} P Memory = Unit {0}
 abbrev pub refusal_of : LineFault → ℕ → ScriptError
 refusal_of Bad number = BadLine number
 refusal_of Memory number = NoMemory
+
+-- what is printed of a refusal
+abbrev pub refusal_text : ScriptError → List ℕ
+refusal_text (BadLine number) = codes "BadLine " ++ decimal number
+refusal_text NoMemory = codes "Memory"

@@ -21,6 +21,11 @@ pub enum ScriptError {
 }
 
 impl fmt::Display for ScriptError {
+    ghost use Rattle.std.specs.Prelude.{Some};
+    ghost use Rattle.nd_script.specs.Faults.{refusal_text};
+
+    ghost output = { λ e. Some (refusal_text e) };
+
     fn fmt<W: fmt::Write>(&self, f: &mut fmt::Formatter<W>) -> fmt::Result {
         match self {
             ScriptError::BadLine(line) => write!(f, "BadLine {line}"),

@@ -1,6 +1,5 @@
 -- What calls on a dispatch say of the commands that they stand for.
-use Rattle.std.proofs.Common.{◌≡◌, ℕ, List, [], ◌∷◌, ◌++◌, reverse, Some, refl, sym, ap, subst, ◌∙◌, inl, inr}
-use Rattle.std.specs.Prelude.{◌⊎◌}
+use Rattle.std.proofs.Common.{◌≡◌, ℕ, List, [], ◌∷◌, ◌++◌, reverse, Some, ap, subst, ◌∙◌, inl, inr}
 use Rattle.nd_path.specs.PathSets.{IsRising}
 use Rattle.nd_history.specs.declared.entry.Entry.{Entry}
 use Rattle.nd_history.specs.declared.entry.Why.{Why}
@@ -14,7 +13,7 @@ use Rattle.nd_ledger.specs.Moves.{IsStartRefused, IsEndRefused}
 use Rattle.nd_ledger.specs.Worlds.{World}
 use Rattle.nd_script.specs.declared.command.Command.{Command}
 use Rattle.nd_sim.specs.Answers.{Adds, HasAdded, IsRefusedWith, IsTicketRefused, IsCommandRefused, no_references}
-use Rattle.nd_sim.specs.Outcomes.{IsAnswer, IsRefusal}
+use Rattle.nd_sim.specs.Outcomes.{IsRefusal}
 
 pub added : (old new : World) (command : Command) (e : Entry) → Adds old.inputs (reverse old.history) command e → new ≡ record { inputs = old.inputs; history = old.history ++ e ∷ [] } → HasAdded old.inputs old.history new.history command
 added old new command e adds is = record { entry = e; adds = adds; grown = ap (λ (w : World). w.history) is }

@@ -12,7 +12,7 @@ use Rattle.nd_history.specs.References.{outputs_of}
 use Rattle.nd_stores.specs.Stored.{IsMissing}
 use Rattle.nd_ledger.specs.declared.refusal.Refusal.{Refusal}
 use Rattle.nd_ledger.specs.Refusals.{IsFailRefused, IsDownRefused, IsStopRefused}
-use Rattle.nd_ledger.specs.Moves.{IsStartRefused, IsEndRefused, IsJobRefused}
+use Rattle.nd_ledger.specs.Moves.{IsStartRefused, IsEndRefused}
 use Rattle.nd_script.specs.declared.command.Command.{Command}
 use Rattle.nd_script.specs.declared.command.Command.TheVariants.{Start, StartWith, Built, BuiltWith, Fail, Lose, Down, Stop, Drain, Enable, Ask}
 

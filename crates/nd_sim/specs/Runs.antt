@@ -11,24 +11,13 @@ use Rattle.nd_history.specs.Pumping.{ArePumpSteps, AreAtRest}
 use Rattle.nd_history.specs.Standing.{drvs_in}
 use Rattle.nd_history.specs.Statuses.{AreCountsIn}
 use Rattle.nd_ledger.specs.declared.refusal.Refusal.{Refusal}
-use Rattle.nd_ledger.specs.declared.refusal.Refusal.TheVariants.{NotLive, AlreadyStarted, NotStarted, Uncovered, Extra, BadReferences, AlreadyStopped, Memory}
+use Rattle.nd_ledger.specs.Names.{refusal_name}
 use Rattle.nd_texts.specs.HistoryTexts.{line_of}
 use Rattle.nd_report.specs.Reports.{IsReport}
 use Rattle.nd_script.specs.declared.command.Command.{Command}
 use Rattle.nd_sim.specs.Outcomes.{ComesTo}
 use Rattle.nd_sim.specs.declared.answer.Answer.{Answer}
 use Rattle.nd_sim.specs.declared.answer.Answer.TheVariants.{Added, Refused, Replied}
-
--- the name of a refusal
-abbrev pub refusal_name : Refusal → List ℕ
-refusal_name NotLive = codes "NotLive"
-refusal_name AlreadyStarted = codes "AlreadyStarted"
-refusal_name NotStarted = codes "NotStarted"
-refusal_name Uncovered = codes "Uncovered"
-refusal_name Extra = codes "Extra"
-refusal_name BadReferences = codes "BadReferences"
-refusal_name AlreadyStopped = codes "AlreadyStopped"
-refusal_name Memory = codes "Memory"
 
 -- the line of a refused command
 unfoldable pub refused_line : Refusal → List ℕ

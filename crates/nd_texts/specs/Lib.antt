@@ -4,3 +4,4 @@ pub mod Sending
 pub mod Reading
 pub mod Sound
 pub mod TextLaws
+pub mod Names

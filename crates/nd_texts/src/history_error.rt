@@ -20,6 +20,11 @@ pub enum HistoryError {
 }
 
 impl fmt::Display for HistoryError {
+    ghost use Rattle.std.specs.Prelude.{Some};
+    ghost use Rattle.nd_texts.specs.Names.{refusal_text};
+
+    ghost output = { λ e. Some (refusal_text e) };
+
     fn fmt<W: fmt::Write>(&self, f: &mut fmt::Formatter<W>) -> fmt::Result {
         match self {
             HistoryError::Version => write!(f, "Version"),

@@ -1,8 +1,6 @@
 -- What serving a lease does to its transport: the calls that stand behind each answer. This project's own choice.
 use Rattle.std.specs.Prelude.{◌≡◌, ℕ, true, false, List, [], ◌∷◌, ◌++◌, ◌⊎◌}
-use Rattle.nd_transports.specs.declared.kinds.Answer.{Answer}
 use Rattle.nd_transports.specs.declared.kinds.Answer.TheVariants.{Built, Status, Lost}
-use Rattle.nd_transports.specs.declared.kinds.Call.{Call}
 use Rattle.nd_transports.specs.declared.kinds.Call.TheVariants.{Connect, Copy}
 use Rattle.nd_transports.specs.declared.kinds.Phase.TheVariants.{Copied as HasCopied, Idle}
 use Rattle.nd_transports.specs.declared.serving.Fetch.{Fetch}

@@ -1,0 +1,26 @@
+-- The words of a fault's line. They are this project's own.
+use Rattle.std.specs.Prelude.{ℕ, List, ◌++◌, codes}
+use Rattle.std.specs.Fmt.{decimal}
+use Rattle.nd_cli.specs.declared.fault.Place.{Place}
+use Rattle.nd_cli.specs.declared.fault.DerivationRefusal.{DerivationRefusal}
+use Rattle.nd_cli.specs.declared.fault.HistoryRefusal.{HistoryRefusal}
+
+-- an input
+abbrev pub place_name : Place → List ℕ
+place_name Place.Derivation = codes "derivation"
+place_name Place.Drvs = codes "drvs"
+place_name Place.Builders = codes "builders"
+place_name Place.Info = codes "info"
+place_name Place.Script = codes "script"
+place_name Place.Stand = codes "stand"
+place_name Place.History = codes "history"
+
+-- why a derivation text has no path
+abbrev pub refusal_name : DerivationRefusal → List ℕ
+refusal_name DerivationRefusal.BadPath = codes "BadPath"
+refusal_name DerivationRefusal.BadDerivation = codes "BadDerivation"
+
+-- why a history text is refused
+abbrev pub history_refusal_text : HistoryRefusal → List ℕ
+history_refusal_text HistoryRefusal.Version = codes "Version"
+history_refusal_text (HistoryRefusal.BadLine number) = codes "BadLine " ++ decimal number
