@@ -2,15 +2,19 @@
 use Rattle.std.proofs.Common.{◌≡◌, ◌==◌, ℕ, ◌<◌, Bool, true, false, cond, List, [], ◌∷◌, ◌++◌, reverse, refl, sym, subst, ap, ◌∙◌, inl, inr, Option, Some, None, MatchOption}
 use Rattle.std.specs.List.{find}
 use Rattle.nd_history.specs.declared.entry.Entry.{Entry}
-use Rattle.nd_history.specs.declared.entry.Entry.TheVariants.{Started as Starting, Down, Built, Stop}
+use Rattle.nd_history.specs.declared.entry.Entry.TheVariants.{Started as Starting, Down, Built, Failed, Stop}
 use Rattle.nd_history.specs.declared.entry.Ticket.{Ticket}
+use Rattle.nd_history.specs.declared.entry.Why.{Why}
+use Rattle.nd_history.specs.declared.rule.Rule.{Rule}
+use Rattle.nd_history.specs.declared.rule.Rule.TheVariants.{Range, Ready, Decision, Best, Slot, Live, Started as StartedRule, Paths, References, Stopped}
 use Rattle.nd_history.specs.Premises.{Premises}
-use Rattle.nd_history.specs.History.{live, is_leased, lease_of, has_stop}
+use Rattle.nd_history.specs.History.{live, is_leased, lease_of, is_started, has_stop}
 use Rattle.nd_history.specs.Standing.{drvs_in}
-use Rattle.nd_history.specs.References.{ArePathsRight}
+use Rattle.nd_history.specs.References.{ArePathsRight, AreReferencesRight}
 use Rattle.nd_history.specs.Legal.{IsAllowed, IsLegal}
-use Rattle.nd_history.specs.Audit.{IsSupplied}
+use Rattle.nd_history.specs.Audit.{IsSupplied, Passes}
 use Rattle.nd_history.proofs.Following.{newest_first}
+use Rattle.nd_history.proofs.Legality.{leased_ranged}
 use Rattle.nd_history.proofs.Provisions.{leased_by}
 use Rattle.nd_history.proofs.Rules.{rules_decide, found_lease, started_twice, started_wrongly, down_late, built_early, built_wrongly, stopped_twice}
 use Rattle.nd_history.proofs.Slots.{same_of}
@@ -21,7 +25,7 @@ use Rattle.nd_ledger.specs.declared.refusal.Refusal.{Refusal}
 use Rattle.nd_ledger.specs.declared.refusal.Refusal.TheVariants.{NotLive, AlreadyStarted, NotStarted, Uncovered, Extra, BadReferences, AlreadyStopped, Memory as NoMemory}
 use Rattle.nd_ledger.specs.Refusals.{IsLive, IsDownRefused, IsStopRefused}
 use Rattle.nd_ledger.specs.Moves.{IsStartRefused, IsEndRefused}
-use Rattle.nd_ledger.specs.Admitting.{IsAdmitRefused, admit_error_for}
+use Rattle.nd_ledger.specs.Admitting.{is_over_paths, PassesFreely, IsAdmitRefused, admit_error_for}
 
 -- ---- the lease of a derivation
 
@@ -49,6 +53,66 @@ pub ticket_of : (d : ℕ) (past : List Entry) (found : Option Ticket) → found 
 ticket_of d past None is = unleased d past (sym is)
 ticket_of d past (Some t) is = (own_lease d past t (sym is), own_live d past t (sym is))
 
+-- a derivation with a live lease of its own is leased
+pub leased_own : (past : List Entry) (d : ℕ) (t : Ticket) → t.drv ≡ d → IsLive past t → is_leased d past ≡ true
+leased_own past d t own is = let P : ℕ → Type 0 = λ x. is_leased x past ≡ true in subst P own (leased_by t.drv past t is)
+
+-- ---- rules that take no memory
+
+-- a start of a lease that is live and not started passes those
+pub free_start : (i : Premises) (past : List Entry) (d : ℕ) (paths : List (List ℕ)) → d < drvs_in i → is_leased d past ≡ true → is_started d past ≡ false → PassesFreely i past (Starting d paths)
+free_start i past d paths ranged leased fresh = record { each = each }
+  where
+    each : (rule : Rule) → is_over_paths rule ≡ false → Passes i past (Starting d paths) rule
+    each Range free = ranged
+    each Ready free = tt
+    each Decision free = tt
+    each Best free = tt
+    each Slot free = tt
+    each Live free = leased
+    each StartedRule free = fresh
+    each Paths free = let no_way : ⊥ = cc in absurd no_way
+    each References free = tt
+    each Stopped free = tt
+
+-- .. and the end of a build of one that is live and started
+pub free_end : (i : Premises) (past : List Entry) (d : ℕ) (refs : List (List (List ℕ))) → d < drvs_in i → is_leased d past ≡ true → is_started d past ≡ true → PassesFreely i past (Built d refs)
+free_end i past d refs ranged leased started = record { each = each }
+  where
+    each : (rule : Rule) → is_over_paths rule ≡ false → Passes i past (Built d refs) rule
+    each Range free = ranged
+    each Ready free = tt
+    each Decision free = tt
+    each Best free = tt
+    each Slot free = tt
+    each Live free = leased
+    each StartedRule free = started
+    each Paths free = tt
+    each References free = let no_way : ⊥ = cc in absurd no_way
+    each Stopped free = tt
+
+-- .. and what is allowed
+pub free_allowed : (i : Premises) (past : List Entry) (e : Entry) → IsAllowed i e past → PassesFreely i past e
+free_allowed i past e allowed = record { each = λ rule free. (rules_decide.allowed i past e).0 allowed rule }
+
+-- ---- what a call that succeeds says of its entry
+
+pub allowed_started : (i : Premises) (past : List Entry) (t : Ticket) (paths : List (List ℕ)) → IsLegal i past → IsLive past t → is_started t.drv past ≡ false → ArePathsRight i past t.drv t.machine paths → IsAllowed i (Starting t.drv paths) past
+allowed_started i past t paths legal live fresh right = record { ranged = leased_ranged i past legal t.drv (leased_by t.drv past t live); may = record { ticket = t; live = live; fresh = fresh; right = right } }
+
+pub allowed_built : (i : Premises) (past : List Entry) (t : Ticket) (refs : List (List (List ℕ))) → IsLegal i past → IsLive past t → is_started t.drv past ≡ true → AreReferencesRight i past t.drv refs → IsAllowed i (Built t.drv refs) past
+allowed_built i past t refs legal live started right =
+    let leased = leased_by t.drv past t live in
+    record { ranged = leased_ranged i past legal t.drv leased; may = record { live = leased; started = started; right = right } }
+
+pub allowed_failed : (i : Premises) (past : List Entry) (t : Ticket) (why : Why) → IsLegal i past → IsLive past t → IsAllowed i (Failed t.drv why) past
+allowed_failed i past t why legal live = let leased = leased_by t.drv past t live in record { ranged = leased_ranged i past legal t.drv leased; may = leased }
+
+pub allowed_down : (i : Premises) (past : List Entry) (t : Ticket) → IsLegal i past → IsLive past t → is_started t.drv past ≡ false → IsAllowed i (Down t.drv) past
+allowed_down i past t legal live fresh =
+    let leased = leased_by t.drv past t live in
+    record { ranged = leased_ranged i past legal t.drv leased; may = record { live = leased; fresh = fresh } }
+
 -- ---- refusals of calls with a live ticket
 
 uncovered : (i : Premises) (past : List Entry) (t : Ticket) (paths : List (List ℕ)) → IsLive past t → IsUncovered i past t.drv t.machine paths → IsSupplied i past t.drv paths → ⊥
@@ -67,7 +131,7 @@ start_at i past t paths NotLive ranged is h = absurd (h is)
 start_at i past t paths AlreadyStarted ranged is h = started_twice i past t.drv paths ranged (leased_by t.drv past t is) (λ fresh. let was = h.1 in cc)
 start_at i past t paths Uncovered ranged is h = started_wrongly i past t.drv paths ranged (leased_by t.drv past t is) h.1 (uncovered i past t paths is h.2)
 start_at i past t paths Extra ranged is h = started_wrongly i past t.drv paths ranged (leased_by t.drv past t is) h.1 (beside i past t paths h.2)
-start_at i past t paths NoMemory ranged is h = tt
+start_at i past t paths NoMemory ranged is h = free_start i past t.drv paths ranged (leased_by t.drv past t is) h.1
 start_at i past t paths NotStarted ranged is h = absurd h
 start_at i past t paths BadReferences ranged is h = absurd h
 start_at i past t paths AlreadyStopped ranged is h = absurd h
@@ -82,7 +146,7 @@ end_at : (i : Premises) (past : List Entry) (t : Ticket) (refs : List (List (Lis
 end_at i past t refs NotLive ranged is h = absurd (h is)
 end_at i past t refs NotStarted ranged is h = built_early i past t.drv refs ranged (leased_by t.drv past t is) (λ started. let was = h.1 in cc)
 end_at i past t refs BadReferences ranged is h = built_wrongly i past t.drv refs ranged (leased_by t.drv past t is) h.1 h.2
-end_at i past t refs NoMemory ranged is h = tt
+end_at i past t refs NoMemory ranged is h = free_end i past t.drv refs ranged (leased_by t.drv past t is) h.1
 end_at i past t refs AlreadyStarted ranged is h = absurd h
 end_at i past t refs Uncovered ranged is h = absurd h
 end_at i past t refs Extra ranged is h = absurd h

@@ -49,7 +49,7 @@ live_in_park i book s t fit stored found =
 pub start_refused : (i : Premises) (past : List Entry) (t : Ticket) (paths : List (List ℕ)) (fault : PathsFault) → IsLive past t → is_started t.drv past ≡ false → IsPathsFault i past t.drv t.machine paths fault → IsStartRefused i past t paths (refusal_for fault)
 start_refused i past t paths Uncovered live fresh h = (live, fresh, h)
 start_refused i past t paths Extra live fresh h = (live, fresh, h)
-start_refused i past t paths Memory live fresh h = tt
+start_refused i past t paths Memory live fresh h = (live, fresh)
 
 -- what a test that says exactly where something holds says of it
 pub right_then : (P : Type 0) (b : Bool) → MatchBool b P (P → ⊥) → b ≡ true → P

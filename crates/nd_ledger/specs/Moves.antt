@@ -18,33 +18,33 @@ use Rattle.nd_history.specs.References.{ArePathsRight, AreReferencesRight}
 use Rattle.nd_stores.specs.Stored.{Stored, Fits, AreStartAdditions, AreBuiltAdditions, IsUncovered, IsExtra}
 
 -- `started` is refused where the ticket isn't a live lease's, then where the lease was started, then where a path of the closure is
--- lacking, then where a copied path is outside it; memory may be wanting at any point
+-- lacking, then where a copied path is outside it; memory is wanted only for a live lease that was not started
 abbrev pub IsStartRefused : Premises → List Entry → Ticket → List (List ℕ) → Refusal → Type 0
 IsStartRefused i past t paths NotLive = IsLive past t → ⊥
 IsStartRefused i past t paths AlreadyStarted = IsLive past t × (is_started t.drv past ≡ true)
 IsStartRefused i past t paths Uncovered = IsLive past t × (is_started t.drv past ≡ false) × IsUncovered i past t.drv t.machine paths
 IsStartRefused i past t paths Extra = IsLive past t × (is_started t.drv past ≡ false) × IsExtra i past t.drv t.machine paths
-IsStartRefused i past t paths Memory = Unit {0}
+IsStartRefused i past t paths Memory = IsLive past t × (is_started t.drv past ≡ false)
 IsStartRefused i past t paths NotStarted = ⊥
 IsStartRefused i past t paths BadReferences = ⊥
 IsStartRefused i past t paths AlreadyStopped = ⊥
 
 -- `built` is refused where the ticket isn't a live lease's, then where the lease was not started, then where the references aren't
--- right; memory may be wanting at any point
+-- right; memory is wanted only for a live lease that was started
 abbrev pub IsEndRefused : Premises → List Entry → Ticket → List (List (List ℕ)) → Refusal → Type 0
 IsEndRefused i past t refs NotLive = IsLive past t → ⊥
 IsEndRefused i past t refs NotStarted = IsLive past t × (is_started t.drv past ≡ false)
 IsEndRefused i past t refs BadReferences = IsLive past t × (is_started t.drv past ≡ true) × (AreReferencesRight i past t.drv refs → ⊥)
-IsEndRefused i past t refs Memory = Unit {0}
+IsEndRefused i past t refs Memory = IsLive past t × (is_started t.drv past ≡ true)
 IsEndRefused i past t refs AlreadyStarted = ⊥
 IsEndRefused i past t refs Uncovered = ⊥
 IsEndRefused i past t refs Extra = ⊥
 IsEndRefused i past t refs AlreadyStopped = ⊥
 
--- `missing` and `job` are refused where the ticket isn't a live lease's; memory may be wanting at any point
+-- `missing` and `job` are refused where the ticket isn't a live lease's; memory is wanted only for one that is
 abbrev pub IsJobRefused : List Entry → Ticket → Refusal → Type 0
 IsJobRefused past t NotLive = IsLive past t → ⊥
-IsJobRefused past t Memory = Unit {0}
+IsJobRefused past t Memory = IsLive past t
 IsJobRefused past t AlreadyStarted = ⊥
 IsJobRefused past t NotStarted = ⊥
 IsJobRefused past t Uncovered = ⊥

@@ -99,6 +99,8 @@ impl Dispatch {
         paths: PathSet,
     ) -> Result<(), Refused<PathSet>>
         ensures ok { OnOk result (self.new ≡ record self.old { history = self.old.history ++ Entry.Started ticket.drv paths ∷ [] }) }
+        ensures live { OnOk result (IsLive (reverse self.old.history) ticket) }
+        ensures allowed { OnOk result (IsAllowed self.old.inputs (Entry.Started ticket.drv paths) (reverse self.old.history)) }
         ensures refused { IfErr result (λ e. IsStartRefused self.old.inputs (reverse self.old.history) ticket paths e.why) }
         ensures err { OnErr result (self.new ≡ self.old) }
         ensures back { IfErr result (λ e. e.value ≡ paths) }
@@ -135,6 +137,8 @@ impl Dispatch {
     /// where an allocation is refused. The references come back then.
     pub fn built(&mut self, alloc: Global, ticket: Ticket, refs: Refs) -> Result<(), Refused<Refs>>
         ensures ok { OnOk result (self.new ≡ record self.old { history = self.old.history ++ Entry.Built ticket.drv refs ∷ [] }) }
+        ensures live { OnOk result (IsLive (reverse self.old.history) ticket) }
+        ensures allowed { OnOk result (IsAllowed self.old.inputs (Entry.Built ticket.drv refs) (reverse self.old.history)) }
         ensures refused { IfErr result (λ e. IsEndRefused self.old.inputs (reverse self.old.history) ticket refs e.why) }
         ensures err { OnErr result (self.new ≡ self.old) }
         ensures back { IfErr result (λ e. e.value ≡ refs) }
@@ -192,6 +196,7 @@ impl Dispatch {
     /// allocation is refused.
     pub fn job(&self, alloc: Global, ticket: &Ticket) -> Result<Job, Refusal>
         ensures ticket { IfOk result (λ job. job.ticket ≡ ticket.now) }
+        ensures live { OnOk result (IsLive (reverse self.now.history) ticket.now) }
         ensures path { IfOk result (λ job. job.path ≡ slice_index_or self.now.inputs.graph.paths ticket.now.drv []) }
         ensures outputs { IfOk result (λ job. job.outputs ≡ length (outputs_of self.now.inputs ticket.now.drv)) }
         ensures paths { IfOk result (λ job. IsMissing self.now.inputs (reverse self.now.history) ticket.now.drv ticket.now.machine job.paths) }
@@ -212,9 +217,11 @@ impl Dispatch {
     /// Refuses with `NotLive` (1) where the ticket is not a live lease's, and else succeeds.
     pub fn failed(&mut self, ticket: Ticket, why: Why) -> Result<(), Refusal>
         ensures ok { OnOk result (self.new ≡ record self.old { history = self.old.history ++ Entry.Failed ticket.drv why ∷ [] }) }
+        ensures live { OnOk result (IsLive (reverse self.old.history) ticket) }
+        ensures allowed { OnOk result (IsAllowed self.old.inputs (Entry.Failed ticket.drv why) (reverse self.old.history)) }
         ensures refused { IfErr result (λ e. IsFailRefused (reverse self.old.history) ticket e) }
         ensures err { OnErr result (self.new ≡ self.old) }
-        ensures live { IsLive (reverse self.old.history) ticket → IsOk result }
+        ensures succeeds { IsLive (reverse self.old.history) ticket → IsOk result }
     {
         if !is_live(&self.book, ticket) {
             return Err(Refusal::NotLive);
@@ -237,9 +244,11 @@ impl Dispatch {
     /// (2) where the lease was started, and else succeeds.
     pub fn down(&mut self, ticket: Ticket) -> Result<(), Refusal>
         ensures ok { OnOk result (self.new ≡ record self.old { history = self.old.history ++ Entry.Down ticket.drv ∷ [] }) }
+        ensures live { OnOk result (IsLive (reverse self.old.history) ticket) }
+        ensures allowed { OnOk result (IsAllowed self.old.inputs (Entry.Down ticket.drv) (reverse self.old.history)) }
         ensures refused { IfErr result (λ e. IsDownRefused (reverse self.old.history) ticket e) }
         ensures err { OnErr result (self.new ≡ self.old) }
-        ensures live { IsLive (reverse self.old.history) ticket → is_started ticket.drv (reverse self.old.history) ≡ false → IsOk result }
+        ensures succeeds { IsLive (reverse self.old.history) ticket → is_started ticket.drv (reverse self.old.history) ≡ false → IsOk result }
     {
         if !is_live(&self.book, ticket) {
             return Err(Refusal::NotLive);
@@ -260,6 +269,7 @@ impl Dispatch {
     /// Refuses with `AlreadyStopped` (7) where a stop was asked for before, and else succeeds.
     pub fn stop(&mut self) -> Result<(), Refusal>
         ensures ok { OnOk result (self.new ≡ record self.old { history = self.old.history ++ Entry.Stop ∷ [] }) }
+        ensures allowed { OnOk result (IsAllowed self.old.inputs Entry.Stop (reverse self.old.history)) }
         ensures refused { IfErr result (λ e. IsStopRefused (reverse self.old.history) e) }
         ensures err { OnErr result (self.new ≡ self.old) }
         ensures first { has_stop (reverse self.old.history) ≡ false → IsOk result }
@@ -275,6 +285,7 @@ impl Dispatch {
     pub fn drain(&mut self, machine: u32) -> Result<(), AllocError>
         requires { machine < machines_in self.old.inputs }
         ensures ok { OnOk result (self.new ≡ record self.old { history = self.old.history ++ Entry.Drain machine ∷ [] }) }
+        ensures allowed { OnOk result (IsAllowed self.old.inputs (Entry.Drain machine) (reverse self.old.history)) }
         ensures err { OnErr result (self.new ≡ self.old) }
     {
         let room = self.book.live_len() + 2;
@@ -287,6 +298,7 @@ impl Dispatch {
     pub fn enable(&mut self, machine: u32) -> Result<(), AllocError>
         requires { machine < machines_in self.old.inputs }
         ensures ok { OnOk result (self.new ≡ record self.old { history = self.old.history ++ Entry.Enable machine ∷ [] }) }
+        ensures allowed { OnOk result (IsAllowed self.old.inputs (Entry.Enable machine) (reverse self.old.history)) }
         ensures err { OnErr result (self.new ≡ self.old) }
     {
         let room = self.book.live_len() + 2;
@@ -298,7 +310,8 @@ impl Dispatch {
     /// Appends an entry if it is legal there.
     ///
     /// Refuses with `Illegal` (1) where it isn't, naming the first rule that refuses it, and with
-    /// `Memory` (2) where an allocation is refused.
+    /// `Memory` (2) where an allocation is refused; that comes only where every rule passes but perhaps
+    /// those over paths and references.
     pub fn admit(&mut self, alloc: Global, entry: &Entry) -> Result<(), AdmitError>
         ensures ok { OnOk result (self.new ≡ record self.old { history = self.old.history ++ entry.now ∷ [] }) }
         ensures allowed { OnOk result (IsAllowed self.old.inputs entry.now (reverse self.old.history)) }
@@ -388,7 +401,12 @@ impl Dispatch {
         let Some(ticket) = self.live_ticket(drv) else {
             return Err(AdmitError::Illegal(Rule::Live));
         };
-        let copied = paths.try_clone()?;
+        if self.book.is_started(drv as usize) {
+            return Err(AdmitError::Illegal(Rule::Started));
+        }
+        let Ok(copied) = paths.try_clone() else {
+            return Err(AdmitError::Memory);
+        };
         match self.started(alloc, ticket, copied) {
             Ok(()) => Ok(()),
             Err(refused) => Err(admit_error(refused.why)),
@@ -421,7 +439,12 @@ impl Dispatch {
         let Some(ticket) = self.live_ticket(drv) else {
             return Err(AdmitError::Illegal(Rule::Live));
         };
-        let reported = refs.try_clone()?;
+        if !self.book.is_started(drv as usize) {
+            return Err(AdmitError::Illegal(Rule::Started));
+        }
+        let Ok(reported) = refs.try_clone() else {
+            return Err(AdmitError::Memory);
+        };
         match self.built(alloc, ticket, reported) {
             Ok(()) => Ok(()),
             Err(refused) => Err(admit_error(refused.why)),

@@ -1,5 +1,11 @@
-use Rattle.std.proofs.Common.{refl}
+use Rattle.std.proofs.Common.{refl, reverse, subst}
 use Rattle.nd_ledger.proofs.Keeping.{kept_built, found_marked}
+use Rattle.nd_history.specs.Premises.{premises_of}
+use Rattle.nd_history.specs.Legal.{IsAllowed}
+use Rattle.nd_ledger.specs.Worlds.{World}
+use Rattle.nd_history.specs.declared.entry.Entry.TheVariants.{Built}
+use Rattle.nd_ledger.specs.Refusals.{IsLive}
+use Rattle.nd_ledger.proofs.Admitting.{allowed_built}
 use Rattle.nd_ledger.proofs.dispatch.Dispatch.built.Goals as goal
 
 pub invariant_of-self : goal.invariant_of-self
@@ -11,3 +17,15 @@ invariant_of-self c =
 
 pub enter-requires-clause-can : goal.enter-requires-clause-can
 enter-requires-clause-can c = found_marked c.self.inside c.self.invariant c.args.ticket c.in-Ok.ensures.ready.live
+
+pub returns-in-Ok-clause-live : goal.returns-in-Ok-clause-live
+returns-in-Ok-clause-live c =
+    let P = λ (w : World). IsLive (reverse w.history) c.args.ticket in
+    subst P c.self.view_is c.in-Ok.ensures.ready.live
+
+pub returns-in-Ok-clause-allowed : goal.returns-in-Ok-clause-allowed
+returns-in-Ok-clause-allowed c =
+    let d = c.self.inside in
+    let ready = c.in-Ok.ensures.ready in
+    let P = λ (w : World). IsAllowed w.inputs (Built c.args.ticket.drv c.args.refs) (reverse w.history) in
+    subst P c.self.view_is (allowed_built (premises_of d.inputs) (reverse d.book.entries) c.args.ticket c.args.refs c.self.invariant.legal ready.live ready.started ready.right)

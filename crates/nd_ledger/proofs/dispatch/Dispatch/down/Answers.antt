@@ -1,7 +1,12 @@
-use Rattle.std.proofs.Common.{rules, ◌≡◌, refl, reverse, false}
+use Rattle.std.proofs.Common.{rules, ◌≡◌, refl, reverse, false, subst}
 use Rattle.nd_ledger.specs.Refusals.{IsLive}
 use Rattle.nd_history.specs.History.{is_started}
 use Rattle.nd_ledger.proofs.Keeping.{kept_down, in_book, found_marked}
+use Rattle.nd_history.specs.Premises.{premises_of}
+use Rattle.nd_history.specs.Legal.{IsAllowed}
+use Rattle.nd_ledger.specs.Worlds.{World}
+use Rattle.nd_history.specs.declared.entry.Entry.TheVariants.{Down}
+use Rattle.nd_ledger.proofs.Admitting.{allowed_down}
 use Rattle.nd_ledger.proofs.dispatch.Dispatch.down.Goals as goal
 
 pub invariant_of-self : goal.invariant_of-self
@@ -20,3 +25,11 @@ pub enter-requires-clause-can : goal.enter-requires-clause-can
 enter-requires-clause-can c =
     let found : IsLive (reverse c.self.inside.book.entries) c.args.ticket = search rules in
     found_marked c.self.inside c.self.invariant c.args.ticket found
+
+pub returns-clause-allowed : goal.returns-clause-allowed
+returns-clause-allowed c =
+    let d = c.self.inside in
+    let found : IsLive (reverse d.book.entries) c.args.ticket = search rules in
+    let fresh : is_started c.args.ticket.drv (reverse d.book.entries) ≡ false = search rules in
+    let P = λ (w : World). IsAllowed w.inputs (Down c.args.ticket.drv) (reverse w.history) in
+    subst P c.self.view_is (allowed_down (premises_of d.inputs) (reverse d.book.entries) c.args.ticket c.self.invariant.legal found fresh)

@@ -19,3 +19,6 @@ invariant_of-self-2 c =
     (record { entries = m.entries; drvs = m.drvs; machines = m.machines; room = m.kept; more = many })
     (record { entries = r.entries; room = r.room; drvs = r.drvs; machines = r.machines; board = r.board })
     c.self.invariant (record { ranged = ranged; may = tt }) (omega arith) refl
+
+pub returns-clause-allowed : goal.returns-clause-allowed
+returns-clause-allowed c = record { ranged = c.requires; may = tt }

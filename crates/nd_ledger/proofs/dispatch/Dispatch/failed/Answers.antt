@@ -1,6 +1,11 @@
-use Rattle.std.proofs.Common.{rules, refl, reverse}
+use Rattle.std.proofs.Common.{rules, refl, reverse, subst}
 use Rattle.nd_ledger.specs.Refusals.{IsLive}
 use Rattle.nd_ledger.proofs.Keeping.{kept_failed, found_marked}
+use Rattle.nd_history.specs.Premises.{premises_of}
+use Rattle.nd_history.specs.Legal.{IsAllowed}
+use Rattle.nd_ledger.specs.Worlds.{World}
+use Rattle.nd_history.specs.declared.entry.Entry.TheVariants.{Failed}
+use Rattle.nd_ledger.proofs.Admitting.{allowed_failed}
 use Rattle.nd_ledger.proofs.dispatch.Dispatch.failed.Goals as goal
 
 pub invariant_of-self : goal.invariant_of-self
@@ -13,3 +18,10 @@ pub enter-requires-clause-can : goal.enter-requires-clause-can
 enter-requires-clause-can c =
     let found : IsLive (reverse c.self.inside.book.entries) c.args.ticket = search rules in
     found_marked c.self.inside c.self.invariant c.args.ticket found
+
+pub returns-clause-allowed : goal.returns-clause-allowed
+returns-clause-allowed c =
+    let d = c.self.inside in
+    let found : IsLive (reverse d.book.entries) c.args.ticket = search rules in
+    let P = λ (w : World). IsAllowed w.inputs (Failed c.args.ticket.drv c.args.why) (reverse w.history) in
+    subst P c.self.view_is (allowed_failed (premises_of d.inputs) (reverse d.book.entries) c.args.ticket c.args.why c.self.invariant.legal found)

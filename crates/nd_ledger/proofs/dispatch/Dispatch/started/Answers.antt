@@ -1,5 +1,11 @@
-use Rattle.std.proofs.Common.{refl}
+use Rattle.std.proofs.Common.{refl, reverse, subst}
+use Rattle.nd_ledger.specs.Refusals.{IsLive}
 use Rattle.nd_ledger.proofs.Keeping.{kept_started}
+use Rattle.nd_history.specs.Premises.{premises_of}
+use Rattle.nd_history.specs.Legal.{IsAllowed}
+use Rattle.nd_ledger.specs.Worlds.{World}
+use Rattle.nd_history.specs.declared.entry.Entry.TheVariants.{Started}
+use Rattle.nd_ledger.proofs.Admitting.{allowed_started}
 use Rattle.nd_ledger.proofs.dispatch.Dispatch.started.Goals as goal
 
 pub invariant_of-self : goal.invariant_of-self
@@ -8,3 +14,15 @@ invariant_of-self c =
     kept_started c.self.inside c.prepare_start.new.book c.enter.new.book c.enter.new.board c.prepare_start.new.stores c.take_in.new.self c.args.ticket c.args.paths c.in-Ok.additions _ refl
     c.in-Ok.ensures.book (record { entries = r.entries; room = r.room; drvs = r.drvs; machines = r.machines; board = r.board })
     c.self.invariant c.in-Ok.ensures.stores c.in-Ok.ensures.ready c.take_in.ensures
+
+pub returns-in-Ok-clause-live : goal.returns-in-Ok-clause-live
+returns-in-Ok-clause-live c =
+    let P = λ (w : World). IsLive (reverse w.history) c.args.ticket in
+    subst P c.self.view_is c.in-Ok.ensures.ready.live
+
+pub returns-in-Ok-clause-allowed : goal.returns-in-Ok-clause-allowed
+returns-in-Ok-clause-allowed c =
+    let d = c.self.inside in
+    let ready = c.in-Ok.ensures.ready in
+    let P = λ (w : World). IsAllowed w.inputs (Started c.args.ticket.drv c.args.paths) (reverse w.history) in
+    subst P c.self.view_is (allowed_started (premises_of d.inputs) (reverse d.book.entries) c.args.ticket c.args.paths c.self.invariant.legal ready.live ready.fresh ready.right)
