@@ -4,11 +4,11 @@ use Rattle.std.proofs.lemmas.Bool.{cases_lt}
 use Rattle.std.proofs.lemmas.List.{get_or_default, get_or_past, get_or-map, length-map}
 use Rattle.nd_eligible.specs.declared.need.Need.{Need}
 use Rattle.nd_graph.specs.Columned.{HasColumns}
-use Rattle.nd_graph.specs.Graphs.{nodes_of, needed, node_limit, Nodes, IsGraph, NamesOutputs}
+use Rattle.nd_graph.specs.Graphs.{nodes_of, needed, node_limit, rows_of, Nodes, IsGraph, IsSound, NamesOutputs}
 use Rattle.nd_graph.specs.Numbered.{fault_at}
 use Rattle.nd_graph.specs.Orders.{IsOrderFault}
 use Rattle.nd_graph.specs.Settled.{AreFit, AreSized, IsGraphRead, IsFit, IsRead, IsReadFault, IsResolved, ReadsFit, said, of_line, of_whole}
-use Rattle.nd_graph.specs.Walks.{AreDistinct, AreInRange, IsOrder}
+use Rattle.nd_graph.specs.Walks.{AreDistinct, AreInRange, IsAcyclic, IsOrder}
 use Rattle.nd_graph.specs.Whole.{links_of, AllNumbered, AreNumbered, ArePaired, IsAt, IsGraphOf, IsNumbered, IsTooMany, IsWholeFault, AllNamesRise, NamesRise}
 use Rattle.nd_graph.specs.declared.columns.Columns.{Columns}
 use Rattle.nd_graph.specs.declared.fault.GraphError.{GraphError}
@@ -165,8 +165,8 @@ read_paired read nodes pairs is = record {
       pairs.fit node (subst (λ (xs : List (Result LineNode LineFault)). Contains xs (Ok node)) (sym is.all) there);
 }
 
-pub graph_read : (read : List (Result LineNode LineFault)) (nodes : List LineNode) (graph : Nodes) → IsRead read nodes → IsGraphOf nodes graph → IsGraphRead read graph
-graph_read read nodes graph is of = record { nodes = nodes; read_is = is; of = of }
+pub graph_read : (read : List (Result LineNode LineFault)) (nodes : List LineNode) (graph : Nodes) → IsRead read nodes → IsGraphOf nodes graph → IsSound graph → IsAcyclic (rows_of graph) → IsGraphRead read graph
+graph_read read nodes graph is of sound acyclic = record { nodes = nodes; read_is = is; of = of; sound = sound; acyclic = acyclic }
 
 pub fault_read : (read : List (Result LineNode LineFault)) (nodes : List LineNode) (error : GraphError) → IsRead read nodes → IsWholeFault (links_of nodes) error → IsReadFault read error
 fault_read read nodes error is fault = of_whole nodes is fault

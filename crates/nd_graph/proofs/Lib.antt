@@ -1,3 +1,4 @@
+mod Apart
 pub mod Assembled
 mod Collecting
 mod Cutting
@@ -5,6 +6,8 @@ pub mod Distinct
 pub mod Linked
 pub mod Numbers
 mod Once
+pub mod OneBundle
+pub mod OneDrvPath
 pub mod Rising
 pub mod Rows
 mod Sayings

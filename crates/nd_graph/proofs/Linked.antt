@@ -122,6 +122,22 @@ rows_have paths names wants rows so = record {
   there = λ d lt. numbered_has paths names (get_or wants d []) (get_or rows d []) (zip_at (AreNumbered paths names) wants rows d [] [] so.each lt);
 }
 
+-- numbered inputs have their nodes
+pub numbered_reach : (paths : List (List ℕ)) (names : List (List (List ℕ))) (wants : List NamedInput) (inputs : List Input) → AreNumbered paths names wants inputs → HasInputs paths wants
+numbered_reach paths names wants inputs so = record {
+  there = λ w on.
+      let none : Input = record { node = 0; outputs = [] } in
+      let here : IsNumbered paths names (get_or wants on.0 w) (get_or inputs on.0 none) = zip_at (IsNumbered paths names) wants inputs on.0 w none so.each on.1 in
+      let input : Input = get_or inputs on.0 none in
+      let at : IsAt paths w.path input.node = subst (λ (v : NamedInput). IsAt paths v.path input.node) on.2 here.node in
+      (input.node, at.within, get_or_default paths input.node w.path [] at.within ∙ at.is);
+}
+
+pub rows_reach : (paths : List (List ℕ)) (names : List (List (List ℕ))) (wants : List (List NamedInput)) (rows : List (List Input)) → AllNumbered paths names wants rows → AreInputsThere paths wants
+rows_reach paths names wants rows so = record {
+  there = λ d lt. numbered_reach paths names (get_or wants d []) (get_or rows d []) (zip_at (AreNumbered paths names) wants rows d [] [] so.each lt);
+}
+
 -- the first line that names an output that isn't there
 pub output_missing : (paths : List (List ℕ)) (names : List (List (List ℕ))) (wants : List (List NamedInput)) (rows : List (List Input)) (i : ℕ) (wanted : List NamedInput) → i < length wants → wanted ≡ get_or wants i wanted → AllNumbered paths names (take i wants) rows → LacksOutput paths names wanted → IsMissingOutput paths names wants (length rows + 1)
 output_missing paths names wants rows i wanted lt is so lacks =

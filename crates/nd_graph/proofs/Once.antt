@@ -43,11 +43,11 @@ front_or_back x xs q (suc k, within, is) = inr (k, omega arith, is)
 in_none : (q : List ℕ) → Contains [] q → ⊥
 in_none q (k, within, is) = omega arith
 
-below : (x : List ℕ) (xs : List (List ℕ)) (q : List ℕ) → AllByRecursion (λ y. path_cmp x y ≡ Less) xs → Contains xs q → path_cmp x q ≡ Less
+pub below : (x : List ℕ) (xs : List (List ℕ)) (q : List ℕ) → AllByRecursion (λ y. path_cmp x y ≡ Less) xs → Contains xs q → path_cmp x q ≡ Less
 below x [] q all here = absurd (in_none q here)
 below x (y ∷ ys) q all here = elim (front_or_back y ys q here) [ inl same ↦ subst (λ (p : List ℕ). path_cmp x p ≡ Less) same all.0 | inr later ↦ below x ys q all.1 later ]
 
-not_both : (x y : List ℕ) → path_cmp x y ≡ Less → path_cmp y x ≡ Less → ⊥
+pub not_both : (x y : List ℕ) → path_cmp x y ≡ Less → path_cmp y x ≡ Less → ⊥
 not_both x y up down =
     let turned : path_cmp x y ≡ Greater = nat_list_cmp_total.antisymm x y ∙ ap ordering_reverse down in
     let wrong : Less ≡ Greater = sym up ∙ turned in
@@ -80,7 +80,7 @@ same_rising (x ∷ xs) (y ∷ ys) xs_rise ys_rise to from =
     ap (λ (p : List ℕ). p ∷ xs) first ∙ ap (λ (ps : List (List ℕ)). y ∷ ps) rest
 
 -- a derivation has one path of its own
-one_path : (name text : List ℕ) (references : List (List ℕ)) (p q : List ℕ) → IsOwnPath name text references p → IsOwnPath name text references q → p ≡ q
+pub one_path : (name text : List ℕ) (references : List (List ℕ)) (p q : List ℕ) → IsOwnPath name text references p → IsOwnPath name text references q → p ≡ q
 one_path name text references p q is_p is_q =
     let same : is_p.refs ≡ is_q.refs =
     same_rising is_p.refs is_q.refs is_p.rising.rises is_q.rising.rises (λ r here. is_q.members.to r (is_p.members.from r here)) (λ r here. is_p.members.to r (is_q.members.from r here)) in
@@ -91,7 +91,7 @@ one_path name text references p q is_p is_q =
 some_once : {A : Type 0} (a b : A) (o : Option A) → o ≡ Some a → o ≡ Some b → a ≡ b
 some_once a b o is_a is_b = cc
 
-same_parts : (text : List ℕ) (p q : Parts) → Derives text p → Derives text q → p ≡ q
+pub same_parts : (text : List ℕ) (p q : Parts) → Derives text p → Derives text q → p ≡ q
 same_parts text p q of_p of_q = Loose-same p q text of_p.spells.spelled.0 of_q.spells.spelled.0
 
 one_saying : (json : List ℕ) (v w : Wishes) → Says json v → Says json w → (v.features ≡ w.features) × (v.prefer_local ≡ w.prefer_local)
@@ -230,9 +230,13 @@ fails_its_own check line WrongPath bad other pass =
     elsewhere.differs (one_path (name_of (front line)) bad.text (references elsewhere.parts) elsewhere.own (front line) elsewhere.is_own own)
 fails_its_own check line Memory bad other pass = other refl
 
+-- a line with a node is not refused
+pub no_node : (check : Bool) (line : List ℕ) (node : LineNode) (f : LineFault) → IsLine check line node → IsFaulty check line f → (f ≡ Memory → ⊥) → ⊥
+no_node check line node f is bad other = fails_its_own check line f bad other (node_passes check line node f is)
+
 -- ---- one reading
 
-same_node : (check : Bool) (line : List ℕ) (a b : LineNode) → IsLine check line a → IsLine check line b → a ≡ b
+pub same_node : (check : Bool) (line : List ℕ) (a b : LineNode) → IsLine check line a → IsLine check line b → a ≡ b
 unfolding node_passes
 same_node check line a b of_a of_b =
     let d : HasDerivation line = node_passes check line a BadDerivation of_a in
@@ -258,7 +262,7 @@ memory_or_not BadAttribute = inr (λ same. cc)
 memory_or_not WrongPath = inr (λ same. cc)
 memory_or_not Memory = inl refl
 
-same_fault : (check : Bool) (line : List ℕ) (f g : LineFault) → IsFaulty check line f → IsFaulty check line g → (f ≡ Memory → ⊥) → (g ≡ Memory → ⊥) → f ≡ g
+pub same_fault : (check : Bool) (line : List ℕ) (f g : LineFault) → IsFaulty check line f → IsFaulty check line g → (f ≡ Memory → ⊥) → (g ≡ Memory → ⊥) → f ≡ g
 same_fault check line f g bad_f bad_g f_other g_other =
     elim (cases_lt (stage f) (stage g)) [
       | inl lt ↦ absurd (fails_its_own check line f bad_f f_other (passes_before check line g f bad_g g_other lt))

@@ -49,7 +49,7 @@ all_say : (check : Bool) (ls : List (List ℕ)) (read : List (Result LineNode Li
 all_say check ls read nodes zip is = nodes_say check ls nodes (subst (λ (rs : List (Result LineNode LineFault)). AllZip (Reads check) ls rs) is.all zip)
 
 pub is_bundle : (check : Bool) (text : List ℕ) (read : List (Result LineNode LineFault)) (graph : Nodes) → AllZip (Reads check) (lines text) read → IsGraphRead read graph → IsBundle check text graph
-is_bundle check text read graph zip is = record { nodes = is.nodes; says = all_say check (lines text) read is.nodes zip is.read_is; of = is.of }
+is_bundle check text read graph zip is = record { nodes = is.nodes; says = all_say check (lines text) read is.nodes zip is.read_is; of = is.of; sound = is.sound; acyclic = is.acyclic }
 
 -- the lines up to the first that is refused
 record IsSplit (check : Bool) (ls : List (List ℕ)) (nodes : List LineNode) (fault : LineFault) : Type 0 where

@@ -1,22 +1,26 @@
 -- What a bundle is: the graph that its lines say, or the first of its refusals (this project's own format). The refusals of a
--- line come first, the first such line's; then those over the whole.
-use Rattle.std.specs.Prelude.{◌≡◌, ℕ, ◌+◌, Bool, List, ◌∷◌, ◌++◌, length}
+-- line come first, the first such line's; then those over the whole. Cited by the readers' clauses.
+use Rattle.std.specs.Prelude.{◌≡◌, ℕ, ◌+◌, Bool, List, ◌∷◌, ◌++◌, length, Result, Ok, Err}
 use Rattle.std.specs.List.{AllZip}
 use Rattle.nd_graph.specs.declared.line.LineNode.{LineNode}
 use Rattle.nd_graph.specs.declared.refusal.LineFault.{LineFault}
 use Rattle.nd_graph.specs.declared.refusal.LineFault.TheVariants as line_fault
 use Rattle.nd_graph.specs.declared.fault.GraphError.{GraphError}
 use Rattle.nd_graph.specs.declared.fault.GraphError.TheVariants.{BadLine, BadPath, BadDerivation, UnknownOutput, BadAttribute, WrongPath, Duplicate, MissingInput, MissingOutput, Cycle, TooMany, Memory}
-use Rattle.nd_graph.specs.Graphs.{Nodes}
+use Rattle.nd_graph.specs.Graphs.{Nodes, rows_of, IsSound}
 use Rattle.nd_graph.specs.Lines.{lines}
 use Rattle.nd_graph.specs.Reads.{IsLine, IsFaulty}
+use Rattle.nd_graph.specs.Walks.{IsAcyclic}
 use Rattle.nd_graph.specs.Whole.{links_of, IsGraphOf, IsWholeFault}
 
--- the graph of the bundle with this text; with the check each line's path is its own text path
+-- The graph of the bundle with this text; with the check each line's path is its own text path. No two lines have one
+-- path, each input and named output is there, there are at most 65,536 lines, and none needs itself.
 pub record IsBundle (check : Bool) (text : List ℕ) (graph : Nodes) : Type 0 where
   pub nodes : List LineNode
   pub says : AllZip (IsLine check) (lines text) nodes
   pub of : IsGraphOf nodes graph
+  pub sound : IsSound graph
+  pub acyclic : IsAcyclic (rows_of graph)
 
 -- the first line that is refused has this number, from 1, and this refusal
 pub record IsLineRefused (check : Bool) (text : List ℕ) (fault : LineFault) (number : ℕ) : Type 0 where
@@ -49,3 +53,13 @@ IsFirstFault check text (MissingOutput n) = IsWholeRefused check text (MissingOu
 IsFirstFault check text Cycle = IsWholeRefused check text Cycle
 IsFirstFault check text TooMany = IsWholeRefused check text TooMany
 IsFirstFault check text Memory = Unit {0}
+
+-- Why this text is no bundle: the first refusal, which is no want of memory.
+abbrev pub IsBundleRefused : Bool → List ℕ → GraphError → Type 0
+IsBundleRefused check text Memory = ⊥
+IsBundleRefused check text fault = IsFirstFault check text fault
+
+-- what reading the bundle with this text answers
+abbrev pub ReadsBundle : Bool → List ℕ → Result Nodes GraphError → Type 0
+ReadsBundle check text (Ok graph) = IsBundle check text graph
+ReadsBundle check text (Err fault) = IsFirstFault check text fault

@@ -7,8 +7,9 @@ use Rattle.nd_graph.specs.declared.fault.GraphError.{GraphError}
 use Rattle.nd_graph.specs.declared.fault.GraphError.TheVariants.{MissingInput, MissingOutput, Memory}
 use Rattle.nd_graph.specs.declared.columns.Columns.{Columns}
 use Rattle.nd_graph.specs.declared.graph.Input.{Input}
-use Rattle.nd_graph.specs.Graphs.{Nodes}
+use Rattle.nd_graph.specs.Graphs.{Nodes, rows_of, IsSound}
 use Rattle.nd_graph.specs.Numbered.{fault_at}
+use Rattle.nd_graph.specs.Walks.{IsAcyclic}
 use Rattle.nd_graph.specs.Whole.{links_of, AllNumbered, AreInputsThere, IsGraphOf, IsMissingInput, IsMissingOutput, IsWholeFault, NamesRise}
 
 -- the node has as many output names as output paths, and its output names rise
@@ -51,6 +52,8 @@ pub record IsGraphRead (read : List (Result LineNode LineFault)) (graph : Nodes)
   pub nodes : List LineNode
   pub read_is : IsRead read nodes
   pub of : IsGraphOf nodes graph
+  pub sound : IsSound graph
+  pub acyclic : IsAcyclic (rows_of graph)
 
 -- the lists have one item per node
 pub record AreSized (columns : Columns) : Type 0 where

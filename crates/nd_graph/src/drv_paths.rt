@@ -1,8 +1,9 @@
 //! The store path of a derivation's text.
 
-ghost use Rattle.std.specs.Prelude.{◌≡◌, IfOk, IfErr};
+ghost use Rattle.std.specs.Prelude.{◌≡◌, ℕ, List, IfOk, IfErr, MatchResult};
 ghost use Rattle.std.specs.List.{list_all};
 ghost use Rattle.nd_path.specs.StorePath.{is_name, is_name_byte};
+ghost use Rattle.nd_graph.specs.declared.fault.GraphError.{GraphError};
 ghost use Rattle.nd_graph.specs.DrvPaths.{is_drv_name, IsDrvPath, HasNoDrvPath};
 
 use crate::derived::{contents_of, own_path};
@@ -19,9 +20,12 @@ const NAME_LIMIT: usize = 211;
 /// Refuses with `BadPath` (2) where `name` is no store path's name that ends in `.drv`, with
 /// `BadDerivation` (3) where `text` is no derivation text or a path in it is none of its kind, the
 /// line being 0 in both, and with `Memory` (12).
+#[tactic(auto, using(crate::proofs::OneDrvPath::one_drv_path, crate::proofs::OneDrvPath::path_or_memory))]
 pub fn drv_path(alloc: Global, name: &[u8], text: &[u8]) -> Result<StorePath, GraphError>
     ensures found { IfOk result (IsDrvPath name.now text.now) }
     ensures refused { IfErr result (HasNoDrvPath name.now text.now) }
+    ensures exactly { (path : List ℕ) → IsDrvPath name.now text.now path
+        → MatchResult result (λ p. p ≡ path) (λ e. e ≡ GraphError.Memory) }
 {
     if !is_derivation_name(name) {
         return Err(GraphError::BadPath(0));

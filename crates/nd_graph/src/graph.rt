@@ -1,6 +1,6 @@
 //! The graph of a bundle.
 
-ghost use Rattle.std.specs.Prelude.{◌≡◌, ◌==◌, ◌<◌, length, [], IfOk};
+ghost use Rattle.std.specs.Prelude.{◌≡◌, ◌==◌, ◌<◌, length, slice_get, [], IfOk};
 ghost use Rattle.std.specs.List.{slice_index_or};
 ghost use Rattle.nd_graph.specs.Graphs.{nodes_of, rows_of, IsGraph, IsNumber, IsSound};
 ghost use Rattle.nd_graph.specs.Walks.{inputs_of, IsAcyclic, IsOrder, PlacesFall};
@@ -59,6 +59,7 @@ impl Model for Graph {
 
 impl Graph {
     /// The graph of these parts.
+    #[tactic(auto, using(crate::proofs::Walked::acyclic))]
     pub(crate) fn new(
         paths: IndexSet<StorePath>,
         needs: Vec<Need>,
@@ -68,7 +69,9 @@ impl Graph {
         order: Vec<usize>,
     ) -> Graph
         requires { IsGraph (record { paths = paths.keys; needs = needs.items; inputs = inputs.items; sources = sources.items; outputs = outputs.items }) order.items }
-        ensures { result ≡ record { paths = paths.keys; needs = needs.items; inputs = inputs.items; sources = sources.items; outputs = outputs.items } }
+        ensures parts { result ≡ record { paths = paths.keys; needs = needs.items; inputs = inputs.items; sources = sources.items; outputs = outputs.items } }
+        ensures sound { IsSound result }
+        ensures acyclic { IsAcyclic (rows_of result) }
     {
         Graph {
             paths,
@@ -107,7 +110,7 @@ impl Graph {
     /// What node `i` needs of the machine that builds it.
     pub fn need(&self, i: usize) -> &Need
         requires { i < length self.now.paths }
-        ensures { result.now ≡ slice_index_or self.now.needs i result.now }
+        ensures { slice_get self.now.needs i ≡ Some result.now }
     {
         &self.needs[i]
     }

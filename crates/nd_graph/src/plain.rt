@@ -1,7 +1,9 @@
 //! The sequential reader of bundles: the clearest body of the reader's contract.
 
-ghost use Rattle.std.specs.Prelude.{IfOk, IfErr};
+ghost use Rattle.std.specs.Prelude.{◌≡◌, IfOk, IfErr, MatchResult};
+ghost use Rattle.nd_graph.specs.declared.fault.GraphError.{GraphError};
 ghost use Rattle.nd_graph.specs.Bundles.{IsBundle, IsFirstFault};
+ghost use Rattle.nd_graph.specs.Graphs.{Nodes};
 
 use crate::collect::read_lines;
 use crate::fault::GraphError;
@@ -20,6 +22,8 @@ use std::alloc::Global;
 pub fn read_bundle(alloc: Global, text: &[u8], check_paths: bool) -> Result<Graph, GraphError>
     ensures ok { IfOk result (λ graph. IsBundle check_paths text.now graph) }
     ensures refused { IfErr result (λ fault. IsFirstFault check_paths text.now fault) }
+    ensures exactly { (graph : Nodes) → IsBundle check_paths text.now graph
+        → MatchResult result (λ g. g ≡ graph) (λ e. e ≡ GraphError.Memory) }
 {
     let read = read_lines(alloc, text, check_paths)?;
     graph_of(alloc, read)

@@ -1,7 +1,9 @@
 //! The graph of a bundle's nodes.
 
 ghost use Rattle.std.specs.Prelude.{◌≡◌, length, map, Ok, IfOk, IfErr};
+ghost use Rattle.nd_graph.specs.Graphs.{rows_of, IsSound};
 ghost use Rattle.nd_graph.specs.Settled.{AreFit, AreSized, IsFirstErr, IsGraphOfColumns, IsGraphRead, IsLinkFault, IsRead, IsReadFault, IsResolved, ReadsFit};
+ghost use Rattle.nd_graph.specs.Walks.{IsAcyclic};
 ghost use Rattle.nd_graph.specs.Whole.{links_of, AllNamesRise, ArePaired, IsGraphOf, IsWholeFault};
 
 use crate::columns::{Columns, split_nodes};
@@ -60,6 +62,8 @@ fn settle(
 fn assemble(alloc: Global, nodes: Vec<LineNode>) -> Result<Graph, GraphError>
     requires { AreFit nodes.items }
     ensures ok { IfOk result (λ graph. IsGraphOf nodes.items graph) }
+    ensures sound { IfOk result IsSound }
+    ensures acyclic { IfOk result (λ graph. IsAcyclic (rows_of graph)) }
     ensures err { IfErr result (λ fault. IsWholeFault (links_of nodes.items) fault) }
 {
     let columns = split_nodes(alloc, nodes)?;
@@ -72,6 +76,8 @@ fn link(alloc: Global, columns: Columns) -> Result<Graph, GraphError>
     requires paired { ArePaired columns.names.items columns.outputs.items }
     requires rising { AllNamesRise columns.names.items }
     ensures ok { IfOk result (λ graph. IsGraphOfColumns columns graph) }
+    ensures sound { IfOk result IsSound }
+    ensures acyclic { IfOk result (λ graph. IsAcyclic (rows_of graph)) }
     ensures err { IfErr result (λ fault. IsWholeFault (record { paths = columns.paths.items; wants = columns.wants.items; names = columns.names.items }) fault) }
 {
     let Columns {
