@@ -1,5 +1,5 @@
 -- What the program reads of an input.
-use Rattle.std.specs.Prelude.{◌≡◌, ℕ, ◌≤◌, ◌+◌, Bool, true, false, List, length, Option}
+use Rattle.std.specs.Prelude.{◌≡◌, ℕ, ◌≤◌, ◌+◌, Bool, true, false, List, length, Option, Result, Ok, Err}
 use Rattle.std.specs.Io.KnownBytes.{Consumes, IsAtEnd}
 use Rattle.nd_cli.specs.declared.fault.CliFault.{CliFault}
 use Rattle.nd_cli.specs.declared.fault.CliFault.TheVariants.{Read, Write, Memory}
@@ -20,7 +20,22 @@ IsReadFault marked Read = marked ≡ true
 IsReadFault marked Memory = Unit {0}
 IsReadFault marked _ = ⊥
 
+-- it is the reader's fault
+abbrev pub is_read_fault : CliFault → Bool
+is_read_fault Read = true
+is_read_fault _ = false
+
 -- it is the writer's fault
 abbrev pub is_write_fault : CliFault → Bool
 is_write_fault Write = true
 is_write_fault _ = false
+
+-- the answer is the reader's fault
+abbrev pub is_read_failure : {A : Type 0} → Result A CliFault → Bool
+is_read_failure (Ok _) = false
+is_read_failure (Err e) = is_read_fault e
+
+-- the answer is the writer's fault
+abbrev pub is_write_failure : {A : Type 0} → Result A CliFault → Bool
+is_write_failure (Ok _) = false
+is_write_failure (Err e) = is_write_fault e

@@ -1,13 +1,15 @@
 -- What the options and the bundle describe: the graph, the park with its local machine and its builders, and the references
 -- of paths.
-use Rattle.std.specs.Prelude.{◌≡◌, ◌⊎◌, ℕ, ◌<◌, ◌≤◌, List, length, Ok, Err}
+use Rattle.std.specs.Prelude.{◌≡◌, ◌≢◌, ◌⊎◌, ℕ, ◌<◌, ◌≤◌, List, length, Ok, Err}
 use Rattle.nd_machines.specs.Builders.{Builder}
 use Rattle.nd_machines.specs.BuildersList.{builders}
 use Rattle.nd_machines.specs.FeatureSets.{listed}
 use Rattle.nd_eligible.specs.Settings.{Settings}
 use Rattle.nd_graph.specs.Graphs.{Nodes}
 use Rattle.nd_graph.specs.Bundles.{IsBundle, IsFirstFault}
+use Rattle.nd_graph.specs.declared.fault.GraphError.{GraphError}
 use Rattle.nd_closure.specs.Info.{AreListed, IsRefused, lines_of}
+use Rattle.nd_closure.specs.declared.info_error.InfoError.{InfoError}
 use Rattle.nd_cli.specs.Inputs.{limit}
 use Rattle.nd_cli.specs.declared.options.ParkOptions.{ParkOptions}
 use Rattle.nd_cli.specs.declared.fault.Place.{Place}
@@ -24,11 +26,12 @@ pub record IsAccepted (options : ParkOptions) (text : List ℕ) : Type 0 where
   pub graph : Nodes
   pub has : HasGraph options text graph
 
--- why the bundle is refused: it is too large, or this is its first refusal
+-- Why the bundle is refused: it is too large, or this is its first refusal. Want of memory is no refusal of a bundle, and is told
+-- only of one that isn't too large.
 abbrev pub IsBundleFault : ParkOptions → List ℕ → CliFault → Type 0
-IsBundleFault options text (Drvs e) = (length text ≤ limit) × IsFirstFault options.check_paths text e
+IsBundleFault options text (Drvs e) = (length text ≤ limit) × IsFirstFault options.check_paths text e × (e ≢ GraphError.Memory)
 IsBundleFault options text (TooLarge place) = (place ≡ Place.Drvs) × (limit < length text)
-IsBundleFault options text Memory = Unit {0}
+IsBundleFault options text Memory = length text ≤ limit
 IsBundleFault options text _ = ⊥
 
 -- the text of the builders list is within the limit, and these are its machines
@@ -41,11 +44,12 @@ pub record AreBuildersAccepted (options : ParkOptions) : Type 0 where
   pub machines : List Builder
   pub has : HasBuilders options machines
 
--- why the builders list is refused: it is too large, or this is its first refusal
+-- Why the builders list is refused: it is too large, or this is its first refusal. Want of memory is told only of one that isn't too
+-- large.
 abbrev pub IsBuildersFault : ParkOptions → CliFault → Type 0
 IsBuildersFault options (TooLarge place) = (place ≡ Place.Builders) × (limit < length options.builders)
 IsBuildersFault options (Builders refusal) = (length options.builders ≤ limit) × (builders options.system options.builders ≡ Err refusal)
-IsBuildersFault options Memory = Unit {0}
+IsBuildersFault options Memory = length options.builders ≤ limit
 IsBuildersFault options _ = ⊥
 
 -- the info text is within the limit, and lists these paths with their references
@@ -53,11 +57,12 @@ pub record HasInfo (options : ParkOptions) (info : List (List ℕ × List (List 
   pub within : length options.info ≤ limit
   pub listed : AreListed (lines_of options.info) info
 
--- why the info text is refused: it is too large, or this is its first bad line
+-- Why the info text is refused: it is too large, or this is its first bad line. Want of memory is no refusal of it, and is told only
+-- of one that isn't too large.
 abbrev pub IsInfoFault : ParkOptions → CliFault → Type 0
 IsInfoFault options (TooLarge place) = (place ≡ Place.Info) × (limit < length options.info)
-IsInfoFault options (Info refusal) = (length options.info ≤ limit) × IsRefused options.info refusal
-IsInfoFault options Memory = Unit {0}
+IsInfoFault options (Info refusal) = (length options.info ≤ limit) × IsRefused options.info refusal × (refusal ≢ InfoError.Memory)
+IsInfoFault options Memory = length options.info ≤ limit
 IsInfoFault options _ = ⊥
 
 -- a bundle, a builders list and an info text: each is accepted

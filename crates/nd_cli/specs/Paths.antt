@@ -3,6 +3,7 @@ use Rattle.std.specs.Prelude.{◌≡◌, ℕ, ◌<◌, ◌≤◌, Bool, true, Li
 use Rattle.std.specs.Io.KnownBytes.{Appends}
 use Rattle.nd_graph.specs.declared.fault.GraphError.{GraphError}
 use Rattle.nd_graph.specs.DrvPaths.{IsDrvPath, HasNoDrvPath}
+use Rattle.nd_hook.specs.Written.{WritesPart}
 use Rattle.nd_cli.specs.Inputs.{limit, ReadsWhole}
 use Rattle.nd_cli.specs.declared.fault.Place.{Place}
 use Rattle.nd_cli.specs.declared.fault.DerivationRefusal.{DerivationRefusal}
@@ -18,6 +19,15 @@ pub record AnswersPath (name : List ℕ) (unread left written_before written : O
   pub within : length text ≤ limit
   pub is : IsDrvPath name text path
   pub written_is : Appends written_before written (path ++ 10 ∷ [])
+
+-- a part of them was written, from the beginning
+pub record AnswersPathInPart (name : List ℕ) (unread left written_before written : Option (List ℕ)) : Type 0 where
+  pub text : List ℕ
+  pub path : List ℕ
+  pub read : ReadsWhole unread left text
+  pub within : length text ≤ limit
+  pub is : IsDrvPath name text path
+  pub part : WritesPart written_before written (path ++ 10 ∷ [])
 
 -- why a text within the limit has no path under this name
 abbrev pub as_graph_error : DerivationRefusal → GraphError
@@ -37,7 +47,7 @@ IsTextFault name text (TooLarge place) = (place ≡ Place.Derivation) × (limit 
 IsTextFault name text TooManySlots = ⊥
 IsTextFault name text Read = ⊥
 IsTextFault name text Write = ⊥
-IsTextFault name text Memory = Unit {0}
+IsTextFault name text Memory = length text ≤ limit
 IsTextFault name text Thread = ⊥
 IsTextFault name text Receipts = ⊥
 

@@ -2,7 +2,7 @@
 
 ghost use Rattle.std.specs.Prelude.{◌≡◌, true, false, IfOk, IfErr, OnOk};
 ghost use Rattle.nd_cli.specs.Asked.{AnswersAsk, AnswersAskInPart, IsAskFault};
-ghost use Rattle.nd_cli.specs.Inputs.{is_write_fault};
+ghost use Rattle.nd_cli.specs.Inputs.{is_write_fault, is_read_failure, is_write_failure};
 
 use crate::asks::write_replies;
 use crate::fault::CliFault;
@@ -20,7 +20,8 @@ use std::thread::Threads;
 /// The first refusal in this order is answered, and nothing is written then: `Read`; `TooLarge` or
 /// `Drvs` for the bundle; `TooLarge` or `Builders` for the builders list; `TooLarge` or `Info` for the
 /// info text. `Write` leaves a part of the replies, from their beginning. `Memory` may come at any
-/// point before the replies are written.
+/// point before the replies are written. The reader is marked exactly at `Read`, and the writer exactly
+/// at `Write`.
 pub fn ask_engine<R: Read, W: Write>(
     rt: &(impl Threads + Sync),
     alloc: Global,
@@ -33,6 +34,8 @@ pub fn ask_engine<R: Read, W: Write>(
     ensures status { IfOk result (λ status. status ≡ 0) }
     ensures answer { OnOk result (AnswersAsk options.now (R.remaining input.old.device) (R.remaining input.new.device) (W.contents output.old.device) (W.contents output.new.device)) }
     ensures fault { IfErr result (IsAskFault options.now (R.remaining input.old.device) (R.remaining input.new.device) input.new.is_marked output.new.is_marked) }
+    ensures reader_mark { input.new.is_marked ≡ is_read_failure result }
+    ensures writer_mark { output.new.is_marked ≡ is_write_failure result }
     ensures untouched { IfErr result (λ e. is_write_fault e ≡ false → output.new ≡ output.old) }
     ensures partly { IfErr result (λ e. is_write_fault e ≡ true → AnswersAskInPart options.now (R.remaining input.old.device) (R.remaining input.new.device) (W.contents output.old.device) (W.contents output.new.device)) }
 {

@@ -3,7 +3,7 @@
 ghost use Rattle.std.specs.Prelude.{◌≡◌, ◌↔◌, ◌⊎◌, ◌||◌, true, false, IsTrue, OnOk, OnErr, IfErr, is_err};
 ghost use Rattle.nd_eligible.specs.Eligibility.{AreEligible};
 ghost use Rattle.nd_cli.specs.Asks.{IsFreeHere, WritesReplies, WritesSomeReplies, WritesReply, WritesReplyPart, idle, all_up};
-ghost use Rattle.nd_cli.specs.Inputs.{is_write_fault};
+ghost use Rattle.nd_cli.specs.Inputs.{is_write_fault, is_write_failure};
 
 use crate::fault::CliFault;
 use nd_eligible::{Classes, Local, Need, local_ok};
@@ -28,7 +28,7 @@ pub(crate) fn write_replies<W: Write>(
     ensures written { OnOk result (WritesReplies machines.now local.now needs.now (W.contents output.old.device) (W.contents output.new.device)) }
     ensures partly { OnErr result (WritesSomeReplies machines.now local.now needs.now (W.contents output.old.device) (W.contents output.new.device)) }
     ensures fault { IfErr result (λ e. (e ≡ CliFault.Write) ⊎ (e ≡ CliFault.Memory)) }
-    ensures mark { IfErr result (λ e. is_write_fault e ≡ true → output.new.is_marked ≡ true) }
+    ensures mark { output.new.is_marked ≡ (output.old.is_marked || is_write_failure result) }
     ensures untouched { IfErr result (λ e. is_write_fault e ≡ false → output.new ≡ output.old) }
 {
     let Ok(loads) = vec![in alloc; 0u32; machines.len()] else {

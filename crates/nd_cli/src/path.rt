@@ -1,11 +1,11 @@
 //! The command `path`.
 
-ghost use Rattle.std.specs.Prelude.{◌≡◌, ◌≤◌, ◌++◌, ◌∷◌, [], true, false, length, IfOk, IfErr, OnOk, OnErr};
+ghost use Rattle.std.specs.Prelude.{◌≡◌, ◌≤◌, ◌++◌, ◌∷◌, ◌||◌, [], true, false, length, is_err, IfOk, IfErr, OnOk, OnErr};
 ghost use Rattle.std.specs.Io.KnownBytes.{Appends};
 ghost use Rattle.nd_graph.specs.DrvPaths.{IsDrvPath};
 ghost use Rattle.nd_hook.specs.Written.{WritesPart};
-ghost use Rattle.nd_cli.specs.Inputs.{limit, is_write_fault};
-ghost use Rattle.nd_cli.specs.Paths.{AnswersPath, IsPathFault, IsTextFault};
+ghost use Rattle.nd_cli.specs.Inputs.{limit, is_write_fault, is_read_failure, is_write_failure};
+ghost use Rattle.nd_cli.specs.Paths.{AnswersPath, AnswersPathInPart, IsPathFault, IsTextFault};
 
 use crate::fault::{CliFault, DerivationRefusal, Place};
 use crate::input::{LIMIT, read_input};
@@ -19,7 +19,8 @@ use std::io::{Read, Write};
 /// The status is 0.
 ///
 /// A refusal comes in this order, and nothing is written then: `Read`, `TooLarge`, `Derivation`. `Write`
-/// leaves a part of the line. `Memory` may come at any point before the line is written.
+/// leaves a part of the line, from its beginning. `Memory` may come at any point before the line is
+/// written. The reader is marked exactly at `Read`, and the writer exactly at `Write`.
 pub fn path_engine<R: Read, W: Write>(
     alloc: Global,
     name: &[u8],
@@ -31,6 +32,9 @@ pub fn path_engine<R: Read, W: Write>(
     ensures status { IfOk result (λ status. status ≡ 0) }
     ensures answer { OnOk result (AnswersPath name.now (R.remaining input.old.device) (R.remaining input.new.device) (W.contents output.old.device) (W.contents output.new.device)) }
     ensures fault { IfErr result (IsPathFault name.now (R.remaining input.old.device) (R.remaining input.new.device) input.new.is_marked output.new.is_marked) }
+    ensures reader_mark { input.new.is_marked ≡ is_read_failure result }
+    ensures writer_mark { output.new.is_marked ≡ is_write_failure result }
+    ensures partly { IfErr result (λ e. is_write_fault e ≡ true → AnswersPathInPart name.now (R.remaining input.old.device) (R.remaining input.new.device) (W.contents output.old.device) (W.contents output.new.device)) }
     ensures untouched { IfErr result (λ e. is_write_fault e ≡ false → output.new ≡ output.old) }
 {
     let text = match read_input(alloc, input) {
@@ -74,12 +78,26 @@ fn derivation_path(alloc: Global, name: &[u8], text: &[u8]) -> Result<StorePath,
 }
 
 /// Writes a line with its newline, and has the writer pass on what it holds back.
+///
+/// `Fault`: the writer refused, and is marked. A part of the line, from its beginning, is out.
+#[tactic(auto, using(nd_hook::proofs::Pieces::writes))]
 fn write_line<W: Write>(line: &[u8], output: &mut Told<W>) -> Result<(), Fault>
-    requires { output.old.is_marked ≡ false }
     ensures written { OnOk result (Appends (W.contents output.old.device) (W.contents output.new.device) (line.now ++ 10 ∷ [])) }
-    ensures mark { OnErr result (output.new.is_marked ≡ true) }
+    ensures partly { OnErr result (WritesPart (W.contents output.old.device) (W.contents output.new.device) (line.now ++ 10 ∷ [])) }
+    ensures mark { output.new.is_marked ≡ (output.old.is_marked || is_err result) }
 {
     output.put_all(line)?;
+    end_line(output)
+}
+
+/// Writes a newline, and has the writer pass on what it holds back.
+#[tactic(auto, using(nd_hook::proofs::Pieces::flushes))]
+fn end_line<W: Write>(output: &mut Told<W>) -> Result<(), Fault>
+    ensures written { OnOk result (Appends (W.contents output.old.device) (W.contents output.new.device) (10 ∷ [])) }
+    ensures partly { OnErr result (WritesPart (W.contents output.old.device) (W.contents output.new.device) (10 ∷ [])) }
+    ensures mark { output.new.is_marked ≡ (output.old.is_marked || is_err result) }
+{
     output.put_all(b"\n")?;
-    output.flush()
+    output.flush()?;
+    Ok(())
 }

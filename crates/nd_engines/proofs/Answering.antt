@@ -1,12 +1,12 @@
 -- What the parts of an engine make together.
-use Rattle.std.proofs.Common.{◌≡◌, ◌||◌, ℕ, Bool, true, false, List, [], length, reverse, Option, Result, Ok, Err, IfOk, IfErr, OnOk, OnErr, refl, sym, ap, subst, ◌∙◌, append-nil, arith, inl, inr}
+use Rattle.std.proofs.Common.{◌≡◌, ◌||◌, ℕ, Bool, true, false, List, [], length, reverse, Option, Result, Ok, Err, IfOk, IfErr, OnOk, OnErr, is_err, refl, sym, ap, subst, ◌∙◌, arith, inl, inr}
 use Rattle.std.specs.Io.KnownBytes.{Appends, Keeps}
 use Rattle.std.proofs.KnownBytes.{Appends-kept}
 use Rattle.nd_machines.specs.Builders.{Builder}
 use Rattle.nd_eligible.specs.Settings.{Settings}
 use Rattle.nd_graph.specs.Graphs.{Nodes}
 use Rattle.nd_hook.specs.Written.{WritesPart}
-use Rattle.nd_hook.proofs.Pieces.{part_of_first, part_after, written_after}
+use Rattle.nd_hook.proofs.Pieces.{part_of_first, part_after, written_after, kept_part, kept_as_part}
 use Rattle.nd_history.specs.declared.entry.Entry.{Entry}
 use Rattle.nd_history.specs.declared.rule.Rule.{Rule}
 use Rattle.nd_history.specs.Premises.{Premises}
@@ -14,7 +14,7 @@ use Rattle.nd_history.specs.Legal.{IsLegal}
 use Rattle.nd_ledger.specs.Worlds.{World}
 use Rattle.nd_report.specs.Audits.{IsFirstIllegal}
 use Rattle.nd_script.specs.declared.command.Command.{Command}
-use Rattle.nd_cli.specs.Inputs.{ReadsWhole, IsReadFault, is_write_fault}
+use Rattle.nd_cli.specs.Inputs.{ReadsWhole, IsReadFault, is_write_fault, is_write_failure}
 use Rattle.nd_cli.specs.Parks.{HasPark, IsParkFault, local_of}
 use Rattle.nd_cli.specs.declared.options.ParkOptions.{ParkOptions}
 use Rattle.nd_cli.specs.declared.fault.CliFault.{CliFault}
@@ -29,26 +29,6 @@ use Rattle.nd_engines.specs.Simulated.{IsSimGiven, AnswersSim, LeavesSim, IsSimF
 use Rattle.nd_engines.specs.Audited.{HasHistory, IsHistoryFault, legal_line, illegal_line, WritesVerdict, WritesVerdictPart, AnswersAudit, AnswersAuditInPart, IsAuditFault, IsVerdictFault}
 
 -- ---- a writer passes on what it holds back
-
-pub kept_whole : (before between written : Option (List ℕ)) (text : List ℕ) → Appends before between text → Keeps between written → Appends before written text
-kept_whole = Appends-kept
-
-pub kept_part : (before between written : Option (List ℕ)) (text : List ℕ) → WritesPart before between text → Keeps between written → WritesPart before written text
-kept_part before between written text part keeps = record {
-  part = part.part;
-  rest = part.rest;
-  whole = part.whole;
-  written = Appends-kept before between written part.part part.written keeps;
-}
-
--- the whole text is out, if only as a part
-pub kept_as_part : (before between written : Option (List ℕ)) (text : List ℕ) → Appends before between text → Keeps between written → WritesPart before written text
-kept_as_part before between written text whole keeps = record {
-  part = text;
-  rest = [];
-  whole = sym (append-nil text);
-  written = Appends-kept before between written text whole keeps;
-}
 
 simulation_kept : (i : Premises) (commands : List Command) (status : ℕ) (before between written : Option (List ℕ)) → WritesSimulation i commands status before between → Keeps between written
     → WritesSimulation i commands status before written
@@ -95,10 +75,17 @@ pub flushed_part : (answer : Result ℕ SimFault) (i : Premises) (commands : Lis
 flushed_part (Ok status) i commands before between written some keeps = tt
 flushed_part (Err e) i commands before between written some keeps = simulation_part_kept i commands before between written some keeps
 
-pub flushed_mark : (answer : Result ℕ SimFault) (between marked : Bool) → IfErr answer (λ e. e ≡ SimFault.Write → between ≡ true) → marked ≡ (between || false)
-    → IfErr answer (λ e. e ≡ SimFault.Write → marked ≡ true)
-flushed_mark (Ok status) between marked mark same = tt
-flushed_mark (Err e) between marked mark same = λ is. same ∙ ap (λ (b : Bool). b || false) (mark is)
+or_false : (b : Bool) → (b || false) ≡ b
+or_false true = refl
+or_false false = refl
+
+or_true : (b : Bool) → (b || true) ≡ true
+or_true true = refl
+or_true false = refl
+
+-- a writer that passed on what it held back is marked as before
+pub flushed_mark : (failed old between marked : Bool) → between ≡ (old || failed) → marked ≡ (between || false) → marked ≡ (old || failed)
+flushed_mark failed old between marked mark same = same ∙ or_false between ∙ mark
 
 -- .. and where it refused
 pub unflushed_part : (answer : Result ℕ SimFault) (i : Premises) (commands : List Command) (before between written : Option (List ℕ)) → IfOk answer (λ status. WritesSimulation i commands status before between)
@@ -106,14 +93,9 @@ pub unflushed_part : (answer : Result ℕ SimFault) (i : Premises) (commands : L
 unflushed_part (Ok status) i commands before between written whole some keeps = simulation_whole_kept i commands status before between written whole keeps
 unflushed_part (Err e) i commands before between written whole some keeps = simulation_part_kept i commands before between written some keeps
 
-or_true : (b : Bool) → (b || true) ≡ true
-or_true true = refl
-or_true false = refl
-
-pub unflushed_mark : (between marked : Bool) → marked ≡ (between || true) → marked ≡ true
-unflushed_mark between marked same = same ∙ or_true between
-
-pub ruleset flushes = (kept_whole, kept_part, kept_as_part)
+-- .. and one that refused is marked
+pub unflushed_mark : (old between marked : Bool) → marked ≡ (between || true) → marked ≡ (old || true)
+unflushed_mark old between marked same = same ∙ or_true between ∙ sym (or_true old)
 
 pub ruleset writes = (part_of_first, part_after, written_after)
 
@@ -272,9 +254,14 @@ said_illegal_part (Err e) i entries index rule before written illegal part = λ 
 }
 
 -- why it wasn't said
-pub unsaid_fault : (answer : Result ℕ CliFault) (marked : Bool) → IfErr answer (λ e. e ≡ CliFault.Write) → OnErr answer (marked ≡ true) → IfErr answer (IsVerdictFault marked)
-unsaid_fault (Ok status) marked is mark = tt
-unsaid_fault (Err e) marked is mark = subst (λ (f : CliFault). IsVerdictFault marked f) (sym is) mark
+pub unsaid_fault : (answer : Result ℕ CliFault) (old marked : Bool) → IfErr answer (λ e. e ≡ CliFault.Write) → marked ≡ (old || is_err answer) → IfErr answer (IsVerdictFault marked)
+unsaid_fault (Ok status) old marked is mark = tt
+unsaid_fault (Err e) old marked is mark = subst (λ (f : CliFault). IsVerdictFault marked f) (sym is) (mark ∙ or_true old)
+
+-- what was refused was refused by the writer
+pub unsaid_mark : (answer : Result ℕ CliFault) (old marked : Bool) → IfErr answer (λ e. e ≡ CliFault.Write) → marked ≡ (old || is_err answer) → marked ≡ (old || is_write_failure answer)
+unsaid_mark (Ok status) old marked is mark = mark
+unsaid_mark (Err e) old marked is mark = mark ∙ ap (λ (f : CliFault). old || is_write_fault f) (sym is)
 
 true_or_false : true ≡ false → ⊥
 true_or_false same = cc
@@ -400,3 +387,18 @@ read_no_write options history unread left reader_marked TooManySlots fault is_wr
 read_no_write options history unread left reader_marked Thread fault is_write = false_or_true is_write
 read_no_write options history unread left reader_marked Receipts fault is_write = false_or_true is_write
 read_no_write options history unread left reader_marked Memory fault is_write = false_or_true is_write
+
+-- what holds whether or not a writer is marked, for each way to end without an answer
+not_true : (b : Bool) → (b ≡ true → ⊥) → b ≡ false
+not_true true not = absurd (not refl)
+not_true false not = refl
+
+pub audit_read_no_write : (options : ParkOptions) (history : List ℕ) (unread left : Option (List ℕ)) (reader_marked : Bool) (e : CliFault)
+    → ((writer_marked : Bool) → IsAuditFault options history unread left reader_marked writer_marked e) → is_write_fault e ≡ false
+audit_read_no_write options history unread left reader_marked e fault =
+    not_true (is_write_fault e) (read_no_write options history unread left reader_marked e fault)
+
+pub sim_read_no_write : (options : ParkOptions) (script : List ℕ) (unread left : Option (List ℕ)) (reader_marked : Bool) (e : CliFault)
+    → ((writer_marked : Bool) → IsSimFault options script unread left reader_marked writer_marked e) → is_write_fault e ≡ false
+sim_read_no_write options script unread left reader_marked Write fault = absurd (false_or_true (fault false))
+sim_read_no_write options script unread left reader_marked _ fault = refl

@@ -32,11 +32,12 @@ abbrev pub as_history_error : HistoryRefusal → HistoryError
 as_history_error Version = HistoryError.Version
 as_history_error (BadLine n) = HistoryError.BadLine n
 
--- why the history text is refused: it is too large, it has no version, or this is its first bad line
+-- Why the history text is refused: it is too large, it has no version, or this is its first bad line. Want of memory is told only of
+-- one that isn't too large.
 abbrev pub IsHistoryFault : List ℕ → CliFault → Type 0
 IsHistoryFault history (TooLarge place) = (place ≡ Place.History) × (limit < length history)
 IsHistoryFault history (History refusal) = (length history ≤ limit) × IsRefused history (as_history_error refusal)
-IsHistoryFault history Memory = Unit {0}
+IsHistoryFault history Memory = length history ≤ limit
 IsHistoryFault history _ = ⊥
 
 -- what a verdict begins with

@@ -1,10 +1,10 @@
 //! The command `audit`.
 
-ghost use Rattle.std.specs.Prelude.{◌≡◌, ◌≤◌, true, false, length, IfOk, IfErr, OnOk, OnErr};
+ghost use Rattle.std.specs.Prelude.{◌≡◌, ◌≤◌, ◌||◌, true, false, length, is_err, IfOk, IfErr, OnOk, OnErr};
 ghost use Rattle.std.specs.Io.KnownBytes.{Appends};
 ghost use Rattle.nd_hook.specs.Written.{WritesPart};
 ghost use Rattle.nd_cli.specs.declared.fault.CliFault.{CliFault};
-ghost use Rattle.nd_cli.specs.Inputs.{is_write_fault};
+ghost use Rattle.nd_cli.specs.Inputs.{is_write_fault, is_read_failure, is_write_failure};
 ghost use Rattle.nd_report.specs.Audits.{premises};
 ghost use Rattle.nd_engines.specs.Audited.{AnswersAudit, AnswersAuditInPart, IsAuditFault, WritesVerdict, WritesVerdictPart, IsVerdictFault, legal_line, illegal_line};
 
@@ -28,7 +28,8 @@ const ILLEGAL: u8 = 4;
 /// The first refusal in this order is answered, and nothing is written then: `Read`; `TooLarge` or
 /// `Drvs` for the bundle; `TooLarge` or `Builders` for the builders list; `TooLarge` or `Info` for the
 /// info text; `TooLarge` or `History` for the history text. `Write` leaves a part of the line, from its
-/// beginning. `Memory` may come at any point before the line is written.
+/// beginning. `Memory` may come at any point before the line is written. The reader is marked exactly at
+/// `Read`, and the writer exactly at `Write`.
 pub fn audit_engine<R: Read, W: Write>(
     rt: &(impl Threads + Sync),
     alloc: Global,
@@ -41,6 +42,8 @@ pub fn audit_engine<R: Read, W: Write>(
     requires writer { output.old.is_marked ≡ false }
     ensures answer { IfOk result (λ status. AnswersAudit options.now history.now status (R.remaining input.old.device) (R.remaining input.new.device) (W.contents output.old.device) (W.contents output.new.device)) }
     ensures fault { IfErr result (IsAuditFault options.now history.now (R.remaining input.old.device) (R.remaining input.new.device) input.new.is_marked output.new.is_marked) }
+    ensures reader_mark { input.new.is_marked ≡ is_read_failure result }
+    ensures writer_mark { output.new.is_marked ≡ is_write_failure result }
     ensures untouched { IfErr result (λ e. is_write_fault e ≡ false → output.new ≡ output.old) }
     ensures partly { IfErr result (λ e. is_write_fault e ≡ true → AnswersAuditInPart options.now history.now (R.remaining input.old.device) (R.remaining input.new.device) (W.contents output.old.device) (W.contents output.new.device)) }
 {
@@ -72,6 +75,7 @@ fn write_verdict<W: Write>(
     ensures written { IfOk result (λ status. WritesVerdict (premises park.now.graph park.now.machines.items park.now.local park.now.info keep_going) entries.now status (W.contents output.old.device) (W.contents output.new.device)) }
     ensures partly { IfErr result (λ e. is_write_fault e ≡ true → WritesVerdictPart (premises park.now.graph park.now.machines.items park.now.local park.now.info keep_going) entries.now (W.contents output.old.device) (W.contents output.new.device)) }
     ensures fault { IfErr result (IsVerdictFault output.new.is_marked) }
+    ensures mark { output.new.is_marked ≡ (output.old.is_marked || is_write_failure result) }
     ensures untouched { IfErr result (λ e. is_write_fault e ≡ false → output.new ≡ output.old) }
 {
     match audit(
@@ -95,7 +99,7 @@ fn say_legal<W: Write>(count: usize, output: &mut Told<W>) -> Result<u8, CliFaul
     ensures written { OnOk result (Appends (W.contents output.old.device) (W.contents output.new.device) (legal_line count)) }
     ensures partly { OnErr result (WritesPart (W.contents output.old.device) (W.contents output.new.device) (legal_line count)) }
     ensures fault { IfErr result (λ e. e ≡ CliFault.Write) }
-    ensures mark { OnErr result (output.new.is_marked ≡ true) }
+    ensures mark { output.new.is_marked ≡ (output.old.is_marked || is_err result) }
 {
     match write_legal(count, output) {
         Ok(()) => Ok(0),
@@ -109,7 +113,7 @@ fn say_illegal<W: Write>(index: usize, rule: Rule, output: &mut Told<W>) -> Resu
     ensures written { OnOk result (Appends (W.contents output.old.device) (W.contents output.new.device) (illegal_line index rule)) }
     ensures partly { OnErr result (WritesPart (W.contents output.old.device) (W.contents output.new.device) (illegal_line index rule)) }
     ensures fault { IfErr result (λ e. e ≡ CliFault.Write) }
-    ensures mark { OnErr result (output.new.is_marked ≡ true) }
+    ensures mark { output.new.is_marked ≡ (output.old.is_marked || is_err result) }
 {
     match write_illegal(index, rule, output) {
         Ok(()) => Ok(ILLEGAL),

@@ -2,6 +2,7 @@
 
 ghost use Rattle.std.specs.Prelude.{◌≡◌, ◌≤◌, Bool, false, length, IfOk, IfErr};
 ghost use Rattle.std.specs.List.{All};
+ghost use Rattle.nd_cli.specs.Inputs.{is_read_failure};
 ghost use Rattle.nd_sim.specs.Answers.{IsNamed};
 ghost use Rattle.nd_engines.specs.Opened.{inputs_of, ReadsInputs};
 ghost use Rattle.nd_engines.specs.Simulated.{IsSimGiven, IsSimFault};
@@ -50,6 +51,7 @@ pub(crate) fn read_sim_inputs<R: Read>(
     requires reader { input.old.is_marked ≡ false }
     ensures read { IfOk result (λ given. IsSimGiven options.now script.now (R.remaining input.old.device) (R.remaining input.new.device) given.dispatch given.commands.items) }
     ensures named { IfOk result (λ given. All (IsNamed given.dispatch.inputs) given.commands.items) }
+    ensures mark { input.new.is_marked ≡ is_read_failure result }
     ensures fault { IfErr result (λ e. (writer_marked : Bool) → IsSimFault options.now script.now (R.remaining input.old.device) (R.remaining input.new.device) input.new.is_marked writer_marked e) }
 {
     let text = match read_input(alloc, input) {
@@ -86,6 +88,7 @@ pub(crate) fn read_audit_inputs<R: Read>(
     ensures read { IfOk result (λ given. ReadsInputs options.now (R.remaining input.old.device) (R.remaining input.new.device) (inputs_of options.now given.park.graph given.park.machines.items given.park.local given.park.info.entries)) }
     ensures entries { IfOk result (λ given. HasHistory history.now given.entries.items) }
     ensures few { IfOk result (λ given. length given.park.machines.items ≤ 1024) }
+    ensures mark { input.new.is_marked ≡ is_read_failure result }
     ensures fault { IfErr result (λ e. (writer_marked : Bool) → IsAuditFault options.now history.now (R.remaining input.old.device) (R.remaining input.new.device) input.new.is_marked writer_marked e) }
 {
     let text = match read_input(alloc, input) {

@@ -1,10 +1,11 @@
 //! The command `sim`.
 
-ghost use Rattle.std.specs.Prelude.{◌≡◌, true, false, [], IfOk, IfErr, OnErr};
+ghost use Rattle.std.specs.Prelude.{◌≡◌, ◌||◌, true, false, [], IfOk, IfErr, OnErr};
 ghost use Rattle.std.specs.List.{All};
 ghost use Rattle.nd_sim.specs.Answers.{IsNamed};
+ghost use Rattle.nd_cli.specs.Inputs.{is_read_failure, is_write_failure};
 ghost use Rattle.nd_sim.specs.Written.{WritesSimulation, WritesSimulationPart};
-ghost use Rattle.nd_sim.specs.declared.fault.SimFault.{SimFault};
+ghost use Rattle.nd_sim.specs.Written.{is_write_failure as is_writer_failure};
 ghost use Rattle.nd_engines.specs.Simulated.{AnswersSim, LeavesSim, IsSimFault, may_have_begun};
 
 use crate::opening::close_dispatch;
@@ -24,7 +25,8 @@ use std::thread::Threads;
 /// The first refusal in this order is answered, and nothing is written then: `Read`; `TooLarge` or
 /// `Drvs` for the bundle; `TooLarge` or `Builders` for the builders list; `TooLarge` or `Info` for the
 /// info text; `TooLarge` or `Script` for the script. `Write` and `Memory` leave the beginning of the
-/// text; `Memory` may come at any point.
+/// text; `Memory` may come at any point. The reader is marked exactly at `Read`, and the writer exactly
+/// at `Write`.
 pub fn sim_engine<R: Read, W: Write>(
     rt: &(impl Threads + Sync),
     alloc: Global,
@@ -37,6 +39,8 @@ pub fn sim_engine<R: Read, W: Write>(
     requires writer { output.old.is_marked ≡ false }
     ensures answer { IfOk result (λ status. AnswersSim options.now script.now status (R.remaining input.old.device) (R.remaining input.new.device) (W.contents output.old.device) (W.contents output.new.device)) }
     ensures fault { IfErr result (IsSimFault options.now script.now (R.remaining input.old.device) (R.remaining input.new.device) input.new.is_marked output.new.is_marked) }
+    ensures reader_mark { input.new.is_marked ≡ is_read_failure result }
+    ensures writer_mark { output.new.is_marked ≡ is_write_failure result }
     ensures untouched { IfErr result (λ e. may_have_begun e ≡ false → output.new ≡ output.old) }
     ensures partly { IfErr result (λ e. may_have_begun e ≡ true → LeavesSim options.now script.now (R.remaining input.old.device) (R.remaining input.new.device) (W.contents output.old.device) (W.contents output.new.device)) }
 {
@@ -57,7 +61,7 @@ fn perform<W: Write>(alloc: Global, given: SimInputs, output: &mut Told<W>) -> R
     requires named { All (IsNamed given.dispatch.inputs) given.commands.items }
     ensures written { IfOk result (λ status. WritesSimulation given.dispatch.inputs given.commands.items status (W.contents output.old.device) (W.contents output.new.device)) }
     ensures partly { OnErr result (WritesSimulationPart given.dispatch.inputs given.commands.items (W.contents output.old.device) (W.contents output.new.device)) }
-    ensures mark { IfErr result (λ e. e ≡ SimFault.Write → output.new.is_marked ≡ true) }
+    ensures mark { output.new.is_marked ≡ (output.old.is_marked || is_writer_failure result) }
 {
     let SimInputs {
         mut dispatch,

@@ -1,11 +1,10 @@
 //! A whole script on a dispatch, with the lines that are written of it.
 
-ghost use Rattle.std.specs.Prelude.{◌≡◌, true, [], reverse, IfOk, IfErr, OnOk, OnErr};
+ghost use Rattle.std.specs.Prelude.{◌≡◌, ◌||◌, [], reverse, IfOk, IfErr, OnOk, OnErr};
 ghost use Rattle.std.specs.List.{All};
-ghost use Rattle.nd_sim.specs.declared.fault.SimFault.{SimFault};
 ghost use Rattle.nd_sim.specs.Answers.{IsNamed};
 ghost use Rattle.nd_sim.specs.Runs.{IsExitStatus};
-ghost use Rattle.nd_sim.specs.Written.{WritesSimulation, WritesSimulationPart};
+ghost use Rattle.nd_sim.specs.Written.{WritesSimulation, WritesSimulationPart, is_write_failure};
 
 use nd_hook::{Fault, Told, WriteError};
 use nd_ledger::Dispatch;
@@ -33,7 +32,7 @@ pub(crate) fn simulate<W: io::Write>(
     ensures inputs { dispatch.new.inputs ≡ dispatch.old.inputs }
     ensures written { IfOk result (λ status. WritesSimulation dispatch.old.inputs commands.items status (W.contents out.old.device) (W.contents out.new.device)) }
     ensures partly { OnErr result (WritesSimulationPart dispatch.old.inputs commands.items (W.contents out.old.device) (W.contents out.new.device)) }
-    ensures mark { IfErr result (λ e. e ≡ SimFault.Write → out.new.is_marked ≡ true) }
+    ensures mark { out.new.is_marked ≡ (out.old.is_marked || is_write_failure result) }
 {
     let answer = play(alloc, dispatch, commands, out);
     match out.flush() {
@@ -54,7 +53,7 @@ fn play<W: io::Write>(
     ensures inputs { dispatch.new.inputs ≡ dispatch.old.inputs }
     ensures written { IfOk result (λ status. WritesSimulation dispatch.old.inputs commands.items status (W.contents out.old.device) (W.contents out.new.device)) }
     ensures partly { OnErr result (WritesSimulationPart dispatch.old.inputs commands.items (W.contents out.old.device) (W.contents out.new.device)) }
-    ensures mark { IfErr result (λ e. e ≡ SimFault.Write → out.new.is_marked ≡ true) }
+    ensures mark { out.new.is_marked ≡ (out.old.is_marked || is_write_failure result) }
 {
     match take_turns(alloc, dispatch, commands, out) {
         Ok(()) => {}

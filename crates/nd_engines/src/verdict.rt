@@ -40,7 +40,7 @@ pub(crate) fn write_illegal<W: Write>(
 }
 
 /// Ends a line, and has the writer pass on what it holds back.
-#[tactic(auto, using(crate::proofs::Answering::flushes))]
+#[tactic(auto, using(nd_hook::proofs::Pieces::flushes))]
 fn end_line<W: Write>(output: &mut Told<W>) -> Result<(), Fault>
     ensures written { OnOk result (Appends (W.contents output.old.device) (W.contents output.new.device) (10 ∷ [])) }
     ensures partly { OnErr result (WritesPart (W.contents output.old.device) (W.contents output.new.device) (10 ∷ [])) }

@@ -1,7 +1,7 @@
 -- A text that is written in pieces, one after the other.
-use Rattle.std.proofs.Common.{◌∙◌, ℕ, List, ◌++◌, Option, sym, ap, append_assoc, take, drop, take-append-drop}
-use Rattle.std.specs.Io.KnownBytes.{Appends}
-use Rattle.std.proofs.KnownBytes.{Appends-trans}
+use Rattle.std.proofs.Common.{◌∙◌, ℕ, List, [], ◌++◌, Option, sym, ap, append_assoc, append-nil, take, drop, take-append-drop}
+use Rattle.std.specs.Io.KnownBytes.{Appends, Keeps}
+use Rattle.std.proofs.KnownBytes.{Appends-trans, Appends-kept}
 use Rattle.nd_hook.specs.Written.{WritesPart}
 
 -- the first piece was written in part
@@ -38,3 +38,27 @@ pub written_after : (old between new : Option (List ℕ)) (text more : List ℕ)
 written_after = Appends-trans
 
 pub ruleset writes = (part_of_first, part_after, written_after)
+
+-- ---- a writer passes on what it holds back
+
+pub kept_whole : (before between written : Option (List ℕ)) (text : List ℕ) → Appends before between text → Keeps between written → Appends before written text
+kept_whole = Appends-kept
+
+pub kept_part : (before between written : Option (List ℕ)) (text : List ℕ) → WritesPart before between text → Keeps between written → WritesPart before written text
+kept_part before between written text part keeps = record {
+  part = part.part;
+  rest = part.rest;
+  whole = part.whole;
+  written = Appends-kept before between written part.part part.written keeps;
+}
+
+-- the whole text is out, if only as a part
+pub kept_as_part : (before between written : Option (List ℕ)) (text : List ℕ) → Appends before between text → Keeps between written → WritesPart before written text
+kept_as_part before between written text whole keeps = record {
+  part = text;
+  rest = [];
+  whole = sym (append-nil text);
+  written = Appends-kept before between written text whole keeps;
+}
+
+pub ruleset flushes = (kept_whole, kept_part, kept_as_part)

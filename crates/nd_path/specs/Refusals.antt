@@ -30,12 +30,12 @@ pub record IsSpelled (bytes : List ℕ) : Type 0 where
   pub digits : list_all is_digest_byte digest ≡ true
   pub named : is_name name ≡ true
 
--- a text may be refused with its first fault, and at any point for want of memory
+-- a text is refused with its first fault, and one that has none, a store path, for want of memory alone
 abbrev pub IsRefused : List ℕ → PathError → Type 0
 IsRefused bytes Prefix = fault_of bytes ≡ Some Prefix
 IsRefused bytes Digest = fault_of bytes ≡ Some Digest
 IsRefused bytes Name = fault_of bytes ≡ Some Name
-IsRefused bytes Memory = Unit {0}
+IsRefused bytes Memory = IsPath bytes
 
 -- the plain name of a refusal
 abbrev pub refusal_name : PathError → List ℕ

@@ -1,6 +1,6 @@
 -- The store path of a text.
 -- Source: the Nix Reference Manual, "Store Path Specification" (paths of kind `text`); SHA-256 is FIPS 180-4.
-use Rattle.std.specs.Prelude.{◌≡◌, ℕ, false, List, [], ◌∷◌, ◌++◌, codes}
+use Rattle.std.specs.Prelude.{◌≡◌, ℕ, true, false, List, [], ◌∷◌, ◌++◌, codes}
 use Rattle.sha2.specs.Sha256.{sha256}
 use Rattle.hex.specs.Hex.{encode_lower}
 use Rattle.nd_path.specs.declared.path_error.PathError.{PathError}
@@ -23,9 +23,9 @@ abbrev pub text_path_of : List ℕ → List (List ℕ) → List ℕ → List ℕ
 text_path_of name refs contents =
     store_directory ++ base32_of (fold_of (sha256 (hashed_text name refs contents))) ++ 45 ∷ name
 
--- a text path is refused only for its name, and at any point for want of memory
+-- a text path is refused for its name, and under a store path's name for want of memory alone
 abbrev pub RefusesName : List ℕ → PathError → Type 0
 RefusesName name Prefix = ⊥
 RefusesName name Digest = ⊥
 RefusesName name Name = is_name name ≡ false
-RefusesName name Memory = Unit {0}
+RefusesName name Memory = is_name name ≡ true

@@ -49,7 +49,7 @@ impl StorePath {
     /// The store path with these bytes.
     ///
     /// Refuses with the first of `Prefix` (1), `Digest` (2) and `Name` (3) that the bytes give cause
-    /// for, and with `Memory` (4) where the copy is refused.
+    /// for, and bytes that give none with `Memory` (4) where the copy is refused.
     #[tactic(auto, using(crate::proofs::Spelling::spelled))]
     pub fn parse(alloc: Global, bytes: &[u8]) -> Result<StorePath, PathError>
         ensures found { IfOk result (λ p. p ≡ bytes.now) }

@@ -14,7 +14,7 @@ use std::alloc::{AllocError, Global};
 /// (Nix Reference Manual, "Store Path Specification"): what is hashed is `text`, each reference behind
 /// a colon, `:sha256:`, the SHA-256 of the contents in hexadecimal, `:/nix/store:` and the name.
 ///
-/// Refuses with `Name` (3) where `name` is no store path's name, and with `Memory` (4) where an
+/// Refuses with `Name` (3) where `name` is no store path's name, else with `Memory` (4) where an
 /// allocation is refused; with nothing else.
 pub fn text_path(
     alloc: Global,

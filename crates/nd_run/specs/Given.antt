@@ -1,11 +1,12 @@
 -- What `run` is given: the park and the bundle, as for every command over a bundle, and the stand text.
-use Rattle.std.specs.Prelude.{◌≡◌, ◌⊎◌, ℕ, ◌+◌, ◌<◌, ◌≤◌, Bool, true, List, [], length, Option}
+use Rattle.std.specs.Prelude.{◌≡◌, ◌≢◌, ◌⊎◌, ℕ, ◌+◌, ◌<◌, ◌≤◌, Bool, true, List, [], length, Option}
 use Rattle.nd_machines.specs.Builders.{Builder}
 use Rattle.nd_graph.specs.Graphs.{Nodes, rows_of}
 use Rattle.nd_closure.specs.Info.{lines_of}
 use Rattle.nd_history.specs.Premises.{Premises}
 use Rattle.nd_ledger.specs.Worlds.{World}
 use Rattle.nd_script.specs.declared.rule.Rule.{Rule}
+use Rattle.nd_script.specs.declared.script_error.ScriptError.{ScriptError}
 use Rattle.nd_script.specs.Stand.{AreRules, IsStandRefused}
 use Rattle.nd_cli.specs.Inputs.{limit, ReadsWhole}
 use Rattle.nd_cli.specs.Parks.{HasPark, IsParkFault, local_of}
@@ -19,11 +20,12 @@ pub record HasRules (stand : List ℕ) (drvs machines : ℕ) (rules : List Rule)
   pub within : length stand ≤ limit
   pub read : AreRules drvs machines (lines_of stand) rules
 
--- why the stand text is refused: it is too large, or this is its first bad line
+-- Why the stand text is refused: it is too large, or this is its first bad line. Want of memory is no refusal of it, and is told only
+-- of one that isn't too large.
 abbrev pub IsStandFault : List ℕ → ℕ → ℕ → CliFault → Type 0
 IsStandFault stand drvs machines (TooLarge place) = (place ≡ Place.Stand) × (limit < length stand)
-IsStandFault stand drvs machines (Stand refusal) = (length stand ≤ limit) × IsStandRefused drvs machines stand refusal
-IsStandFault stand drvs machines Memory = Unit {0}
+IsStandFault stand drvs machines (Stand refusal) = (length stand ≤ limit) × IsStandRefused drvs machines stand refusal × (refusal ≢ ScriptError.Memory)
+IsStandFault stand drvs machines Memory = length stand ≤ limit
 IsStandFault stand drvs machines _ = ⊥
 
 -- what a dispatch of this graph and this park is made of

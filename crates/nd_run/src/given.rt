@@ -1,6 +1,7 @@
 //! What `run` is given.
 
 ghost use Rattle.std.specs.Prelude.{◌≡◌, false, IfOk, IfErr};
+ghost use Rattle.nd_cli.specs.Inputs.{is_read_failure};
 ghost use Rattle.nd_run.specs.Given.{HasRules, IsGiven, IsStandFault, IsGivenFault};
 
 use nd_cli::{CliFault, LIMIT, ParkOptions, Place, read_input, read_park};
@@ -25,7 +26,7 @@ pub struct RunInputs {
 ///
 /// The first refusal in this order is answered: `Read`; `TooLarge` or `Drvs` for the bundle; `TooLarge`
 /// or `Builders` for the builders list; `TooLarge` or `Info` for the info text; `TooLarge` or `Stand`
-/// for the stand text. `Memory` may come at any point.
+/// for the stand text. `Memory` may come at any point. The reader is marked exactly at `Read`.
 pub fn run_inputs<R: Read>(
     rt: &(impl Threads + Sync),
     alloc: Global,
@@ -35,6 +36,7 @@ pub fn run_inputs<R: Read>(
 ) -> Result<RunInputs, CliFault>
     requires reader { input.old.is_marked ≡ false }
     ensures read { IfOk result (λ given. IsGiven options.now stand.now (R.remaining input.old.device) (R.remaining input.new.device) given.dispatch given.rules.items) }
+    ensures mark { input.new.is_marked ≡ is_read_failure result }
     ensures fault { IfErr result (IsGivenFault options.now stand.now (R.remaining input.old.device) (R.remaining input.new.device) input.new.is_marked) }
 {
     let text = match read_input(alloc, input) {

@@ -1,11 +1,12 @@
 -- What calls on a dispatch say of the commands that they stand for.
-use Rattle.std.proofs.Common.{◌≡◌, ℕ, List, [], ◌∷◌, ◌++◌, reverse, Some, ap, subst, ◌∙◌, inl, inr}
+use Rattle.std.proofs.Common.{◌≡◌, ℕ, List, [], ◌∷◌, ◌++◌, reverse, Some, refl, ap, subst, ◌∙◌, inl, inr}
 use Rattle.nd_path.specs.PathSets.{IsRising}
 use Rattle.nd_history.specs.declared.entry.Entry.{Entry}
 use Rattle.nd_history.specs.declared.entry.Why.{Why}
 use Rattle.nd_history.specs.declared.entry.Ticket.{Ticket}
 use Rattle.nd_history.specs.Premises.{Premises}
 use Rattle.nd_history.specs.History.{lease_of}
+use Rattle.nd_history.specs.Legal.{IsAllowed}
 use Rattle.nd_stores.specs.Stored.{IsMissing}
 use Rattle.nd_ledger.specs.declared.refusal.Refusal.{Refusal}
 use Rattle.nd_ledger.specs.Refusals.{IsFailRefused, IsDownRefused}
@@ -15,8 +16,16 @@ use Rattle.nd_script.specs.declared.command.Command.{Command}
 use Rattle.nd_sim.specs.Answers.{Adds, HasAdded, IsRefusedWith, IsTicketRefused, IsCommandRefused, no_references}
 use Rattle.nd_sim.specs.Outcomes.{IsRefusal}
 
-pub added : (old new : World) (command : Command) (e : Entry) → Adds old.inputs (reverse old.history) command e → new ≡ record { inputs = old.inputs; history = old.history ++ e ∷ [] } → HasAdded old.inputs old.history new.history command
-added old new command e adds is = record { entry = e; adds = adds; grown = ap (λ (w : World). w.history) is }
+pub added : (old new : World) (command : Command) (e : Entry) → Adds old.inputs (reverse old.history) command e → IsAllowed old.inputs e (reverse old.history)
+    → new ≡ record { inputs = old.inputs; history = old.history ++ e ∷ [] } → HasAdded old.inputs old.history new.history command
+added old new command e adds allowed is = record { entry = e; adds = adds; allowed = allowed; grown = ap (λ (w : World). w.history) is }
+
+-- a call with a lease's ticket adds an entry about its derivation
+about : (old new : World) (command : Command) (of : ℕ → Entry) (d n : ℕ) → n ≡ d → Adds old.inputs (reverse old.history) command (of d) → IsAllowed old.inputs (of n) (reverse old.history)
+    → new ≡ record { inputs = old.inputs; history = old.history ++ of n ∷ [] } → HasAdded old.inputs old.history new.history command
+about old new command of d n own adds allowed is =
+    added old new command (of d) adds (subst (λ (x : ℕ). IsAllowed old.inputs (of x) (reverse old.history)) own allowed)
+    (is ∙ ap (λ (x : ℕ). record { inputs = old.inputs; history = old.history ++ of x ∷ [] }) own)
 
 lease_refused : (i : Premises) (past : List Entry) (d : ℕ) (command : Command) (t : Ticket) (e : Refusal) → lease_of d past ≡ Some t → IsRefusedWith i past command t e → IsTicketRefused i past d command e
 lease_refused i past d command t e lease refused = inr (record { ticket = t; lease = lease; refused = refused })
@@ -25,16 +34,19 @@ pub genuinely_refused : (i : Premises) (past : List Entry) (command : Command) (
 genuinely_refused i past command e refused genuine = elim refused [ inl memory ↦ absurd (genuine memory) | inr cause ↦ cause ]
 
 pub full_start : (old new : World) (d : ℕ) (t : Ticket) (paths : List (List ℕ)) → lease_of d (reverse old.history) ≡ Some t → t.drv ≡ d
-    → IsMissing old.inputs (reverse old.history) t.drv t.machine paths → IsRising paths
+    → IsMissing old.inputs (reverse old.history) t.drv t.machine paths → IsRising paths → IsAllowed old.inputs (Entry.Started t.drv paths) (reverse old.history)
     → new ≡ record { inputs = old.inputs; history = old.history ++ Entry.Started t.drv paths ∷ [] } → HasAdded old.inputs old.history new.history (Command.Start d)
-full_start old new d t paths lease own missing rising is = added old new (Command.Start d) (Entry.Started t.drv paths) (record {
-  ticket = t;
-  lease = lease;
-  paths = paths;
-  missing = subst (λ (n : ℕ). IsMissing old.inputs (reverse old.history) n t.machine paths) own missing;
-  rising = rising;
-  is = ap (λ (n : ℕ). Entry.Started n paths) own;
-}) is
+full_start old new d t paths lease own missing rising allowed is =
+    about old new (Command.Start d) (λ (n : ℕ). Entry.Started n paths) d t.drv own
+    (record {
+      ticket = t;
+      lease = lease;
+      paths = paths;
+      missing = subst (λ (n : ℕ). IsMissing old.inputs (reverse old.history) n t.machine paths) own missing;
+      rising = rising;
+      is = refl;
+    })
+    allowed is
 
 pub full_start_refused : (i : Premises) (past : List Entry) (d : ℕ) (t : Ticket) (paths : List (List ℕ)) (e : Refusal) → lease_of d past ≡ Some t → t.drv ≡ d
     → IsMissing i past t.drv t.machine paths → IsStartRefused i past t paths e → IsRefusal i past (Command.Start d) e
@@ -44,39 +56,46 @@ full_start_refused i past d t paths e lease own missing refused = inr (lease_ref
   refused = refused;
 }))
 
-pub started : (old new : World) (d : ℕ) (t : Ticket) (paths : List (List ℕ)) → t.drv ≡ d → new ≡ record { inputs = old.inputs; history = old.history ++ Entry.Started t.drv paths ∷ [] } → HasAdded old.inputs old.history new.history (Command.StartWith d paths)
-started old new d t paths own is = added old new (Command.StartWith d paths) (Entry.Started t.drv paths) (ap (λ (n : ℕ). Entry.Started n paths) own) is
+pub started : (old new : World) (d : ℕ) (t : Ticket) (paths : List (List ℕ)) → t.drv ≡ d → IsAllowed old.inputs (Entry.Started t.drv paths) (reverse old.history)
+    → new ≡ record { inputs = old.inputs; history = old.history ++ Entry.Started t.drv paths ∷ [] } → HasAdded old.inputs old.history new.history (Command.StartWith d paths)
+started old new d t paths own allowed is = about old new (Command.StartWith d paths) (λ (n : ℕ). Entry.Started n paths) d t.drv own refl allowed is
 
 pub start_refused : (i : Premises) (past : List Entry) (d : ℕ) (t : Ticket) (paths : List (List ℕ)) (e : Refusal) → lease_of d past ≡ Some t → IsStartRefused i past t paths e → IsRefusal i past (Command.StartWith d paths) e
 start_refused i past d t paths e lease refused = inr (lease_refused i past d (Command.StartWith d paths) t e lease refused)
 
-pub ended : (old new : World) (d : ℕ) (t : Ticket) (refs : List (List (List ℕ))) → t.drv ≡ d → new ≡ record { inputs = old.inputs; history = old.history ++ Entry.Built t.drv refs ∷ [] } → HasAdded old.inputs old.history new.history (Command.BuiltWith d refs)
-ended old new d t refs own is = added old new (Command.BuiltWith d refs) (Entry.Built t.drv refs) (ap (λ (n : ℕ). Entry.Built n refs) own) is
+pub ended : (old new : World) (d : ℕ) (t : Ticket) (refs : List (List (List ℕ))) → t.drv ≡ d → IsAllowed old.inputs (Entry.Built t.drv refs) (reverse old.history)
+    → new ≡ record { inputs = old.inputs; history = old.history ++ Entry.Built t.drv refs ∷ [] } → HasAdded old.inputs old.history new.history (Command.BuiltWith d refs)
+ended old new d t refs own allowed is = about old new (Command.BuiltWith d refs) (λ (n : ℕ). Entry.Built n refs) d t.drv own refl allowed is
 
 pub end_refused : (i : Premises) (past : List Entry) (d : ℕ) (t : Ticket) (refs : List (List (List ℕ))) (e : Refusal) → lease_of d past ≡ Some t → IsEndRefused i past t refs e → IsRefusal i past (Command.BuiltWith d refs) e
 end_refused i past d t refs e lease refused = inr (lease_refused i past d (Command.BuiltWith d refs) t e lease refused)
 
-pub failed : (old new : World) (d : ℕ) (t : Ticket) (status : ℕ) → t.drv ≡ d → new ≡ record { inputs = old.inputs; history = old.history ++ Entry.Failed t.drv (Why.Status status) ∷ [] } → HasAdded old.inputs old.history new.history (Command.Fail d status)
-failed old new d t status own is = added old new (Command.Fail d status) (Entry.Failed t.drv (Why.Status status)) (ap (λ (n : ℕ). Entry.Failed n (Why.Status status)) own) is
+pub failed : (old new : World) (d : ℕ) (t : Ticket) (status : ℕ) → t.drv ≡ d → IsAllowed old.inputs (Entry.Failed t.drv (Why.Status status)) (reverse old.history)
+    → new ≡ record { inputs = old.inputs; history = old.history ++ Entry.Failed t.drv (Why.Status status) ∷ [] } → HasAdded old.inputs old.history new.history (Command.Fail d status)
+failed old new d t status own allowed is = about old new (Command.Fail d status) (λ (n : ℕ). Entry.Failed n (Why.Status status)) d t.drv own refl allowed is
 
 pub fail_refused : (i : Premises) (past : List Entry) (d : ℕ) (t : Ticket) (status : ℕ) (e : Refusal) → lease_of d past ≡ Some t → IsFailRefused past t e → IsRefusal i past (Command.Fail d status) e
 fail_refused i past d t status e lease refused = inr (lease_refused i past d (Command.Fail d status) t e lease refused)
 
-pub lost : (old new : World) (d : ℕ) (t : Ticket) → t.drv ≡ d → new ≡ record { inputs = old.inputs; history = old.history ++ Entry.Failed t.drv Why.Lost ∷ [] } → HasAdded old.inputs old.history new.history (Command.Lose d)
-lost old new d t own is = added old new (Command.Lose d) (Entry.Failed t.drv Why.Lost) (ap (λ (n : ℕ). Entry.Failed n Why.Lost) own) is
+pub lost : (old new : World) (d : ℕ) (t : Ticket) → t.drv ≡ d → IsAllowed old.inputs (Entry.Failed t.drv Why.Lost) (reverse old.history)
+    → new ≡ record { inputs = old.inputs; history = old.history ++ Entry.Failed t.drv Why.Lost ∷ [] } → HasAdded old.inputs old.history new.history (Command.Lose d)
+lost old new d t own allowed is = about old new (Command.Lose d) (λ (n : ℕ). Entry.Failed n Why.Lost) d t.drv own refl allowed is
 
 pub lose_refused : (i : Premises) (past : List Entry) (d : ℕ) (t : Ticket) (e : Refusal) → lease_of d past ≡ Some t → IsFailRefused past t e → IsRefusal i past (Command.Lose d) e
 lose_refused i past d t e lease refused = inr (lease_refused i past d (Command.Lose d) t e lease refused)
 
-pub given_back : (old new : World) (d : ℕ) (t : Ticket) → t.drv ≡ d → new ≡ record { inputs = old.inputs; history = old.history ++ Entry.Down t.drv ∷ [] } → HasAdded old.inputs old.history new.history (Command.Down d)
-given_back old new d t own is = added old new (Command.Down d) (Entry.Down t.drv) (ap (λ (n : ℕ). Entry.Down n) own) is
+pub given_back : (old new : World) (d : ℕ) (t : Ticket) → t.drv ≡ d → IsAllowed old.inputs (Entry.Down t.drv) (reverse old.history)
+    → new ≡ record { inputs = old.inputs; history = old.history ++ Entry.Down t.drv ∷ [] } → HasAdded old.inputs old.history new.history (Command.Down d)
+given_back old new d t own allowed is = about old new (Command.Down d) (λ (n : ℕ). Entry.Down n) d t.drv own refl allowed is
 
 pub down_refused : (i : Premises) (past : List Entry) (d : ℕ) (t : Ticket) (e : Refusal) → lease_of d past ≡ Some t → IsDownRefused past t e → IsRefusal i past (Command.Down d) e
 down_refused i past d t e lease refused = inr (lease_refused i past d (Command.Down d) t e lease refused)
 
 pub bare_end : (old new : World) (d : ℕ) (t : Ticket) (refs : List (List (List ℕ))) → t.drv ≡ d → refs ≡ no_references old.inputs d
+    → IsAllowed old.inputs (Entry.Built t.drv refs) (reverse old.history)
     → new ≡ record { inputs = old.inputs; history = old.history ++ Entry.Built t.drv refs ∷ [] } → HasAdded old.inputs old.history new.history (Command.Built d)
-bare_end old new d t refs own none is = added old new (Command.Built d) (Entry.Built t.drv refs) (ap (λ (n : ℕ). Entry.Built n refs) own ∙ ap (Entry.Built d) none) is
+bare_end old new d t refs own none allowed is =
+    about old new (Command.Built d) (λ (n : ℕ). Entry.Built n refs) d t.drv own (ap (Entry.Built d) none) allowed is
 
 pub bare_end_refused : (i : Premises) (past : List Entry) (d : ℕ) (t : Ticket) (refs : List (List (List ℕ))) (e : Refusal) → lease_of d past ≡ Some t → refs ≡ no_references i d
     → IsEndRefused i past t refs e → IsRefusal i past (Command.Built d) e

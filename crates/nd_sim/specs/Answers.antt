@@ -8,6 +8,7 @@ use Rattle.nd_history.specs.declared.entry.Ticket.{Ticket}
 use Rattle.nd_history.specs.Premises.{Premises}
 use Rattle.nd_history.specs.History.{lease_of}
 use Rattle.nd_history.specs.Choices.{machines_in}
+use Rattle.nd_history.specs.Legal.{IsAllowed}
 use Rattle.nd_history.specs.References.{outputs_of}
 use Rattle.nd_stores.specs.Stored.{IsMissing}
 use Rattle.nd_ledger.specs.declared.refusal.Refusal.{Refusal}
@@ -59,10 +60,11 @@ Adds i past (Drain m) e = e ≡ Entry.Drain m
 Adds i past (Enable m) e = e ≡ Entry.Enable m
 Adds i past (Ask d) e = ⊥
 
--- the command's entry was added, and nothing else
+-- the command's entry was added, which is allowed there, and nothing else
 pub record HasAdded (i : Premises) (old new : List Entry) (command : Command) : Type 0 where
   pub entry : Entry
   pub adds : Adds i (reverse old) command entry
+  pub allowed : IsAllowed i entry (reverse old)
   pub grown : new ≡ old ++ entry ∷ []
 
 -- ---- what is refused

@@ -3,3 +3,4 @@ pub mod Outcomes
 pub mod Runs
 pub mod RunParts
 pub mod Written
+pub mod OneText

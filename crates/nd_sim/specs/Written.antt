@@ -1,5 +1,5 @@
 -- What a writer has of a simulation.
-use Rattle.std.specs.Prelude.{ℕ, List, Option}
+use Rattle.std.specs.Prelude.{ℕ, Bool, true, false, List, Option, Result, Ok, Err}
 use Rattle.std.specs.Io.KnownBytes.{Appends}
 use Rattle.nd_hook.specs.Written.{WritesPart}
 use Rattle.nd_history.specs.declared.entry.Entry.{Entry}
@@ -7,6 +7,14 @@ use Rattle.nd_history.specs.Premises.{Premises}
 use Rattle.nd_script.specs.declared.command.Command.{Command}
 use Rattle.nd_sim.specs.Runs.{IsObeyed, IsPumped, IsTurn, IsRun, IsSimulation}
 use Rattle.nd_sim.specs.RunParts.{IsPumpingPart, IsTurnPart, IsSimulationPart}
+use Rattle.nd_sim.specs.declared.fault.SimFault.{SimFault}
+use Rattle.nd_sim.specs.declared.fault.SimFault.TheVariants.{Write, Memory}
+
+-- the answer is the writer's fault
+abbrev pub is_write_failure : {A : Type 0} → Result A SimFault → Bool
+is_write_failure (Ok _) = false
+is_write_failure (Err Write) = true
+is_write_failure (Err Memory) = false
 
 -- what a command came to
 pub record WritesObeyed (i : Premises) (old new : List Entry) (command : Command) (before written : Option (List ℕ)) : Type 0 where

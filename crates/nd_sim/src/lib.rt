@@ -5,6 +5,7 @@ pub mod answer;
 mod calls;
 pub mod commands;
 pub mod fault;
+pub mod laws;
 mod leases;
 mod lines;
 pub mod turns;

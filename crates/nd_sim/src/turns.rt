@@ -1,10 +1,9 @@
 //! The turns of a script's commands, with the lines that are written of them.
 
-ghost use Rattle.std.specs.Prelude.{◌≡◌, true, [], IfErr, OnOk, OnErr};
+ghost use Rattle.std.specs.Prelude.{◌≡◌, ◌||◌, [], OnOk, OnErr};
 ghost use Rattle.std.specs.List.{All};
-ghost use Rattle.nd_sim.specs.declared.fault.SimFault.{SimFault};
 ghost use Rattle.nd_sim.specs.Answers.{IsNamed};
-ghost use Rattle.nd_sim.specs.Written.{WritesObeyed, WritesPumped, WritesPumpedPart, WritesTurn, WritesTurnPart, WritesRun, WritesSimulationPart};
+ghost use Rattle.nd_sim.specs.Written.{WritesObeyed, WritesPumped, WritesPumpedPart, WritesTurn, WritesTurnPart, WritesRun, WritesSimulationPart, is_write_failure};
 
 use crate::answer::Answer;
 use crate::commands::obey;
@@ -21,7 +20,8 @@ use std::io;
 /// it.
 ///
 /// Refuses with `Write` (1), where the device refused a write and is marked, and with `Memory` (2) where
-/// an allocation is refused. The beginning of the text is out then.
+/// an allocation is refused; nothing but a refused write sets the mark. The beginning of the text is out
+/// then.
 #[tactic(auto, using(crate::proofs::Simulating::runs))]
 pub fn take_turns<W: io::Write>(
     alloc: Global,
@@ -34,7 +34,7 @@ pub fn take_turns<W: io::Write>(
     ensures inputs { dispatch.new.inputs ≡ dispatch.old.inputs }
     ensures written { OnOk result (WritesRun dispatch.old.inputs commands.items dispatch.new.history (W.contents out.old.device) (W.contents out.new.device)) }
     ensures partly { OnErr result (WritesSimulationPart dispatch.old.inputs commands.items (W.contents out.old.device) (W.contents out.new.device)) }
-    ensures mark { IfErr result (λ e. e ≡ SimFault.Write → out.new.is_marked ≡ true) }
+    ensures mark { out.new.is_marked ≡ (out.old.is_marked || is_write_failure result) }
 {
     match pump(dispatch, out) {
         Ok(()) => {}
@@ -61,7 +61,7 @@ fn turn<W: io::Write>(
     ensures inputs { dispatch.new.inputs ≡ dispatch.old.inputs }
     ensures written { OnOk result (WritesTurn dispatch.old.inputs dispatch.old.history dispatch.new.history command (W.contents out.old.device) (W.contents out.new.device)) }
     ensures partly { OnErr result (WritesTurnPart dispatch.old.inputs dispatch.old.history command (W.contents out.old.device) (W.contents out.new.device)) }
-    ensures mark { IfErr result (λ e. e ≡ SimFault.Write → out.new.is_marked ≡ true) }
+    ensures mark { out.new.is_marked ≡ (out.old.is_marked || is_write_failure result) }
 {
     match act(alloc, dispatch, command, out) {
         Ok(()) => {}
@@ -86,7 +86,7 @@ fn act<W: io::Write>(
     ensures inputs { dispatch.new.inputs ≡ dispatch.old.inputs }
     ensures written { OnOk result (WritesObeyed dispatch.old.inputs dispatch.old.history dispatch.new.history command (W.contents out.old.device) (W.contents out.new.device)) }
     ensures partly { OnErr result (WritesTurnPart dispatch.old.inputs dispatch.old.history command (W.contents out.old.device) (W.contents out.new.device)) }
-    ensures mark { IfErr result (λ e. e ≡ SimFault.Write → out.new.is_marked ≡ true) }
+    ensures mark { out.new.is_marked ≡ (out.old.is_marked || is_write_failure result) }
 {
     let before = dispatch.history().len();
     match obey(alloc, dispatch, command) {
@@ -113,7 +113,7 @@ fn pump<W: io::Write>(dispatch: &mut Dispatch, out: &mut Told<W>) -> Result<(), 
     ensures inputs { dispatch.new.inputs ≡ dispatch.old.inputs }
     ensures written { OnOk result (WritesPumped dispatch.old.inputs dispatch.old.history dispatch.new.history (W.contents out.old.device) (W.contents out.new.device)) }
     ensures partly { OnErr result (WritesPumpedPart dispatch.old.inputs dispatch.old.history (W.contents out.old.device) (W.contents out.new.device)) }
-    ensures mark { IfErr result (λ e. e ≡ SimFault.Write → out.new.is_marked ≡ true) }
+    ensures mark { out.new.is_marked ≡ (out.old.is_marked || is_write_failure result) }
 {
     let before = dispatch.history().len();
     match dispatch.pump() {

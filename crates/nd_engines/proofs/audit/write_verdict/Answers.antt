@@ -2,7 +2,7 @@ use Rattle.std.proofs.Common.{◌≡◌, List, length, reverse, refl, subst}
 use Rattle.nd_machines.specs.Builders.{Builder}
 use Rattle.nd_history.specs.Legal.{IsLegal}
 use Rattle.nd_report.specs.Audits.{premises, IsFirstIllegal}
-use Rattle.nd_engines.proofs.Answering.{said_legal, said_legal_part, said_illegal, said_illegal_part, unsaid_fault, unsaid_write}
+use Rattle.nd_engines.proofs.Answering.{said_legal, said_legal_part, said_illegal, said_illegal_part, unsaid_fault, unsaid_mark, unsaid_write}
 use Rattle.nd_engines.proofs.audit.write_verdict.Goals as goal
 
 pub returns-in-Ok-clause-written : goal.returns-in-Ok-clause-written
@@ -22,7 +22,10 @@ returns-in-Ok-clause-partly g c =
     c.say_legal.ensures.partly
 
 pub returns-in-Ok-clause-fault : goal.returns-in-Ok-clause-fault
-returns-in-Ok-clause-fault g c = unsaid_fault c.say_legal.result c.say_legal.new.output.is_marked c.say_legal.ensures.fault c.say_legal.ensures.mark
+returns-in-Ok-clause-fault g c = unsaid_fault c.say_legal.result c.args.output.now.is_marked c.say_legal.new.output.is_marked c.say_legal.ensures.fault c.say_legal.ensures.mark
+
+pub returns-in-Ok-clause-mark : goal.returns-in-Ok-clause-mark
+returns-in-Ok-clause-mark g c = unsaid_mark c.say_legal.result c.args.output.now.is_marked c.say_legal.new.output.is_marked c.say_legal.ensures.fault c.say_legal.ensures.mark
 
 pub returns-in-Ok-clause-untouched : goal.returns-in-Ok-clause-untouched
 returns-in-Ok-clause-untouched g c = unsaid_write c.say_legal.result (c.say_legal.new.output ≡ c.args.output.now) c.say_legal.ensures.fault
@@ -46,7 +49,10 @@ returns-in-Err-Illegal-clause-partly g c =
     c.say_illegal.ensures.partly
 
 pub returns-in-Err-Illegal-clause-fault : goal.returns-in-Err-Illegal-clause-fault
-returns-in-Err-Illegal-clause-fault g c = unsaid_fault c.say_illegal.result c.say_illegal.new.output.is_marked c.say_illegal.ensures.fault c.say_illegal.ensures.mark
+returns-in-Err-Illegal-clause-fault g c = unsaid_fault c.say_illegal.result c.args.output.now.is_marked c.say_illegal.new.output.is_marked c.say_illegal.ensures.fault c.say_illegal.ensures.mark
+
+pub returns-in-Err-Illegal-clause-mark : goal.returns-in-Err-Illegal-clause-mark
+returns-in-Err-Illegal-clause-mark g c = unsaid_mark c.say_illegal.result c.args.output.now.is_marked c.say_illegal.new.output.is_marked c.say_illegal.ensures.fault c.say_illegal.ensures.mark
 
 pub returns-in-Err-Illegal-clause-untouched : goal.returns-in-Err-Illegal-clause-untouched
 returns-in-Err-Illegal-clause-untouched g c = unsaid_write c.say_illegal.result (c.say_illegal.new.output ≡ c.args.output.now) c.say_illegal.ensures.fault

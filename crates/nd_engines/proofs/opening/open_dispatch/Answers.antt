@@ -9,4 +9,4 @@ returns-in-Ok-new-clause-opened g c =
     c.in-Ok.ensures.read c.in-Ok.ensures.local c.in-Ok-new.ensures.inputs c.in-Ok-new.ensures.empty
 
 pub returns-in-Err-new-clause-refused : goal.returns-in-Err-new-clause-refused
-returns-in-Err-new-clause-refused g c = inl tt
+returns-in-Err-new-clause-refused g c = inl c.in-Ok.ensures.read.bundle.within

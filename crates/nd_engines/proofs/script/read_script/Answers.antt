@@ -1,4 +1,4 @@
-use Rattle.std.proofs.Common.{◌≡◌, ◌+◌, List, length, ap, ◌∙◌}
+use Rattle.std.proofs.Common.{◌≡◌, ◌+◌, List, length, ap, ◌∙◌, rules}
 use Rattle.nd_machines.specs.Builders.{Builder}
 use Rattle.nd_graph.specs.Graphs.{Nodes}
 use Rattle.nd_history.specs.Choices.{machines_in}
@@ -26,4 +26,5 @@ returns-in-Err-clause-refused c =
     let park : length c.machines.result.now + 1 ≡ machines_in i = ap (λ (machines : List Builder). length machines + 1) c.machines.ensures.value in (
       c.if-script-gt-LIMIT.false,
       script_refused i c.len-drvs.result (length c.machines.result.now + 1) c.args.script.now c.in-Err.refusal all park c.in-Err.ensures.refused,
+      search rules,
     )

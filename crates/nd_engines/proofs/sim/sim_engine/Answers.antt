@@ -1,5 +1,5 @@
-use Rattle.std.proofs.Common.{inl, refl}
-use Rattle.nd_engines.proofs.Answering.{sim_answered, sim_begun}
+use Rattle.std.proofs.Common.{inl, refl, sym, ◌∙◌}
+use Rattle.nd_engines.proofs.Answering.{sim_answered, sim_begun, sim_read_no_write}
 use Rattle.nd_engines.proofs.sim.sim_engine.Goals as goal
 
 pub returns-in-Err-clause-fault : goal.returns-in-Err-clause-fault
@@ -28,3 +28,8 @@ returns-in-Err-Memory-clause-partly g c = λ begun.
     sim_begun c.args.options.now c.args.script.now (g.R.Read.remaining c.args.input.now.device) (g.R.Read.remaining c.read_sim_inputs.new.input.device)
     (g.W.Write.contents c.args.output.now.device) (g.W.Write.contents c.perform.new.output.device) c.in-Ok.given.dispatch c.in-Ok.given.commands.items
     c.in-Ok.ensures.read c.in-Err-Memory.ensures.partly
+
+pub returns-in-Err-clause-writer_mark : goal.returns-in-Err-clause-writer_mark
+returns-in-Err-clause-writer_mark g c =
+    c.requires.writer ∙ sym (sim_read_no_write c.args.options.now c.args.script.now (g.R.Read.remaining c.args.input.now.device) (g.R.Read.remaining c.read_sim_inputs.new.input.device)
+    c.read_sim_inputs.new.input.is_marked c.in-Err.fault c.in-Err.ensures.fault)

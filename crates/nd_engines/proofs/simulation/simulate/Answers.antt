@@ -13,7 +13,7 @@ returns-in-Ok-clause-partly g c =
 
 pub returns-in-Ok-clause-mark : goal.returns-in-Ok-clause-mark
 returns-in-Ok-clause-mark g c =
-    flushed_mark c.play-answer.result c.play-answer.new.out.is_marked c.flush.new.self.is_marked c.play-answer.ensures.mark c.in-Ok.ensures.mark
+    flushed_mark _ c.args.out.now.is_marked c.play-answer.new.out.is_marked c.flush.new.self.is_marked c.play-answer.ensures.mark c.in-Ok.ensures.mark
 
 pub returns-in-Err-clause-partly : goal.returns-in-Err-clause-partly
 returns-in-Err-clause-partly g c =
@@ -22,5 +22,5 @@ returns-in-Err-clause-partly g c =
     c.play-answer.ensures.partly c.flush.ensures.kept
 
 pub returns-in-Err-clause-mark : goal.returns-in-Err-clause-mark
-returns-in-Err-clause-mark g c = λ is.
-    unflushed_mark c.play-answer.new.out.is_marked c.flush.new.self.is_marked c.in-Err.ensures.mark
+returns-in-Err-clause-mark g c =
+    unflushed_mark c.args.out.now.is_marked c.play-answer.new.out.is_marked c.flush.new.self.is_marked c.in-Err.ensures.mark

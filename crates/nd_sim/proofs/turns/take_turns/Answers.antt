@@ -1,4 +1,5 @@
-use Rattle.std.proofs.Common.{List, [], ◌∷◌, ◌++◌, sym, ap, subst, ◌∙◌, append_assoc}
+use Rattle.std.proofs.Common.{List, [], ◌∷◌, ◌++◌, sym, ap, subst, ◌∙◌, append_assoc, arith}
+use Rattle.std.proofs.lemmas.Grind.{common_steps}
 use Rattle.std.specs.List.{All}
 use Rattle.std.specs.Vec.Iter.{into_iter_items}
 use Rattle.std.proofs.lemmas.List.Elements.{All-head, All-rest}
@@ -24,6 +25,7 @@ loop-command-preserved g c = record {
   named =
       All-rest (IsNamed c.args.dispatch.now.inputs) c.in-Some.command (into_iter_items c.next.new.self) _ c.in-Some.ensures.steps.0
       c.loop-command.invariant.named;
+  mark = let said = c.in-Ok-turn.ensures.mark in let kept = c.loop-command.invariant.mark in grind (arith, common_steps);
 }
 
 pub returns-in-Err-turn-clause-partly : goal.returns-in-Err-turn-clause-partly

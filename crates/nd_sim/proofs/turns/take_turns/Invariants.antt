@@ -12,4 +12,5 @@ invariant-loop-command g l = record {
   written : WritesRun l.fn.dispatch.inputs l.yielded l.dispatch.history (g.W.Write.contents l.fn.out.device) (g.W.Write.contents l.out.device);
   whole : l.fn.commands.items ≡ l.yielded ++ into_iter_items l.command-iterator;
   named : All (IsNamed l.fn.dispatch.inputs) (into_iter_items l.command-iterator);
+  mark : l.out.is_marked ≡ l.fn.out.is_marked;
 }
