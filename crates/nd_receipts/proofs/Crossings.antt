@@ -109,7 +109,7 @@ both_yes : (a b : Bool) → a ≡ true → b ≡ true → (a && b) ≡ true
 both_yes true b h k = k
 both_yes false b h k = h
 
-place_self : (p : ℕ × ℕ) → is_place p (Some p) ≡ true
+pub place_self : (p : ℕ × ℕ) → is_place p (Some p) ≡ true
 place_self p = both_yes (p.0 == p.0) (p.1 == p.1) (eq-eqb p.0 p.0 refl) (eq-eqb p.1 p.1 refl)
 
 and_first : (a b : Bool) → (a && b) ≡ true → a ≡ true
@@ -120,7 +120,7 @@ and_second : (a b : Bool) → (a && b) ≡ true → b ≡ true
 and_second true b h = h
 and_second false b h = absurd (cc)
 
-place_same : (p q : ℕ × ℕ) → is_place p (Some q) ≡ true → q ≡ p
+pub place_same : (p q : ℕ × ℕ) → is_place p (Some q) ≡ true → q ≡ p
 place_same p q h =
     let a : p.0 ≡ q.0 = eqb-true p.0 q.0 (and_first (p.0 == q.0) (p.1 == q.1) h) in
     let b : p.1 ≡ q.1 = eqb-true p.1 q.1 (and_second (p.0 == q.0) (p.1 == q.1) h) in

@@ -1,5 +1,6 @@
 pub mod Dealt
 pub mod Made
+pub mod Meaning
 pub mod Noted
 pub mod NotesKept
 pub mod Receipts

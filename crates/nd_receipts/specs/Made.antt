@@ -29,7 +29,7 @@ is_made (Enable m) = false
 abbrev pub made : List Entry → ℕ
 made history = count_by is_made history
 
--- it says neither that nothing more is begun nor that no worker serves a lease
+-- it says neither that nothing more is begun nor that no worker serves a lease, and neither drains nor enables a machine
 abbrev pub is_quiet : Entry → Bool
 is_quiet (Failed d why) = is_worker_cause why
 is_quiet Stop = false
@@ -38,5 +38,5 @@ is_quiet (Down d) = true
 is_quiet (Built d refs) = true
 is_quiet (Chosen d m s) = true
 is_quiet (NoBuilder d) = true
-is_quiet (Drain m) = true
-is_quiet (Enable m) = true
+is_quiet (Drain m) = false
+is_quiet (Enable m) = false

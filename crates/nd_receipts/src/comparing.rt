@@ -166,18 +166,21 @@ pub fn has_stop(history: &[Entry]) -> bool
     history.iter().any(|entry| is_stop(entry))
 }
 
-/// Whether the entry says neither that nothing more is begun nor that no worker serves a lease.
+/// Whether the entry says neither that nothing more is begun nor that no worker serves a lease, and
+/// neither drains nor enables a machine.
 fn is_quiet_entry(entry: &Entry) -> bool
     ensures { result ≡ is_quiet entry.now }
 {
     match entry {
         Entry::Stop => false,
+        Entry::Drain { .. } | Entry::Enable { .. } => false,
         Entry::Failed { why, .. } => *why != Why::NoWorker,
         _ => true,
     }
 }
 
-/// Whether none of these entries is a stop or the failure of a lease that no worker served.
+/// Whether none of these entries is a stop, the failure of a lease that no worker served, a drain or an
+/// enable.
 pub fn is_quiet(history: &[Entry]) -> bool
     ensures { result ≡ list_all is_quiet history.now }
 {

@@ -4,6 +4,7 @@
 
 pub mod comparing;
 pub mod dealing;
+pub mod laws;
 pub mod notes;
 pub mod receipt;
 pub mod tables;

@@ -2,24 +2,27 @@
 
 ghost use Rattle.std.specs.Prelude.{◌≡◌, ◌+◌, ◌<◌, ◌≤◌, true, IfErr, OnOk, OnErr, IsTrue};
 ghost use Rattle.nd_receipts.specs.Made.{made, is_worker_cause};
+ghost use Rattle.nd_workers.specs.Steps.{RunsOn};
 
 use crate::abandoning::abandon;
+use crate::opened::Opened;
 use nd_closure::Refs;
 use nd_history::{Ticket, Why};
 use nd_ledger::{Dispatch, Job, Refusal, Refused};
 use nd_path::PathSet;
 use std::alloc::Global;
-use std::sync::ledger::{Book, Ledger, Share};
+use std::sync::ledger::{Book, Share};
 
 /// The dispatch with the book of what the workers made, and the places that workers serve.
 #[derive(Drop)]
-pub(crate) struct Desk<L: Ledger> {
+pub(crate) struct Desk<L: Opened> {
     pub(crate) dispatch: Dispatch,
     pub(crate) book: Book<L>,
     pub(crate) manned: Vec<(u32, u32)>,
     pub(crate) short: bool,
     pub(crate) threadless: bool,
     ghost counted: { made dispatch.history ≡ book.total },
+    ghost runs: { RunsOn L.opening dispatch },
 }
 
 /// What there is to do for a worker.
@@ -35,9 +38,9 @@ pub(crate) enum Next {
     Short(Ticket),
 }
 
-impl<L: Ledger> Desk<L> {
+impl<L: Opened> Desk<L> {
     /// Records a start.
-    #[tactic(auto, using(crate::proofs::Counts::made_one))]
+    #[tactic(auto, using(crate::proofs::Counts::made_one, crate::proofs::Onward::runs_made))]
     pub(crate) fn start(
         &mut self,
         alloc: Global,
@@ -63,7 +66,7 @@ impl<L: Ledger> Desk<L> {
     }
 
     /// Records that a lease is given back.
-    #[tactic(auto, using(crate::proofs::Counts::made_one))]
+    #[tactic(auto, using(crate::proofs::Counts::made_one, crate::proofs::Onward::runs_made))]
     pub(crate) fn down(&mut self, ticket: Ticket, mine: &mut Share<L>) -> Result<usize, Refusal>
         requires { 0 < mine.old.parts }
         ensures ok { OnOk result (mine.new.amount ≡ mine.old.amount + 1) }
@@ -82,7 +85,7 @@ impl<L: Ledger> Desk<L> {
     }
 
     /// Records the end of a build with its outputs.
-    #[tactic(auto, using(crate::proofs::Counts::made_one))]
+    #[tactic(auto, using(crate::proofs::Counts::made_one, crate::proofs::Onward::runs_made))]
     pub(crate) fn end(
         &mut self,
         alloc: Global,
@@ -110,7 +113,7 @@ impl<L: Ledger> Desk<L> {
     }
 
     /// Records the end of a lease without outputs.
-    #[tactic(auto, using(crate::proofs::Counts::made_one))]
+    #[tactic(auto, using(crate::proofs::Counts::made_one, crate::proofs::Onward::runs_made))]
     pub(crate) fn fail(
         &mut self,
         ticket: Ticket,
@@ -142,23 +145,25 @@ impl<L: Ledger> Desk<L> {
     }
 
     /// Makes the choices that can be made. Where memory is refused nothing more is begun.
-    #[tactic(auto, using(crate::proofs::Counts::pumped_made, crate::proofs::Counts::pumped_by_made, crate::proofs::Counts::abandoned_made))]
     pub(crate) fn pump(&mut self) {
-        let Desk {
-            dispatch,
-            manned,
-            short,
-            ..
-        } = self;
-        if dispatch.pump().is_err() {
-            *short = true;
-            abandon(dispatch, manned.as_slice());
+        if !self.choose() {
+            self.end_short();
         }
     }
 
-    /// The worker of this place leaves for want of memory, and nothing more is begun.
-    #[tactic(auto, using(crate::proofs::Counts::abandoned_made))]
-    pub(crate) fn leave(&mut self, machine: u32, slot: u32) {
+    /// Makes the choices that can be made. The answer is whether there was memory for them all.
+    #[tactic(auto, using(crate::proofs::Counts::pumped_made, crate::proofs::Counts::pumped_by_made, crate::proofs::Onward::runs_pumped, crate::proofs::Onward::runs_pumped_by))]
+    fn choose(&mut self) -> bool {
+        let Desk { dispatch, .. } = self;
+        match dispatch.pump() {
+            Ok(_) => true,
+            Err(_) => false,
+        }
+    }
+
+    /// For want of memory nothing more is begun.
+    #[tactic(auto, using(crate::proofs::Counts::abandoned_made, crate::proofs::Onward::runs_abandoned))]
+    fn end_short(&mut self) {
         let Desk {
             dispatch,
             manned,
@@ -166,12 +171,18 @@ impl<L: Ledger> Desk<L> {
             ..
         } = self;
         *short = true;
-        manned.retain(|place| machine != place.0 || slot != place.1);
         abandon(dispatch, manned.as_slice());
     }
 
+    /// The worker of this place leaves for want of memory, and nothing more is begun.
+    pub(crate) fn leave(&mut self, machine: u32, slot: u32) {
+        self.manned
+            .retain(|place| machine != place.0 || slot != place.1);
+        self.end_short();
+    }
+
     /// Only the first `started` workers have threads, and nothing more is begun.
-    #[tactic(auto, using(crate::proofs::Counts::abandoned_made))]
+    #[tactic(auto, using(crate::proofs::Counts::abandoned_made, crate::proofs::Onward::runs_abandoned))]
     pub(crate) fn unstarted(&mut self, started: usize) {
         let Desk {
             dispatch,

@@ -5,6 +5,7 @@ ghost use Rattle.nd_receipts.specs.Made.{is_worker_cause};
 ghost use Rattle.nd_receipts.specs.Noted.{HasNoted};
 
 use crate::desk::Desk;
+use crate::opened::Opened;
 use nd_closure::Refs;
 use nd_history::{Entry, Ticket, Why};
 use nd_ledger::{Refusal, Refused};
@@ -12,18 +13,18 @@ use nd_path::PathSet;
 use nd_receipts::notes::Notes;
 use nd_receipts::receipt::{Kind, Receipt};
 use std::alloc::{AllocError, Global};
-use std::sync::ledger::{Ledger, Share};
+use std::sync::ledger::Share;
 
 /// A worker's share, which is the number of its receipts, and its notes.
 #[derive(Drop)]
-pub(crate) struct Hand<L: Ledger> {
+pub(crate) struct Hand<L: Opened> {
     pub(crate) share: Share<L>,
     pub(crate) notes: Notes,
     ghost part: { share.parts ≡ 1 },
     ghost counted: { share.amount ≡ length notes.receipts },
 }
 
-impl<L: Ledger> Hand<L> {
+impl<L: Opened> Hand<L> {
     /// A hand without receipts. It takes no memory.
     pub(crate) fn new(alloc: Global, share: Share<L>) -> Hand<L>
         requires part { share.parts ≡ 1 }

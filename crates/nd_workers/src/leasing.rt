@@ -8,6 +8,7 @@ ghost use Rattle.nd_transports.specs.Services.{Fetches, Serves};
 
 use crate::desk::Desk;
 use crate::hand::Hand;
+use crate::opened::Opened;
 use nd_closure::Refs;
 use nd_history::{Entry, Ticket, Why};
 use nd_ledger::{Job, Refusal, Refused};
@@ -17,12 +18,11 @@ use nd_transports::kinds::{Ended, Phase};
 use nd_transports::serving::{Fetch, Outcome};
 use nd_transports::transport::Transport;
 use std::alloc::{AllocError, Global};
-use std::sync::ledger::Ledger;
 use std::sync::{Condvar, Mutex, Wait};
 
 /// What the workers share.
 #[derive(Drop)]
-pub(crate) struct Shared<L: Ledger> {
+pub(crate) struct Shared<L: Opened> {
     pub(crate) desk: Mutex<Desk<L>>,
     pub(crate) changed: Condvar,
 }
@@ -59,7 +59,7 @@ fn build<T: Transport>(transport: &mut T) -> Outcome
 }
 
 /// Under the lock, gives a lease back.
-fn down<L: Ledger, R: Wait>(
+fn down<L: Opened, R: Wait>(
     rt: &R,
     shared: &Shared<L>,
     hand: &mut Hand<L>,
@@ -77,7 +77,7 @@ fn down<L: Ledger, R: Wait>(
 }
 
 /// Under the lock, ends a lease without outputs.
-fn fail<L: Ledger, R: Wait>(
+fn fail<L: Opened, R: Wait>(
     rt: &R,
     shared: &Shared<L>,
     hand: &mut Hand<L>,
@@ -97,7 +97,7 @@ fn fail<L: Ledger, R: Wait>(
 }
 
 /// Under the lock, makes a start. It gives nobody work, so it wakes nobody.
-fn start<L: Ledger, R: Wait>(
+fn start<L: Opened, R: Wait>(
     rt: &R,
     alloc: Global,
     shared: &Shared<L>,
@@ -117,7 +117,7 @@ fn start<L: Ledger, R: Wait>(
 }
 
 /// Under the lock, ends a build with its outputs.
-fn end<L: Ledger, R: Wait>(
+fn end<L: Opened, R: Wait>(
     rt: &R,
     alloc: Global,
     shared: &Shared<L>,
@@ -138,7 +138,7 @@ fn end<L: Ledger, R: Wait>(
 }
 
 /// Under the lock, ends a lease without outputs, where no copy is to be noted beside it.
-pub(crate) fn give_up<L: Ledger, R: Wait>(
+pub(crate) fn give_up<L: Opened, R: Wait>(
     rt: &R,
     alloc: Global,
     shared: &Shared<L>,
@@ -172,7 +172,7 @@ fn entry_of_end(drv: u32, refs: &Refs) -> Result<Entry, AllocError>
 
 /// Makes a start with the paths that were copied. The answer is whether there was memory for it; where
 /// there was none the lease failed.
-fn begin<L: Ledger, R: Wait>(
+fn begin<L: Opened, R: Wait>(
     rt: &R,
     alloc: Global,
     shared: &Shared<L>,
@@ -193,7 +193,7 @@ fn begin<L: Ledger, R: Wait>(
 }
 
 /// What becomes of a start that was refused: for want of memory the lease failed.
-fn unstarted<L: Ledger, R: Wait>(
+fn unstarted<L: Opened, R: Wait>(
     rt: &R,
     shared: &Shared<L>,
     hand: &mut Hand<L>,
@@ -217,7 +217,7 @@ fn unstarted<L: Ledger, R: Wait>(
 /// Ends a build that reported these references. Where it may not have them, or where there is no
 /// memory for them, the lease failed.
 #[tactic(auto, using(crate::proofs::Going::endings))]
-fn finish<L: Ledger, R: Wait>(
+fn finish<L: Opened, R: Wait>(
     rt: &R,
     alloc: Global,
     shared: &Shared<L>,
@@ -241,7 +241,7 @@ fn finish<L: Ledger, R: Wait>(
 /// What becomes of an end that was refused: for wrong references and for want of memory the lease
 /// failed.
 #[tactic(auto, using(crate::proofs::Going::endings))]
-fn unfinished<L: Ledger, R: Wait>(
+fn unfinished<L: Opened, R: Wait>(
     rt: &R,
     alloc: Global,
     shared: &Shared<L>,
@@ -265,7 +265,7 @@ fn unfinished<L: Ledger, R: Wait>(
 
 /// Builds what was copied, and makes the entry of its end.
 #[tactic(auto, using(crate::proofs::Going::goes_status, crate::proofs::Going::goes_lost, crate::proofs::Going::goes_unreported))]
-fn build_lease<L: Ledger, T: Transport, R: Wait>(
+fn build_lease<L: Opened, T: Transport, R: Wait>(
     rt: &R,
     alloc: Global,
     shared: &Shared<L>,
@@ -300,7 +300,7 @@ fn build_lease<L: Ledger, T: Transport, R: Wait>(
 
 /// Copies what a lease needs, and makes the entry of its start. The answer is whether it started.
 #[tactic(auto, using(crate::proofs::Going::goes_begun, crate::proofs::Going::begun_room, crate::proofs::Going::goes_short))]
-fn fetch_lease<L: Ledger, T: Transport, R: Wait>(
+fn fetch_lease<L: Opened, T: Transport, R: Wait>(
     rt: &R,
     alloc: Global,
     shared: &Shared<L>,
@@ -361,7 +361,7 @@ fn copied_paths(alloc: Global, calls: u8, paths: PathSet) -> PathSet
 }
 
 /// Serves a lease to its end.
-pub(crate) fn serve<L: Ledger, T: Transport, R: Wait>(
+pub(crate) fn serve<L: Opened, T: Transport, R: Wait>(
     rt: &R,
     alloc: Global,
     shared: &Shared<L>,

@@ -7,6 +7,7 @@ mod faults;
 mod hand;
 mod leasing;
 mod manning;
+mod opened;
 pub mod run_end;
 pub mod running;
 pub mod seat;

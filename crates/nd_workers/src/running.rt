@@ -9,11 +9,13 @@ ghost use Rattle.nd_receipts.specs.Dealt.{AreApart, AreReceipted};
 ghost use Rattle.nd_receipts.specs.Walks.{AreUnknown};
 ghost use Rattle.nd_workers.specs.Runs.{AreManned, IsRunRefused, IsOver, IsServedIn};
 ghost use Rattle.nd_workers.specs.Served.{IsServed};
+ghost use Rattle.nd_workers.specs.Steps.{RunsOn};
 
 use crate::desk::Desk;
 use crate::faults::{are_receipted, are_sound, fault_of};
 use crate::leasing::Shared;
 use crate::manning::{are_manned, places_of};
+use crate::opened::Opened;
 use crate::run_end::{NotRun, Ran, Refused, RunEnd, RunFault, RunRefusal};
 use crate::seat::{Seat, Worker};
 use crate::threads::{Ended, Ready, Running, Stint, in_scope};
@@ -23,7 +25,7 @@ use nd_receipts::{Receipt, Tables, count_made};
 use nd_transports::Transport;
 use std::alloc::{AllocError, Global};
 use std::marker::Brand;
-use std::sync::ledger::{Blank, Ledger, Share};
+use std::sync::ledger::{Blank, Share};
 use std::sync::{Condvar, Mutex, Wait};
 use std::thread::Threads;
 
@@ -40,7 +42,7 @@ struct Plan {
 
 /// Room for what comes back of a run.
 #[derive(Drop)]
-struct Room<L: Ledger, T: Transport> {
+struct Room<L: Opened, T: Transport> {
     running: Vec<Running<L, T>>,
     stints: Vec<Stint<T>>,
     back: Back<T>,
@@ -54,7 +56,7 @@ struct Back<T> {
 }
 
 /// Room for so many workers.
-fn make_room<L: Ledger, T: Transport>(alloc: Global, count: usize) -> Result<Room<L, T>, AllocError>
+fn make_room<L: Opened, T: Transport>(alloc: Global, count: usize) -> Result<Room<L, T>, AllocError>
     ensures running { IfOk result (λ r. (vec_len r.running ≡ 0) × (count ≤ vec_capacity r.running)) }
     ensures stints { IfOk result (λ r. (vec_len r.stints ≡ 0) × (count ≤ vec_capacity r.stints)) }
     ensures workers { IfOk result (λ r. (vec_len r.back.workers ≡ 0) × (count ≤ vec_capacity r.back.workers)) }
@@ -298,7 +300,8 @@ struct Served<T> {
 }
 
 /// Serves the leases of a dispatch, with a ledger of the entries that workers make.
-fn serve_leases<L: Ledger + Send + Sync, T: Transport, R: Threads + Wait + Sync>(
+#[tactic(auto, using(crate::proofs::Onward::runs_first))]
+fn serve_leases<L: Opened + Send + Sync, T: Transport, R: Threads + Wait + Sync>(
     rt: &R,
     alloc: Global,
     dispatch: Dispatch,
@@ -311,10 +314,12 @@ fn serve_leases<L: Ledger + Send + Sync, T: Transport, R: Threads + Wait + Sync>
     requires name { blank.name ≡ L.name }
     requires parts { blank.parts ≡ L.parts }
     requires one_more { blank.parts ≡ vec_len seats + 1 }
+    requires opening { L.opening ≡ dispatch }
     requires no_threads { vec_len running ≡ 0 }
     requires running_room { vec_len seats ≤ vec_capacity running }
     requires no_stints { vec_len stints ≡ 0 }
     requires stints_room { vec_len seats ≤ vec_capacity stints }
+    ensures runs { RunsOn dispatch result.dispatch }
     ensures count { vec_len result.stints ≡ vec_len seats }
     ensures total { made result.dispatch.history ≡ made dispatch.history + sum_by (λ x. length x.notes.receipts) result.stints.items }
     ensures each { AllZip (λ w x. IsServed (record { machine = w.machine; slot = w.slot; calls = (T.state w.transport).calls }) x.end (record { machine = x.seat.machine; slot = x.seat.slot; calls = (T.state x.seat.transport).calls }) x.notes) seats.items result.stints.items }
@@ -352,9 +357,10 @@ fn serve_leases<L: Ledger + Send + Sync, T: Transport, R: Threads + Wait + Sync>
 }
 
 /// What lay under the lock, where the ledger's whole share came back: it is what the workers made.
-fn close<L: Ledger>(desk: Desk<L>, all: Share<L>) -> (Dispatch, bool, bool)
+fn close<L: Opened>(desk: Desk<L>, all: Share<L>) -> (Dispatch, bool, bool)
     requires { all.parts ≡ L.parts }
-    ensures { made result.0.history ≡ all.amount }
+    ensures total { made result.0.history ≡ all.amount }
+    ensures runs { RunsOn L.opening result.0 }
 {
     let mut all = all;
     let Desk {
@@ -372,7 +378,7 @@ fn close<L: Ledger>(desk: Desk<L>, all: Share<L>) -> (Dispatch, bool, bool)
 }
 
 /// Runs the dispatch, with room for what comes back.
-fn run_in<L: Ledger + Send + Sync, T: Transport, R: Threads + Wait + Sync>(
+fn run_in<L: Opened + Send + Sync, T: Transport, R: Threads + Wait + Sync>(
     rt: &R,
     alloc: Global,
     dispatch: Dispatch,
@@ -386,6 +392,7 @@ fn run_in<L: Ledger + Send + Sync, T: Transport, R: Threads + Wait + Sync>(
     requires parts { blank.parts ≡ L.parts }
     requires one_more { blank.parts ≡ vec_len seats + 1 }
     requires apart { AreApart plan.places.items }
+    requires begun { L.opening ≡ dispatch }
     requires opening { plan.opening ≡ dispatch }
     requires choices { AreUnknown (length plan.places.items) plan.tables.choices.items }
     requires met { plan.tables.met.items ≡ replicate (length plan.places.items) 0 }
@@ -394,6 +401,7 @@ fn run_in<L: Ledger + Send + Sync, T: Transport, R: Threads + Wait + Sync>(
     requires workers { (vec_len room.back.workers ≡ 0) × (vec_len seats ≤ vec_capacity room.back.workers) }
     requires receipts { (vec_len room.back.receipts ≡ 0) × (vec_len seats ≤ vec_capacity room.back.receipts) }
     ensures total { made result.dispatch.history ≡ made dispatch.history + sum_by (λ v. vec_len v) result.receipts.items }
+    ensures runs { RunsOn dispatch result.dispatch }
     ensures goes_on { (result.fault ≡ Some RunFault.Receipts → ⊥) → IsOver dispatch result.dispatch }
     ensures receipted { result.fault ≡ None → AreReceipted plan.places.items (length dispatch.history) (drop (length dispatch.history) result.dispatch.history) (map (λ v. v.items) result.receipts.items) }
     ensures quiet { result.fault ≡ None → list_all is_quiet (drop (length dispatch.history) result.dispatch.history) ≡ true }
@@ -417,7 +425,7 @@ fn run_in<L: Ledger + Send + Sync, T: Transport, R: Threads + Wait + Sync>(
 }
 
 /// Makes room for what comes back, and runs the dispatch.
-fn run_named<L: Ledger + Send + Sync, T: Transport, R: Threads + Wait + Sync>(
+fn run_named<L: Opened + Send + Sync, T: Transport, R: Threads + Wait + Sync>(
     rt: &R,
     alloc: Global,
     dispatch: Dispatch,
@@ -430,6 +438,7 @@ fn run_named<L: Ledger + Send + Sync, T: Transport, R: Threads + Wait + Sync>(
     requires parts { blank.parts ≡ L.parts }
     requires one_more { blank.parts ≡ vec_len seats + 1 }
     requires apart { AreApart plan.places.items }
+    requires begun { L.opening ≡ dispatch }
     requires opening { plan.opening ≡ dispatch }
     requires choices { AreUnknown (length plan.places.items) plan.tables.choices.items }
     requires met { plan.tables.met.items ≡ replicate (length plan.places.items) 0 }
@@ -437,6 +446,7 @@ fn run_named<L: Ledger + Send + Sync, T: Transport, R: Threads + Wait + Sync>(
     ensures dispatch { IfErr result (λ r. r.dispatch ≡ dispatch) }
     ensures workers { IfErr result (λ r. r.workers ≡ seats) }
     ensures total { IfOk result (λ e. made e.dispatch.history ≡ made dispatch.history + sum_by (λ v. vec_len v) e.receipts.items) }
+    ensures runs { IfOk result (λ e. RunsOn dispatch e.dispatch) }
     ensures goes_on { IfOk result (λ e. (e.fault ≡ Some RunFault.Receipts → ⊥) → IsOver dispatch e.dispatch) }
     ensures receipted { IfOk result (λ e. e.fault ≡ None → AreReceipted plan.places.items (length dispatch.history) (drop (length dispatch.history) e.dispatch.history) (map (λ v. v.items) e.receipts.items)) }
     ensures quiet { IfOk result (λ e. e.fault ≡ None → list_all is_quiet (drop (length dispatch.history) e.dispatch.history) ≡ true) }
@@ -465,6 +475,7 @@ pub fn run_with<T: Transport, R: Threads + Wait + Sync>(
     ensures manned { IfOk result (λ e. AreManned dispatch.inputs (map (λ w. (w.machine, w.slot)) workers.items)) }
     ensures few { IfOk result (λ e. vec_len workers ≤ 1024) }
     ensures total { IfOk result (λ e. made e.dispatch.history ≡ made dispatch.history + sum_by (λ v. vec_len v) e.receipts.items) }
+    ensures runs { IfOk result (λ e. RunsOn dispatch e.dispatch) }
     ensures goes_on { IfOk result (λ e. (e.fault ≡ Some RunFault.Receipts → ⊥) → IsOver dispatch e.dispatch) }
     ensures receipted { IfOk result (λ e. e.fault ≡ None → AreReceipted (map (λ w. (w.machine, w.slot)) workers.items) (length dispatch.history) (drop (length dispatch.history) e.dispatch.history) (map (λ v. v.items) e.receipts.items)) }
     ensures quiet { IfOk result (λ e. e.fault ≡ None → list_all is_quiet (drop (length dispatch.history) e.dispatch.history) ≡ true) }
@@ -505,6 +516,7 @@ pub fn run<R: Threads + Wait + Sync>(
     ensures manned { IfOk result (λ e. AreManned dispatch.inputs (map (λ w. (w.machine, w.slot)) workers.items)) }
     ensures few { IfOk result (λ e. vec_len workers ≤ 1024) }
     ensures total { IfOk result (λ e. made e.dispatch.history ≡ made dispatch.history + sum_by (λ v. vec_len v) e.receipts.items) }
+    ensures runs { IfOk result (λ e. RunsOn dispatch e.dispatch) }
     ensures goes_on { IfOk result (λ e. (e.fault ≡ Some RunFault.Receipts → ⊥) → IsOver dispatch e.dispatch) }
     ensures receipted { IfOk result (λ e. e.fault ≡ None → AreReceipted (map (λ w. (w.machine, w.slot)) workers.items) (length dispatch.history) (drop (length dispatch.history) e.dispatch.history) (map (λ v. v.items) e.receipts.items)) }
     ensures quiet { IfOk result (λ e. e.fault ≡ None → list_all is_quiet (drop (length dispatch.history) e.dispatch.history) ≡ true) }

@@ -6,6 +6,7 @@ ghost use Rattle.nd_workers.specs.Served.{Seated, IsServed};
 
 use crate::hand::Hand;
 use crate::leasing::Shared;
+use crate::opened::Opened;
 use crate::seat::Seat;
 use crate::working::{Done, End, work};
 use nd_receipts::Notes;
@@ -13,7 +14,7 @@ use nd_transports::Transport;
 use std::alloc::Global;
 use std::snapshot::Snapshot;
 use std::sync::Wait;
-use std::sync::ledger::{Ledger, Share};
+use std::sync::ledger::Share;
 use std::thread;
 use std::thread::{Promise, PromisedHandle, Scope, Threads};
 
@@ -23,7 +24,7 @@ pub(crate) struct Serves<T> {
     pub(crate) seat: Snapshot<Seat<T>>,
 }
 
-impl<L: Ledger, T: Transport> Promise<Done<L, T>> for Serves<T> {
+impl<L: Opened, T: Transport> Promise<Done<L, T>> for Serves<T> {
     ghost use Rattle.nd_workers.specs.Served.{Seated, IsServed};
 
     ghost kept_by = { λ p d. IsServed (record { machine = p.seat.value.machine; slot = p.seat.value.slot; calls = (T.state p.seat.value.transport).calls }) d.end (record { machine = d.seat.machine; slot = d.seat.slot; calls = (T.state d.seat.transport).calls }) d.hand.notes };
@@ -44,7 +45,7 @@ pub(crate) struct Stint<T> {
 /// stopped, and the worker ends its work on the calling thread. Once one couldn't be started no further
 /// one is.
 #[tactic(auto, using(crate::proofs::Stints::servings))]
-fn start<'s, E, L: Ledger + Send + Sync + 's, T: Transport + 's, R: Wait + Sync>(
+fn start<'s, E, L: Opened + Send + Sync + 's, T: Transport + 's, R: Wait + Sync>(
     scope: &Scope<'s, E>,
     rt: &'s R,
     alloc: Global,
@@ -78,7 +79,7 @@ fn start<'s, E, L: Ledger + Send + Sync + 's, T: Transport + 's, R: Wait + Sync>
 }
 
 /// Only the first `started` workers have threads, and nothing more is begun.
-fn unstarted<L: Ledger, R: Wait>(rt: &R, shared: &Shared<L>, started: usize) {
+fn unstarted<L: Opened, R: Wait>(rt: &R, shared: &Shared<L>, started: usize) {
     let mut desk = shared.desk.lock(rt);
     desk.unstarted(started);
     shared.changed.notify_all();
@@ -87,7 +88,7 @@ fn unstarted<L: Ledger, R: Wait>(rt: &R, shared: &Shared<L>, started: usize) {
 /// What is needed before the first thread starts: the workers, the ledger's whole share, and room for
 /// all that comes back.
 #[derive(Drop)]
-pub(crate) struct Ready<L: Ledger, T: Transport> {
+pub(crate) struct Ready<L: Opened, T: Transport> {
     pub(crate) seats: Vec<Seat<T>>,
     pub(crate) rest: Share<L>,
     pub(crate) running: Vec<Running<L, T>>,
@@ -101,7 +102,7 @@ pub(crate) struct Ready<L: Ledger, T: Transport> {
 
 /// Starts a thread for each worker.
 #[tactic(auto, using(crate::proofs::Zips::zips))]
-fn start_all<'s, E, L: Ledger + Send + Sync + 's, T: Transport + 's, R: Wait + Sync>(
+fn start_all<'s, E, L: Opened + Send + Sync + 's, T: Transport + 's, R: Wait + Sync>(
     scope: &Scope<'s, E>,
     rt: &'s R,
     alloc: Global,
@@ -129,7 +130,7 @@ fn start_all<'s, E, L: Ledger + Send + Sync + 's, T: Transport + 's, R: Wait + S
 }
 
 /// What a worker handed back, with its share given to `all`.
-fn take_in<L: Ledger, T: Transport>(done: Done<L, T>, all: &mut Share<L>) -> Stint<T>
+fn take_in<L: Opened, T: Transport>(done: Done<L, T>, all: &mut Share<L>) -> Stint<T>
     ensures parts { all.new.parts ≡ all.old.parts + 1 }
     ensures amount { all.new.amount ≡ all.old.amount + length result.notes.receipts }
     ensures seat { result.seat ≡ done.seat }
@@ -143,7 +144,7 @@ fn take_in<L: Ledger, T: Transport>(done: Done<L, T>, all: &mut Share<L>) -> Sti
 }
 
 /// Joins a worker's thread, if it has one.
-fn join<L: Ledger, T: Transport, R: Threads>(
+fn join<L: Opened, T: Transport, R: Threads>(
     rt: &R,
     running: Running<L, T>,
     all: &mut Share<L>,
@@ -160,7 +161,7 @@ fn join<L: Ledger, T: Transport, R: Threads>(
 
 /// Joins all threads.
 #[tactic(auto, using(crate::proofs::Zips::zips))]
-fn join_all<L: Ledger, T: Transport, R: Threads>(
+fn join_all<L: Opened, T: Transport, R: Threads>(
     rt: &R,
     running: Vec<Running<L, T>>,
     all: &mut Share<L>,
@@ -181,14 +182,14 @@ fn join_all<L: Ledger, T: Transport, R: Threads>(
 
 /// What came back of all workers, with the ledger's whole share.
 #[derive(Drop)]
-pub(crate) struct Ended<L: Ledger, T: Transport> {
+pub(crate) struct Ended<L: Opened, T: Transport> {
     pub(crate) all: Share<L>,
     pub(crate) stints: Vec<Stint<T>>,
 }
 
 /// Starts a thread for each worker, and joins them all.
 #[tactic(auto, using(crate::proofs::Zips::zip_through))]
-fn serve_all<'s, E, L: Ledger + Send + Sync + 's, T: Transport + 's, R: Threads + Wait + Sync>(
+fn serve_all<'s, E, L: Opened + Send + Sync + 's, T: Transport + 's, R: Threads + Wait + Sync>(
     scope: &Scope<'s, E>,
     rt: &'s R,
     alloc: Global,
@@ -212,7 +213,7 @@ fn serve_all<'s, E, L: Ledger + Send + Sync + 's, T: Transport + 's, R: Threads 
 }
 
 /// Starts a thread for each worker in a scope of their own, and joins them all.
-pub(crate) fn in_scope<L: Ledger + Send + Sync, T: Transport, R: Threads + Wait + Sync>(
+pub(crate) fn in_scope<L: Opened + Send + Sync, T: Transport, R: Threads + Wait + Sync>(
     rt: &R,
     alloc: Global,
     shared: &Shared<L>,

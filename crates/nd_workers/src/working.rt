@@ -7,12 +7,12 @@ ghost use Rattle.nd_workers.specs.Ends.{EndsWell};
 use crate::desk::Next;
 use crate::hand::Hand;
 use crate::leasing::{Shared, give_up, serve};
+use crate::opened::Opened;
 use crate::seat::Seat;
 use nd_history::Why;
 use nd_transports::transport::Transport;
 use std::alloc::Global;
 use std::sync::Wait;
-use std::sync::ledger::Ledger;
 
 /// How a worker ended, or that it goes on.
 #[derive(Clone, Copy, PartialEq, Eq)]
@@ -29,14 +29,14 @@ pub(crate) enum End {
 
 /// What a worker hands back.
 #[derive(Drop)]
-pub(crate) struct Done<L: Ledger, T: Transport> {
+pub(crate) struct Done<L: Opened, T: Transport> {
     pub(crate) seat: Seat<T>,
     pub(crate) hand: Hand<L>,
     pub(crate) end: End,
 }
 
 /// Waits until there is something to do for the worker of this place.
-fn take<L: Ledger, R: Wait>(
+fn take<L: Opened, R: Wait>(
     rt: &R,
     alloc: Global,
     shared: &Shared<L>,
@@ -61,7 +61,7 @@ fn take<L: Ledger, R: Wait>(
 }
 
 /// The worker of this place leaves, and nothing more is begun.
-pub(crate) fn leave<L: Ledger, R: Wait>(rt: &R, shared: &Shared<L>, machine: u32, slot: u32) {
+pub(crate) fn leave<L: Opened, R: Wait>(rt: &R, shared: &Shared<L>, machine: u32, slot: u32) {
     let mut desk = shared.desk.lock(rt);
     desk.leave(machine, slot);
     shared.changed.notify_all();
@@ -69,7 +69,7 @@ pub(crate) fn leave<L: Ledger, R: Wait>(rt: &R, shared: &Shared<L>, machine: u32
 
 /// One lease of a worker.
 #[tactic(auto, using(crate::proofs::Going::goes_nowhere))]
-fn turn<L: Ledger, T: Transport, R: Wait>(
+fn turn<L: Opened, T: Transport, R: Wait>(
     rt: &R,
     alloc: Global,
     shared: &Shared<L>,
@@ -94,7 +94,7 @@ fn turn<L: Ledger, T: Transport, R: Wait>(
 
 /// Does what there is to do for a worker.
 #[tactic(auto, using(crate::proofs::Going::goes_nowhere, crate::proofs::Going::goes_unserved))]
-fn attend<L: Ledger, T: Transport, R: Wait>(
+fn attend<L: Opened, T: Transport, R: Wait>(
     rt: &R,
     alloc: Global,
     shared: &Shared<L>,
@@ -123,7 +123,7 @@ fn attend<L: Ledger, T: Transport, R: Wait>(
 
 /// Serves the leases of a place until nothing is leased or waits any more.
 #[tactic(auto, using(crate::proofs::Going::goes_nowhere, crate::proofs::Going::goes_further))]
-pub(crate) fn work<L: Ledger, T: Transport, R: Wait>(
+pub(crate) fn work<L: Opened, T: Transport, R: Wait>(
     rt: &R,
     alloc: Global,
     shared: &Shared<L>,

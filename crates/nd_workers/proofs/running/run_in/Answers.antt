@@ -30,3 +30,6 @@ returns-clause-calls g c = λ none.
 pub returns-clause-total : goal.returns-clause-total
 returns-clause-total g c =
     ap (λ (w : World). made w.history) c.settle.ensures.dispatch ∙ c.serve_leases-served.ensures.total ∙ ap (λ n. made c.args.dispatch.history + n) (sym c.settle.ensures.total)
+
+pub returns-clause-runs : goal.returns-clause-runs
+returns-clause-runs g c = rw c.settle.ensures.dispatch c.serve_leases-served.ensures.runs

@@ -1,4 +1,7 @@
 use Rattle.nd_workers.proofs.running.run_with.Given as goal
 
-abbrev pub ghosts-run_named : goal.ghosts-run_named
-ghosts-run_named g a = record { name = a.blank.name; parts = a.blank.parts }
+abbrev pub ghosts-run_named-L-Ledger : goal.ghosts-run_named-L-Ledger
+ghosts-run_named-L-Ledger g a = record { name = a.blank.name; parts = a.blank.parts }
+
+abbrev pub ghosts-run_named-L-Opened : goal.ghosts-run_named-L-Opened
+ghosts-run_named-L-Opened g a = record { opening = a.dispatch }

@@ -1,0 +1,16 @@
+-- What the fact under the lock of a run names. It serves proofs alone.
+use Rattle.std.specs.Prelude.{[], false}
+use Rattle.nd_ledger.specs.Worlds.{World}
+
+-- a dispatch over no inputs: each run picks its own dispatch in its place
+abbrev pub no_world : World
+no_world = record {
+  inputs = record {
+    graph = record { paths = []; needs = []; inputs = []; sources = []; outputs = [] };
+    machines = [];
+    local = record { system = []; extra = []; features = []; jobs = 0 };
+    info = [];
+    keep_going = false;
+  };
+  history = [];
+}

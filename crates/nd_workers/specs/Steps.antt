@@ -1,0 +1,37 @@
+-- What a run adds to a history. The public clauses of a run cite it. The histories of these definitions stand newest first, but
+-- for those of `AreRunSteps`. This project's own choice.
+use Rattle.std.specs.Prelude.{◌≡◌, List, [], ◌∷◌, ◌++◌, reverse}
+use Rattle.nd_history.specs.declared.entry.Entry.{Entry}
+use Rattle.nd_history.specs.declared.entry.Entry.TheVariants.{Chosen, NoBuilder, Started, Down, Built, Failed, Stop, Drain, Enable}
+use Rattle.nd_history.specs.Premises.{Premises}
+use Rattle.nd_history.specs.Pumping.{IsPumpStep}
+use Rattle.nd_ledger.specs.Worlds.{World}
+
+-- a run may add the entry: a choice, or the word that nothing can build a derivation, is the pump's step of what stands before
+-- it; and no machine is drained or enabled
+abbrev pub IsRunStep : Premises → List Entry → Entry → Type 0
+IsRunStep i past (Chosen d m s) = IsPumpStep i past (Chosen d m s)
+IsRunStep i past (NoBuilder d) = IsPumpStep i past (NoBuilder d)
+IsRunStep i past (Started d paths) = Unit {0}
+IsRunStep i past (Down d) = Unit {0}
+IsRunStep i past (Built d refs) = Unit {0}
+IsRunStep i past (Failed d why) = Unit {0}
+IsRunStep i past Stop = Unit {0}
+IsRunStep i past (Drain m) = ⊥
+IsRunStep i past (Enable m) = ⊥
+
+-- the entries after a history, which stands oldest first as they do: a run may add each to what stands before it
+abbrev pub AreRunSteps : Premises → List Entry → List Entry → Type 0
+AreRunSteps i history [] = Unit {0}
+AreRunSteps i history (e ∷ steps) = IsRunStep i (reverse history) e × AreRunSteps i (history ++ e ∷ []) steps
+
+-- a dispatch has the inputs of an earlier one, and its history is the earlier one's with what a run may add
+pub record IsRunOf (opening now : World) : Type 0 where
+  pub inputs : now.inputs ≡ opening.inputs
+  pub steps : List Entry
+  pub grown : now.history ≡ opening.history ++ steps
+  pub each : AreRunSteps opening.inputs opening.history steps
+
+-- .. as a fact that has at most one proof, so that it can be kept under a lock
+pub record RunsOn (opening now : World) : Type 0 where
+  pub merely : ∥ IsRunOf opening now ∥₁
