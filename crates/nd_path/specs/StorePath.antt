@@ -6,17 +6,19 @@ use Rattle.std.specs.declared.cmp.Ordering.{Ordering}
 use Rattle.std.specs.Ordering.{nat_cmp}
 use Rattle.std.specs.Cmp.Lexicographic.{pointwise, slice_cmp}
 use Rattle.std.specs.Hash.{HashWrites, slice, u8}
-use Rattle.std.specs.List.{list_all, ends_with}
+use Rattle.std.specs.List.{list_all, list_any, ends_with}
 
 -- the store directory and its slash
 abbrev pub store_directory : List ℕ
 store_directory = codes "/nix/store/"
 
--- `0` to `9`, and `a` to `z` without `e`, `o`, `t` and `u`: the alphabet of Nix's base 32
-abbrev pub is_digest_byte : ℕ → Bool
-is_digest_byte b =
-    (nat_le 48 b && nat_le b 57) || (nat_le 97 b && nat_le b 100) || (nat_le 102 b && nat_le b 110)
-    || (nat_le 112 b && nat_le b 115) || (nat_le 118 b && nat_le b 122)
+-- the digits of Nix's base 32 by their values: no `e`, `o`, `t` and `u`
+abbrev pub alphabet : List ℕ
+alphabet = codes "0123456789abcdfghijklmnpqrsvwxyz"
+
+-- one of these digits
+unfoldable pub is_digest_byte : ℕ → Bool
+is_digest_byte b = list_any (λ digit. digit == b) alphabet
 
 -- the bytes begin with 32 characters of that alphabet
 abbrev pub has_digest : List ℕ → Bool

@@ -208,9 +208,16 @@ fn fault_in_base(base: &[u8]) -> Option<PathError>
 fn are_digest_bytes(bytes: &[u8]) -> bool
     ensures { result ≡ list_all is_digest_byte bytes.now }
 {
-    bytes.iter().all(
-        |b| matches!(*b, b'0'..=b'9' | b'a'..=b'd' | b'f'..=b'n' | b'p'..=b's' | b'v'..=b'z'),
-    )
+    bytes.iter().all(|b| is_digit(*b))
+}
+
+/// Whether the byte is of Nix's base-32 alphabet: `0` to `9`, or `a` to `z` without `e`, `o`, `t`
+/// and `u`.
+#[tactic(auto, using(crate::proofs::Digits::digits_in_ranges))]
+fn is_digit(b: u8) -> bool
+    ensures { result ≡ is_digest_byte b }
+{
+    matches!(b, b'0'..=b'9' | b'a'..=b'd' | b'f'..=b'n' | b'p'..=b's' | b'v'..=b'z')
 }
 
 /// Whether the bytes are a dash and a name.
