@@ -1,5 +1,5 @@
 -- Decimal numbers as they stand in texts.
-use Rattle.std.specs.Prelude.{ℕ, Bool, ◌+◌, ◌-◌, ◌*◌, ◌==◌, ◌&&◌, nat_le, List, [], ◌∷◌, length, if◌then◌else◌, Option, None, Some}
+use Rattle.std.specs.Prelude.{ℕ, Bool, false, ◌+◌, ◌-◌, ◌*◌, ◌==◌, ◌&&◌, nat_le, List, [], ◌∷◌, length, if◌then◌else◌, Option, None, Some}
 
 -- one of `0` to `9`
 abbrev pub is_digit : ℕ → Bool
@@ -18,3 +18,9 @@ at_most limit (Some n) = if nat_le n limit then Some n else None
 -- the value of one or more digits, at most `limit`
 abbrev pub decimal_of : ℕ → List ℕ → Option ℕ
 decimal_of limit bytes = if length bytes == 0 then None else at_most limit (digits 0 bytes)
+
+-- a zero stands before further digits
+abbrev pub has_needless_zero : List ℕ → Bool
+has_needless_zero [] = false
+has_needless_zero (b ∷ []) = false
+has_needless_zero (b ∷ (next ∷ bytes)) = b == 48

@@ -1,9 +1,8 @@
 -- The store path of a derivation with a given name and text.
 -- Source: Nix Reference Manual, "Store Path Specification": a derivation is a text whose name ends in `.drv`.
-use Rattle.std.specs.Prelude.{◌≡◌, ℕ, Bool, true, false, ◌&&◌, List, nat_eq, codes}
-use Rattle.std.specs.List.{ends_with}
+use Rattle.std.specs.Prelude.{◌≡◌, ℕ, Bool, true, false, ◌&&◌, List}
 use Rattle.nd_aterm.specs.declared.records.Parts.{Parts}
-use Rattle.nd_path.specs.StorePath.{is_name}
+use Rattle.nd_path.specs.StorePath.{is_name, ends_in_drv}
 use Rattle.nd_graph.specs.Derived.{Derives, IsOwnPath}
 use Rattle.nd_graph.specs.Kinds.{references}
 use Rattle.nd_graph.specs.declared.fault.GraphError.{GraphError}
@@ -11,7 +10,7 @@ use Rattle.nd_graph.specs.declared.fault.GraphError.TheVariants.{BadLine, BadPat
 
 -- a store path's name that ends in `.drv`
 abbrev pub is_drv_name : List ℕ → Bool
-is_drv_name name = is_name name && ends_with nat_eq name (codes ".drv")
+is_drv_name name = is_name name && ends_in_drv name
 
 -- the path of the derivation with this name and this text
 pub record IsDrvPath (name text path : List ℕ) : Type 0 where

@@ -1,5 +1,5 @@
 -- Sets as strictly rising lists: there is one for each choice of items, and a binary search finds what it has.
-use Rattle.std.proofs.Common.{◌≡◌, ℕ, Bool, true, false, ◌||◌, List, [], ◌∷◌, ◌↔◌, ◌≤◌, zero, suc, length, get_or, IsTrue, Contains, Ok, Err, inl, inr, refl, sym, ◌∙◌, ap, arith}
+use Rattle.std.proofs.Common.{◌≡◌, ℕ, Bool, true, false, ◌||◌, List, [], ◌∷◌, ◌↔◌, ◌≤◌, zero, suc, length, get_or, IsTrue, Contains, Ok, Err, inl, inr, refl, sym, subst, ◌∙◌, ap, arith}
 use Rattle.std.specs.Prelude.{Result, is_ok}
 use Rattle.std.specs.declared.cmp.Ordering.{Ordering}
 use Rattle.std.specs.declared.cmp.Ordering.TheVariants.{Less, Equal, Greater}
@@ -15,7 +15,7 @@ use Rattle.std.proofs.lemmas.List.Kept.{IsStrictlySortedBy-dedup, Contains-dedup
 use Rattle.std.proofs.lemmas.List.Sorted.{Contains-permutation, IsPermutation-sym}
 use Rattle.std.proofs.lemmas.Map.Views.{list_any-from_Contains, Contains-from_any}
 use Rattle.nd_bytes.specs.Compared.{bytes_cmp, bytes_eq, bytes_ordered, bytes_ties, bytes_equal, bytes_same}
-use Rattle.nd_machines.specs.FeatureSets.{IsRising, put, set_of}
+use Rattle.nd_machines.specs.FeatureSets.{IsRising, IsSetOf, HasOneSet, put, set_of}
 
 -- whether an item is in a list
 abbrev pub has : List ℕ → List (List ℕ) → Bool
@@ -139,6 +139,15 @@ Contains-set_of xs x =
     let is : has x (set_of xs) ≡ has x xs = any-set_of (eq_by_cmp bytes_cmp x) xs in
     (λ h. (has-Contains x xs).0 (sym is ∙ (has-Contains x (set_of xs)).1 h), λ h. (has-Contains x (set_of xs)).0 (is ∙ (has-Contains x xs).1 h))
 
+-- a list has one set
+pub has_one_set : HasOneSet
+has_one_set items set = (
+  λ h.
+      same_items set (set_of items) h.rising (set_rises items)
+      (λ x. (λ c. (Contains-set_of items x).1 ((h.same x).0 c), λ c. (h.same x).1 ((Contains-set_of items x).0 c))),
+  λ e. subst (λ (s : List (List ℕ)). IsSetOf items s) (sym e) (record { rising = set_rises items; same = Contains-set_of items }),
+)
+
 -- ---- a list that is sorted and whose repeats are dropped
 
 module _ (xs ys zs : List (List ℕ)) (moved : IsPermutation xs ys) (sorted : IsSorted bytes_cmp ys) (dropped : zs ≡ dedup bytes_eq ys) where
@@ -151,9 +160,8 @@ module _ (xs ys zs : List (List ℕ)) (moved : IsPermutation xs ys) (sorted : Is
     λ h. rw dropped (Contains-dedup bytes_equal bytes_same ys x (Contains-permutation xs ys x moved h)),
   )
 
-  pub sorted_set : zs ≡ set_of xs
-  sorted_set =
-      same_items zs (set_of xs) sorted_rises (set_rises xs) (λ x. (λ h. (Contains-set_of xs x).1 ((sorted_same x).0 h), λ h. (sorted_same x).1 ((Contains-set_of xs x).0 h)))
+  pub sorted_set : IsSetOf xs zs
+  sorted_set = record { rising = sorted_rises; same = sorted_same }
 
 -- ---- a search in a rising list
 

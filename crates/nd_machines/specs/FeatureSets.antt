@@ -1,6 +1,6 @@
 -- Sets of byte strings, as strictly rising lists: the systems and the features of a machine
 -- (Nix Reference Manual, setting `builders`).
-use Rattle.std.specs.Prelude.{◌≡◌, ◌==◌, ℕ, Bool, true, not, List, [], ◌∷◌, length, filter}
+use Rattle.std.specs.Prelude.{◌≡◌, ◌↔◌, ◌==◌, ℕ, Bool, true, not, List, [], ◌∷◌, length, filter, Contains}
 use Rattle.std.specs.List.{slice_split}
 use Rattle.std.specs.Bool.{Decides}
 use Rattle.std.specs.Cmp.{IsEquivalence, IsPartialEquivalence, IsTotalOrder, IsPartialOrder, partial_equiv_from_equiv, partial_order_from_agreeing_total}
@@ -17,15 +17,23 @@ use Rattle.nd_bytes.specs.Compared.{bytes_eq, bytes_cmp, bytes_equal, bytes_orde
 abbrev pub IsRising : List (List ℕ) → Type 0
 IsRising = IsStrictlySortedBy bytes_cmp
 
--- a rising list with one more item at its place, or as it is where the item stands in it already
+-- the set of the items of a list: it rises, and has the same members
+pub record IsSetOf (items set : List (List ℕ)) : Type 0 where
+  pub rising : IsRising set
+  pub same : (item : List ℕ) → Contains set item ↔ Contains items item
+
+-- the same as a function, for definitions that compute: the items are put at their places one by one
 unfoldable pub put : List ℕ → List (List ℕ) → List (List ℕ)
 put x [] = x ∷ []
 put x (y ∷ ys) = match_ordering (bytes_cmp x y) (x ∷ y ∷ ys) (y ∷ ys) (y ∷ put x ys)
 
--- the set of the items of a list: each once, rising
 unfoldable pub set_of : List (List ℕ) → List (List ℕ)
 set_of [] = []
 set_of (x ∷ xs) = put x (set_of xs)
+
+-- a list has one set, and the function gives it
+abbrev pub HasOneSet : Type 0
+HasOneSet = (items set : List (List ℕ)) → IsSetOf items set ↔ (set ≡ set_of items)
 
 -- ---- lists as they stand in a text
 

@@ -1,6 +1,6 @@
 -- The fields of an entry of a builders list, and what each of them means (Nix Reference Manual, setting `builders`).
 -- Which numbers are taken, and that the host key is kept unread, is this project's own choice.
-use Rattle.std.specs.Prelude.{ℕ, suc, zero, Bool, ◌+◌, ◌-◌, ◌*◌, ◌^◌, ◌==◌, ◌&&◌, ◌||◌, nat_le, nat_eq, List, [], ◌∷◌, ◌++◌, length, Option, None, Some, if◌then◌else◌, codes}
+use Rattle.std.specs.Prelude.{ℕ, Bool, ◌+◌, ◌-◌, ◌*◌, ◌^◌, ◌==◌, ◌&&◌, ◌||◌, nat_le, nat_eq, List, [], ◌∷◌, ◌++◌, length, slice_index_or, Option, None, Some, if◌then◌else◌, codes}
 use Rattle.std.specs.Option.{option_map}
 use Rattle.std.specs.List.{list_any, slice_split, starts_with}
 use Rattle.nd_bytes.specs.Compared.{bytes_eq}
@@ -28,19 +28,9 @@ dash = codes "-"
 abbrev pub is_dash : List ℕ → Bool
 is_dash field = bytes_eq field dash
 
--- the first field, and those behind it
-abbrev pub first : List (List ℕ) → List ℕ
-first [] = dash
-first (f ∷ fs) = f
-
-abbrev pub others : List (List ℕ) → List (List ℕ)
-others [] = []
-others (f ∷ fs) = fs
-
--- the field at a place, counted from 0. One that is missing is as good as `-`
+-- the field at a place, counted from 0, or the dash where there is none
 abbrev pub field : ℕ → List (List ℕ) → List ℕ
-field zero fs = first fs
-field (suc n) fs = field n (others fs)
+field n fs = slice_index_or fs n dash
 
 -- ---- what the fields mean
 

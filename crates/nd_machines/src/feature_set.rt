@@ -1,9 +1,9 @@
 //! Sets of byte strings.
 
-ghost use Rattle.std.specs.Prelude.{◌≡◌, ◌==◌, ℕ, List, length, IfOk, IsTrue, ◌↔◌, Contains};
+ghost use Rattle.std.specs.Prelude.{◌≡◌, ◌==◌, length, IfOk, IsTrue, ◌↔◌, Contains};
 ghost use Rattle.std.proofs.Common.{rules};
 ghost use Rattle.std.specs.Ordering.{as_partial_cmp};
-ghost use Rattle.nd_machines.specs.FeatureSets.{IsRising, set_of, listed, sets_eq, sets_cmp, sets_equal, sets_partly_equal, sets_ordered, sets_partly_ordered, sets_ties};
+ghost use Rattle.nd_machines.specs.FeatureSets.{IsRising, IsSetOf, set_of, listed, sets_eq, sets_cmp, sets_equal, sets_partly_equal, sets_ordered, sets_partly_ordered, sets_ties};
 
 use nd_bytes::{ByteString, cut};
 use std::alloc::{AllocError, Global};
@@ -31,9 +31,8 @@ impl Model for FeatureSet {
 impl FeatureSet {
     /// The set of the given items. Repeats are dropped. It takes no memory.
     pub fn new(items: Vec<ByteString>) -> Self
-        ensures set { result ≡ set_of items.items }
-        ensures rising { IsRising result }
-        ensures same { (item : List ℕ) → Contains result item ↔ Contains items.items item }
+        ensures set { IsSetOf items.items result }
+        ensures value { result ≡ set_of items.items }
     {
         let mut items = items;
         items.sort_unstable();

@@ -1,10 +1,10 @@
 //! The fields of an entry.
 
-ghost use Rattle.std.specs.Prelude.{◌≡◌, ◌==◌, ◌≤◌, ◌∷◌, [], ℕ, length, MatchOption};
+ghost use Rattle.std.specs.Prelude.{◌≡◌, ◌==◌, ◌≤◌, ◌∷◌, [], ℕ, length, drop, MatchOption};
 ghost use Rattle.std.specs.Option.{option_copied};
 ghost use Rattle.std.specs.List.{slice_split};
 ghost use Rattle.nd_bytes.specs.Cut.{left_over};
-ghost use Rattle.nd_machines.specs.Fields.{is_blank, blank_pieces, fields, field, first, others};
+ghost use Rattle.nd_machines.specs.Fields.{is_blank, blank_pieces, fields, field};
 
 /// The fields of one entry as they stand in it. One that is missing is `-`.
 #[derive(Clone, Copy)]
@@ -58,8 +58,8 @@ fn next_field(bytes: &[u8]) -> Option<(&[u8], &[u8])>
 
 /// The first field, or `-` where there is none, and what stands behind it.
 fn field_or_dash(bytes: &[u8]) -> (&[u8], &[u8])
-    ensures field { result.0.now ≡ first (fields bytes.now) }
-    ensures rest { fields result.1.now ≡ others (fields bytes.now) }
+    ensures field { result.0.now ≡ field 0 (fields bytes.now) }
+    ensures rest { fields result.1.now ≡ drop 1 (fields bytes.now) }
 {
     match next_field(bytes) {
         Some(found) => found,

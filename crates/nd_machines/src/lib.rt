@@ -5,6 +5,7 @@
 pub mod builders;
 pub mod feature_set;
 mod fields;
+pub mod laws;
 pub mod machine;
 pub mod machine_error;
 mod reading;

@@ -1,4 +1,5 @@
 pub mod Searches
+pub mod Digits
 pub mod Parts
 pub mod Spelling
 pub mod Rising

@@ -5,9 +5,9 @@ use Rattle.std.specs.Cmp.{first_so, second_so}
 use Rattle.std.proofs.lemmas.Bool.{le-leb}
 use Rattle.std.proofs.Math.Seq.{take-append_seam, drop-append_seam}
 use Rattle.std.proofs.lemmas.List.FromFn.{fill_by_all}
-use Rattle.nd_path.specs.StorePath.{is_digest_byte, is_name, has_digest, store_directory}
+use Rattle.nd_path.specs.StorePath.{alphabet, is_digest_byte, is_name, has_digest, store_directory}
 use Rattle.nd_path.specs.Refusals.{IsPath}
-use Rattle.nd_path.specs.Encoding.{five_bits_of, alphabet, character_of, base32_of, folded_byte_of, fold_of}
+use Rattle.nd_path.specs.Encoding.{five_bits_of, character_of, base32_of, folded_byte_of, fold_of}
 
 -- an item of a list whose items all pass passes
 pub passes_at : (p : ℕ → Bool) (xs : List ℕ) (n : ℕ) → list_all p xs ≡ true → n < length xs → p (get_or xs n 0) ≡ true
@@ -23,7 +23,7 @@ five_bits_small : (bytes : List ℕ) (n : ℕ) → five_bits_of bytes n < 32
 five_bits_small bytes n = omega arith
 
 pub character_passes : (bytes : List ℕ) (k : ℕ) → is_digest_byte (character_of bytes k) ≡ true
-unfolding character_of
+unfolding character_of is_digest_byte
 character_passes bytes k = passes_at is_digest_byte alphabet (five_bits_of bytes (5 * k)) refl (five_bits_small bytes (5 * k))
 
 -- base 32 writes digits alone

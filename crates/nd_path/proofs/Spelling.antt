@@ -6,7 +6,7 @@ use Rattle.std.specs.Cmp.{first_so, second_so}
 use Rattle.std.proofs.lemmas.Bool.{eqb-true, leb-true}
 use Rattle.std.proofs.lemmas.List.{take-append-drop, length-take-le}
 use Rattle.nd_path.specs.declared.path_error.PathError.TheVariants.{Prefix, Digest, Name}
-use Rattle.nd_path.specs.StorePath.{store_directory, is_digest_byte, is_name, has_digest, is_dash_and_name, name_of}
+use Rattle.nd_path.specs.StorePath.{store_directory, is_digest_byte, is_name, has_digest, is_dash_and_name, IsNameOf, name_of}
 use Rattle.nd_path.specs.SamePaths.{paths_same}
 use Rattle.nd_path.specs.Lengths.{no_fault}
 use Rattle.nd_path.specs.Refusals.{IsPath, IsSpelled, fault_behind_directory, fault_behind_digest}
@@ -53,3 +53,11 @@ named_from bytes s =
 -- behind 44 bytes of a store path stands its name
 pub named : (bytes : List ℕ) → IsPath bytes → is_name (name_of bytes) ≡ true
 named bytes h = named_from bytes (spelled bytes h)
+
+name_from : (bytes : List ℕ) → IsSpelled bytes → IsNameOf bytes (name_of bytes)
+name_from bytes s =
+    let behind : name_of bytes ≡ s.name = ap (drop 44) s.text ∙ named_by s.digest s.name s.size in
+    subst (λ (name : List ℕ). IsNameOf bytes name) (sym behind) (record { digest = s.digest; text = s.text; size = s.size })
+
+pub name_behind : (path name : List ℕ) → IsPath path → name ≡ name_of path → IsNameOf path name
+name_behind path name h is = subst (λ (n : List ℕ). IsNameOf path n) (sym is) (name_from path (spelled path h))

@@ -1,22 +1,24 @@
 -- Store paths, as lists of bytes.
 -- Source: the Nix Reference Manual, "Store Path" and "Store Path Specification": the store directory, a digest of
 -- 32 characters in Nix's base 32, a dash and a name. That a name may begin with a dot is this project's own choice.
-use Rattle.std.specs.Prelude.{ℕ, Bool, false, ◌&&◌, ◌||◌, ◌==◌, nat_le, nat_eq, List, [], ◌∷◌, length, take, drop, codes}
+use Rattle.std.specs.Prelude.{◌≡◌, ℕ, Bool, false, ◌&&◌, ◌||◌, ◌==◌, nat_le, nat_eq, List, [], ◌∷◌, ◌++◌, length, take, drop, codes}
 use Rattle.std.specs.declared.cmp.Ordering.{Ordering}
 use Rattle.std.specs.Ordering.{nat_cmp}
 use Rattle.std.specs.Cmp.Lexicographic.{pointwise, slice_cmp}
 use Rattle.std.specs.Hash.{HashWrites, slice, u8}
-use Rattle.std.specs.List.{list_all, ends_with}
+use Rattle.std.specs.List.{list_all, list_any, ends_with}
 
 -- the store directory and its slash
 abbrev pub store_directory : List ℕ
 store_directory = codes "/nix/store/"
 
--- `0` to `9`, and `a` to `z` without `e`, `o`, `t` and `u`: the alphabet of Nix's base 32
-abbrev pub is_digest_byte : ℕ → Bool
-is_digest_byte b =
-    (nat_le 48 b && nat_le b 57) || (nat_le 97 b && nat_le b 100) || (nat_le 102 b && nat_le b 110)
-    || (nat_le 112 b && nat_le b 115) || (nat_le 118 b && nat_le b 122)
+-- the digits of Nix's base 32 by their values: no `e`, `o`, `t` and `u`
+abbrev pub alphabet : List ℕ
+alphabet = codes "0123456789abcdfghijklmnpqrsvwxyz"
+
+-- one of these digits
+unfoldable pub is_digest_byte : ℕ → Bool
+is_digest_byte b = list_any (λ digit. digit == b) alphabet
 
 -- the bytes begin with 32 characters of that alphabet
 abbrev pub has_digest : List ℕ → Bool
@@ -37,13 +39,23 @@ abbrev pub is_dash_and_name : List ℕ → Bool
 is_dash_and_name [] = false
 is_dash_and_name (b ∷ bytes) = (b == 45) && is_name bytes
 
--- the name of a store path: what stands behind the store directory, the digest and the dash
+-- a store path with this name: the store directory, a digest of 32 characters, a dash and the name
+pub record IsNameOf (path name : List ℕ) : Type 0 where
+  pub digest : List ℕ
+  pub text : path ≡ store_directory ++ digest ++ 45 ∷ name
+  pub size : length digest ≡ 32
+
+-- the same as a function: what stands behind the 11 bytes of the store directory, the 32 of the digest and the dash
 abbrev pub name_of : List ℕ → List ℕ
 name_of path = drop 44 path
 
--- whether a store path is that of a derivation: its name ends in `.drv`
+-- whether a name is that of a derivation: it ends in `.drv`
+abbrev pub ends_in_drv : List ℕ → Bool
+ends_in_drv name = ends_with nat_eq name (codes ".drv")
+
+-- whether a store path is that of a derivation
 abbrev pub is_drv_path : List ℕ → Bool
-is_drv_path path = ends_with nat_eq (name_of path) (codes ".drv")
+is_drv_path path = ends_in_drv (name_of path)
 
 -- the same bytes
 abbrev pub path_eq : List ℕ → List ℕ → Bool

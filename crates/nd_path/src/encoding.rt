@@ -66,7 +66,7 @@ fn bit(bytes: &[u8; 20], n: usize) -> usize
 }
 
 /// The byte at place `j` of the folded digest.
-#[tactic(auto, unfolding(crate::specs::Encoding::folded_byte_of))]
+#[tactic(auto, using(crate::proofs::Digits::folded_two, crate::proofs::Digits::folded_one))]
 fn folded_byte(digest: &[u8; 32], j: usize) -> u8
     requires { j < 20 }
     ensures { result ≡ folded_byte_of digest.now j }

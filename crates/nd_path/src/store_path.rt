@@ -5,7 +5,7 @@ ghost use Rattle.std.proofs.Common.{rules};
 ghost use Rattle.std.specs.Cmp as Cmp;
 ghost use Rattle.std.specs.Cmp.Lexicographic.{nat_list_eq_equiv, nat_list_cmp_total, texts_ties, texts_po};
 ghost use Rattle.std.specs.Ordering.{as_partial_cmp};
-ghost use Rattle.nd_path.specs.StorePath.{store_directory, path_eq, path_cmp, path_input, name_of, is_drv_path, is_digest_byte, is_dash_and_name, is_name_byte, is_name};
+ghost use Rattle.nd_path.specs.StorePath.{store_directory, path_eq, path_cmp, path_input, IsNameOf, name_of, is_drv_path, is_digest_byte, is_dash_and_name, is_name_byte, is_name};
 ghost use Rattle.std.specs.List.{list_all};
 ghost use Rattle.nd_path.specs.declared.path_error.PathError.{PathError};
 ghost use Rattle.nd_path.specs.Refusals.{fault_of, fault_behind_directory, IsPath, IsSpelled, IsRefused};
@@ -97,6 +97,7 @@ impl StorePath {
     /// The name: 1 to 211 bytes behind the digest and its dash.
     #[tactic(auto, using(crate::specs::Lengths::path_long))]
     pub fn name(&self) -> &[u8]
+        ensures part { IsNameOf self.now result.now }
         ensures value { result.now ≡ name_of self.now }
         ensures named { is_name result.now ≡ true }
     {
@@ -208,9 +209,16 @@ fn fault_in_base(base: &[u8]) -> Option<PathError>
 fn are_digest_bytes(bytes: &[u8]) -> bool
     ensures { result ≡ list_all is_digest_byte bytes.now }
 {
-    bytes.iter().all(
-        |b| matches!(*b, b'0'..=b'9' | b'a'..=b'd' | b'f'..=b'n' | b'p'..=b's' | b'v'..=b'z'),
-    )
+    bytes.iter().all(|b| is_digit(*b))
+}
+
+/// Whether the byte is of Nix's base-32 alphabet: `0` to `9`, or `a` to `z` without `e`, `o`, `t`
+/// and `u`.
+#[tactic(auto, using(crate::proofs::Digits::digits_in_ranges))]
+fn is_digit(b: u8) -> bool
+    ensures { result ≡ is_digest_byte b }
+{
+    matches!(b, b'0'..=b'9' | b'a'..=b'd' | b'f'..=b'n' | b'p'..=b's' | b'v'..=b'z')
 }
 
 /// Whether the bytes are a dash and a name.

@@ -1,16 +1,10 @@
 -- The words of a script: numbers, and store paths that are made sets. The forms are this project's own.
-use Rattle.std.specs.Prelude.{◌≡◌, ◌==◌, ℕ, ◌<◌, Bool, false, List, [], ◌∷◌, length, codes, if◌then◌else◌, Option, None, Some}
+use Rattle.std.specs.Prelude.{◌≡◌, ℕ, ◌<◌, Bool, List, [], ◌∷◌, length, codes, if◌then◌else◌, Option, None, Some}
 use Rattle.std.specs.List.{All, AllZip, slice_split}
 use Rattle.nd_bytes.specs.Compared.{bytes_eq}
-use Rattle.nd_bytes.specs.Decimal.{decimal_of}
+use Rattle.nd_bytes.specs.Decimal.{decimal_of, has_needless_zero}
 use Rattle.nd_path.specs.Refusals.{IsPath}
 use Rattle.nd_path.specs.PathSets.{IsRising, HasSameMembers}
-
--- a zero stands in front of other digits
-abbrev pub has_needless_zero : List ℕ → Bool
-has_needless_zero [] = false
-has_needless_zero (b ∷ []) = false
-has_needless_zero (b ∷ (c ∷ bytes)) = b == 48
 
 -- the value of a number that is written without needless zeros and is at most `limit`
 abbrev pub number_of : ℕ → List ℕ → Option ℕ

@@ -8,7 +8,7 @@ use Rattle.std.proofs.Common.{eq-eqb}
 use Rattle.std.proofs.lemmas.Fmt.{decimal_injective}
 use Rattle.nd_bytes.specs.Compared.{bytes_same}
 use Rattle.nd_bytes.specs.Cut.{pieces}
-use Rattle.nd_bytes.specs.Decimal.{decimal_of}
+use Rattle.nd_bytes.specs.Decimal.{decimal_of, has_needless_zero}
 use Rattle.nd_history.specs.declared.entry.Why.{Why}
 use Rattle.nd_history.specs.declared.entry.Why.TheVariants.{Status, Lost, BadReferences, NoWorker, Memory}
 use Rattle.nd_texts.specs.HistoryTexts.{cause_words}
@@ -17,7 +17,7 @@ use Rattle.nd_texts.specs.HistoryTexts.{first_line}
 use Rattle.nd_texts.specs.declared.kinds.Version.{Version}
 use Rattle.nd_texts.specs.declared.kinds.Version.TheVariants.{First, Second}
 use Rattle.nd_texts.specs.Sound.{greatest, IsSoundCause, HasNoVersion}
-use Rattle.nd_texts.specs.Reading.{has_needless_zero, IsNumberFirst, is_end, cause_at, kind_at, IsCause}
+use Rattle.nd_texts.specs.Reading.{IsNumberFirst, is_end, cause_at, kind_at, IsCause}
 use Rattle.nd_texts.specs.Lines.{word_of}
 use Rattle.nd_texts.specs.declared.kinds.Kind.{Kind}
 use Rattle.nd_texts.specs.declared.kinds.Kind.TheVariants.{Choice, NoChoice, Start, Return, Finish, Failure, Halt, Drained, Enabled}

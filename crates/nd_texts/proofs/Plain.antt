@@ -51,6 +51,7 @@ decimal_plain : (n : ℕ) → n ≤ greatest → is_plain (decimal n) ≡ true
 decimal_plain n small = all_plain is_digit refl refl (decimal n) (decimal_digits n small)
 
 spelled_plain : (path : List ℕ) → IsSpelled path → is_plain path ≡ true
+unfolding is_digest_byte
 spelled_plain path s =
     let digest = all_plain is_digest_byte refl refl s.digest s.digits in
     let name = all_plain is_name_byte refl refl s.name (second_so _ (list_all is_name_byte s.name) s.named) in

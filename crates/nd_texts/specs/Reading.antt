@@ -1,5 +1,5 @@
 -- What the words of a line are read as. `words` are those that are left of a line.
-use Rattle.std.specs.Prelude.{◌≡◌, ◌==◌, ◌&&◌, ℕ, ◌≤◌, Bool, true, false, List, [], ◌∷◌, ◌++◌, nat_eq, codes, if◌then◌else◌, Option, None, Some}
+use Rattle.std.specs.Prelude.{◌≡◌, ◌&&◌, ℕ, ◌≤◌, Bool, true, List, [], ◌∷◌, ◌++◌, nat_eq, codes, if◌then◌else◌, Option, None, Some}
 use Rattle.std.specs.Ordering.{is_lt}
 use Rattle.nd_path.specs.Refusals.{IsPath}
 use Rattle.nd_path.specs.StorePath.{path_cmp}
@@ -32,12 +32,6 @@ path_fault Prefix = Bad
 path_fault Digest = Bad
 path_fault Name = Bad
 path_fault NoPathMemory = Memory
-
--- a zero stands before further digits
-abbrev pub has_needless_zero : List ℕ → Bool
-has_needless_zero [] = false
-has_needless_zero (b ∷ []) = false
-has_needless_zero (b ∷ (next ∷ bytes)) = b == 48
 
 -- each path is less than the next
 abbrev pub rises : List (List ℕ) → Bool

@@ -5,10 +5,11 @@ ghost use Rattle.std.specs.Cmp.Lexicographic.{pointwise};
 ghost use Rattle.std.specs.Option.{option_copied};
 ghost use Rattle.std.specs.Fmt.{decimal};
 ghost use Rattle.nd_bytes.specs.Cut.{pieces, left_over};
+ghost use Rattle.nd_bytes.specs.Decimal.{has_needless_zero};
 ghost use Rattle.nd_path.specs.Refusals.{IsPath};
 ghost use Rattle.nd_history.specs.declared.entry.Why.{Why};
 ghost use Rattle.nd_texts.specs.Sound.{greatest};
-ghost use Rattle.nd_texts.specs.Reading.{Refuses, IsNumberFirst, has_needless_zero, rises, is_end, cause_at, ArePathsFirst, ArePathWords, AreOutputs, IsCause};
+ghost use Rattle.nd_texts.specs.Reading.{Refuses, IsNumberFirst, rises, is_end, cause_at, ArePathsFirst, ArePathWords, AreOutputs, IsCause};
 
 use crate::history_error::LineFault;
 use nd_bytes::{cut, decimal};
