@@ -3,7 +3,7 @@ use Rattle.std.specs.Prelude.{◌≡◌, ℕ, List, [], Option}
 use Rattle.nd_machines.specs.Builders.{Builder}
 use Rattle.nd_eligible.specs.Settings.{Settings}
 use Rattle.nd_graph.specs.Graphs.{Nodes}
-use Rattle.nd_history.specs.Premises.{Premises}
+use Rattle.nd_history.specs.Premises.{Premises, premises}
 use Rattle.nd_ledger.specs.Worlds.{World}
 use Rattle.nd_cli.specs.Inputs.{ReadsWhole}
 use Rattle.nd_cli.specs.Parks.{HasPark, local_of}
@@ -11,7 +11,7 @@ use Rattle.nd_cli.specs.declared.options.ParkOptions.{ParkOptions}
 
 -- the five inputs of a dispatch over these derivations, machines and references
 abbrev pub inputs_of : ParkOptions → Nodes → List Builder → Settings → List (List ℕ × List (List ℕ)) → Premises
-inputs_of options graph machines local info = record { graph = graph; machines = machines; local = local; info = info; keep_going = options.keep_going }
+inputs_of options graph machines local info = premises graph machines local info options.keep_going
 
 -- the five inputs that the bundle and the options describe
 pub record HasInputs (options : ParkOptions) (text : List ℕ) (i : Premises) : Type 0 where

@@ -1,6 +1,6 @@
 -- The rules by which an entry is audited. An entry is allowed exactly where all of them pass, and a refused one is told by the first
 -- that doesn't. The histories of these definitions stand newest first. The rules and their order are this project's own choice.
-use Rattle.std.specs.Prelude.{◌≡◌, ◌↔◌, ℕ, zero, suc, ◌<◌, true, false, List, Some, codes}
+use Rattle.std.specs.Prelude.{◌≡◌, ◌↔◌, ℕ, zero, suc, ◌<◌, true, false, List, Some, Result, MatchResult, codes}
 use Rattle.nd_hook.specs.declared.kinds.Decision.TheVariants.{Local, NoBuilder as NobodyBuilds}
 use Rattle.nd_history.specs.declared.entry.Entry.{Entry}
 use Rattle.nd_history.specs.declared.entry.Entry.TheVariants.{Chosen, NoBuilder, Started, Down, Built, Failed, Stop}
@@ -72,6 +72,14 @@ Passes i past e rule = Unit {0}
 pub record IsFirstRule (i : Premises) (past : List Entry) (e : Entry) (rule : Rule) : Type 0 where
   pub earlier : (other : Rule) → code_of other < code_of rule → Passes i past e other
   pub refuses : Passes i past e rule → ⊥
+
+-- a test of the entry says that it is allowed, or names the first rule that refuses it
+abbrev pub IsJudged : {T : Type 0} → Premises → List Entry → Entry → Result T Rule → Type 0
+IsJudged i past e answer = MatchResult answer (λ _. IsAllowed i e past) (IsFirstRule i past e)
+
+-- a test of the slot says that it is the machine's least free one, or that it isn't
+abbrev pub IsSlotJudged : {T : Type 0} → List Entry → ℕ → ℕ → Result T Rule → Type 0
+IsSlotJudged past m s answer = MatchResult answer (λ _. IsLeastFree past m s) (λ rule. (rule ≡ Slot) × (IsLeastFree past m s → ⊥))
 
 -- an entry is allowed exactly where it passes every rule; where a rule refuses it, it isn't; and there is one first rule that does
 pub record RulesDecide : Type 0 where

@@ -1,4 +1,4 @@
--- What a dispatch is made of, as contracts see it: the five inputs, which never change.
+-- What a dispatch is made of, as contracts see it: the five inputs, which never change. Public clauses cite it.
 use Rattle.std.specs.Prelude.{ℕ, Bool, List}
 use Rattle.nd_machines.specs.Builders.{Builder}
 use Rattle.nd_eligible.specs.Settings.{Settings}
@@ -17,11 +17,15 @@ pub record Premises : Type 0 where
   -- whether the rest goes on after a failure
   pub keep_going : Bool
 
-abbrev pub premises_of : Inputs → Premises
-premises_of i = record {
-  graph = i.graph;
-  machines = i.machines;
-  local = i.local;
-  info = i.info.entries;
-  keep_going = i.keep_going;
+-- the five inputs, put together
+abbrev pub premises : Nodes → List Builder → Settings → List (List ℕ × List (List ℕ)) → Bool → Premises
+premises graph machines local info keep_going = record {
+  graph = graph;
+  machines = machines;
+  local = local;
+  info = info;
+  keep_going = keep_going;
 }
+
+abbrev pub premises_of : Inputs → Premises
+premises_of i = premises i.graph i.machines i.local i.info.entries i.keep_going

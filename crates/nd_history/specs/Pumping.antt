@@ -1,6 +1,6 @@
 -- The steps of a pump: choices, and derivations that nothing can build. The histories of these definitions stand newest
 -- first, but for those of `ArePumpSteps`.
-use Rattle.std.specs.Prelude.{◌≡◌, ℕ, ◌<◌, Bool, not, ◌||◌, length, List, [], ◌∷◌, ◌++◌, reverse, Option, Some, None}
+use Rattle.std.specs.Prelude.{◌≡◌, ℕ, ◌<◌, Bool, not, ◌||◌, length, List, [], ◌∷◌, ◌++◌, reverse, Option, Some, None, MatchOption}
 use Rattle.nd_hook.specs.declared.kinds.Decision.TheVariants.{Wait}
 use Rattle.nd_history.specs.declared.entry.Entry.{Entry}
 use Rattle.nd_history.specs.declared.entry.Entry.TheVariants.{Chosen, NoBuilder, Started, Down, Built, Failed, Stop, Drain, Enable}
@@ -31,6 +31,10 @@ pub record IsStepOf (i : Premises) (past : List Entry) (d : ℕ) (e : Entry) : T
 pub record IsAtRest (i : Premises) (past : List Entry) (d : ℕ) : Type 0 where
   pub rests : (e : Entry) → IsStepOf i past d e → ⊥
   pub waits : IsReady i past d → HasDecision i past d Wait
+
+-- what is answered about derivation d: its step, or none where there is none
+abbrev pub IsStepOrRest : Premises → List Entry → ℕ → Option Entry → Type 0
+IsStepOrRest i past d answer = MatchOption answer (IsAtRest i past d) (IsStepOf i past d)
 
 -- there is no step left
 pub record AreAtRest (i : Premises) (past : List Entry) : Type 0 where

@@ -1,13 +1,13 @@
 //! Which rule refuses an entry.
 
-ghost use Rattle.std.specs.Prelude.{◌≡◌, ◌+◌, ◌<◌, ◌≤◌, ◌↔◌, IsTrue, length, reverse, MatchResult};
+ghost use Rattle.std.specs.Prelude.{◌≡◌, ◌+◌, ◌<◌, ◌≤◌, ◌↔◌, IsTrue, length, reverse};
 ghost use Rattle.nd_history.specs.Premises.{premises_of};
 ghost use Rattle.nd_history.specs.History.{is_taken};
 ghost use Rattle.nd_history.specs.Standing.{drvs_in, IsReady};
 ghost use Rattle.nd_history.specs.Choices.{machines_in, jobs_of};
-ghost use Rattle.nd_history.specs.Legal.{IsInRange, IsLeastFree, IsAllowed};
+ghost use Rattle.nd_history.specs.Legal.{IsInRange, IsLeastFree};
 ghost use Rattle.nd_history.specs.Fitting.{FitTogether};
-ghost use Rattle.nd_history.specs.Audit.{IsFirstRule};
+ghost use Rattle.nd_history.specs.Audit.{IsJudged, IsSlotJudged};
 
 use crate::book::Book;
 use crate::deciding::decide_now;
@@ -91,7 +91,7 @@ fn is_least_free(book: &Book, machine: u32, slot: u32) -> bool
 
 /// Refuses with `Slot` a slot that isn't the machine's least free one.
 fn check_slot(book: &Book, machine: u32, slot: u32) -> Result<(), Rule>
-    ensures { MatchResult result (λ _. IsLeastFree (reverse book.now.entries) machine slot) (λ rule. (rule ≡ Rule.Slot) × (IsLeastFree (reverse book.now.entries) machine slot → ⊥)) }
+    ensures { IsSlotJudged (reverse book.now.entries) machine slot result }
 {
     if is_least_free(book, machine, slot) {
         Ok(())
@@ -111,7 +111,7 @@ fn check_ready_choice(
     requires fit { FitTogether (premises_of inputs.now) book.now }
     requires ranged { IsInRange (premises_of inputs.now) (Entry.Chosen drv machine slot) }
     requires ready { IsReady (premises_of inputs.now) (reverse book.now.entries) drv }
-    ensures { MatchResult result (λ _. IsAllowed (premises_of inputs.now) (Entry.Chosen drv machine slot) (reverse book.now.entries)) (IsFirstRule (premises_of inputs.now) (reverse book.now.entries) (Entry.Chosen drv machine slot)) }
+    ensures { IsJudged (premises_of inputs.now) (reverse book.now.entries) (Entry.Chosen drv machine slot) result }
 {
     match decide_now(inputs, book, drv as usize) {
         Decision::Local => {
@@ -145,7 +145,7 @@ pub fn check_choice(
 ) -> Result<(), Rule>
     requires fit { FitTogether (premises_of inputs.now) book.now }
     requires ranged { IsInRange (premises_of inputs.now) (Entry.Chosen drv machine slot) }
-    ensures { MatchResult result (λ _. IsAllowed (premises_of inputs.now) (Entry.Chosen drv machine slot) (reverse book.now.entries)) (IsFirstRule (premises_of inputs.now) (reverse book.now.entries) (Entry.Chosen drv machine slot)) }
+    ensures { IsJudged (premises_of inputs.now) (reverse book.now.entries) (Entry.Chosen drv machine slot) result }
 {
     if !is_ready(inputs, book, drv) {
         return Err(Rule::Ready);
@@ -157,7 +157,7 @@ pub fn check_choice(
 fn check_ready_no_builder(inputs: &Inputs, book: &Book, drv: u32) -> Result<(), Rule>
     requires fit { FitTogether (premises_of inputs.now) book.now }
     requires ready { IsReady (premises_of inputs.now) (reverse book.now.entries) drv }
-    ensures { MatchResult result (λ _. IsAllowed (premises_of inputs.now) (Entry.NoBuilder drv) (reverse book.now.entries)) (IsFirstRule (premises_of inputs.now) (reverse book.now.entries) (Entry.NoBuilder drv)) }
+    ensures { IsJudged (premises_of inputs.now) (reverse book.now.entries) (Entry.NoBuilder drv) result }
 {
     match decide_now(inputs, book, drv as usize) {
         Decision::NoBuilder => Ok(()),
@@ -172,7 +172,7 @@ fn check_ready_no_builder(inputs: &Inputs, book: &Book, drv: u32) -> Result<(), 
 pub fn check_no_builder(inputs: &Inputs, book: &Book, drv: u32) -> Result<(), Rule>
     requires fit { FitTogether (premises_of inputs.now) book.now }
     requires ranged { drv < drvs_in (premises_of inputs.now) }
-    ensures { MatchResult result (λ _. IsAllowed (premises_of inputs.now) (Entry.NoBuilder drv) (reverse book.now.entries)) (IsFirstRule (premises_of inputs.now) (reverse book.now.entries) (Entry.NoBuilder drv)) }
+    ensures { IsJudged (premises_of inputs.now) (reverse book.now.entries) (Entry.NoBuilder drv) result }
 {
     if !is_ready(inputs, book, drv) {
         return Err(Rule::Ready);

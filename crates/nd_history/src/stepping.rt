@@ -6,7 +6,7 @@ ghost use Rattle.nd_history.specs.Premises.{premises_of};
 ghost use Rattle.nd_history.specs.Standing.{drvs_in, IsReady};
 ghost use Rattle.nd_history.specs.Choices.{AreSmall};
 ghost use Rattle.nd_history.specs.Legal.{IsLegal};
-ghost use Rattle.nd_history.specs.Pumping.{IsAtRest, AreAtRest, IsStepOf, IsPumpStep};
+ghost use Rattle.nd_history.specs.Pumping.{IsStepOrRest, AreAtRest, IsPumpStep};
 ghost use Rattle.nd_history.specs.Fitting.{FitTogether};
 
 use crate::book::Book;
@@ -20,7 +20,7 @@ use nd_hook::Decision;
 fn step_of_ready(inputs: &Inputs, book: &Book, drv: u32) -> Option<Entry>
     requires fit { FitTogether (premises_of inputs.now) book.now }
     requires ready { IsReady (premises_of inputs.now) (reverse book.now.entries) drv }
-    ensures { MatchOption result (IsAtRest (premises_of inputs.now) (reverse book.now.entries) drv) (IsStepOf (premises_of inputs.now) (reverse book.now.entries) drv) }
+    ensures { IsStepOrRest (premises_of inputs.now) (reverse book.now.entries) drv result }
 {
     match decide_now(inputs, book, drv as usize) {
         Decision::Local => {
@@ -46,7 +46,7 @@ fn step_of_ready(inputs: &Inputs, book: &Book, drv: u32) -> Option<Entry>
 fn step_of(inputs: &Inputs, book: &Book, drv: u32) -> Option<Entry>
     requires fit { FitTogether (premises_of inputs.now) book.now }
     requires node { drv < drvs_in (premises_of inputs.now) }
-    ensures { MatchOption result (IsAtRest (premises_of inputs.now) (reverse book.now.entries) drv) (IsStepOf (premises_of inputs.now) (reverse book.now.entries) drv) }
+    ensures { IsStepOrRest (premises_of inputs.now) (reverse book.now.entries) drv result }
 {
     if !is_ready(inputs, book, drv) {
         return None;

@@ -1,14 +1,18 @@
 -- When calls are refused. The histories of these definitions stand newest first.
-use Rattle.std.specs.Prelude.{◌≡◌, true, List, Some}
+use Rattle.std.specs.Prelude.{◌≡◌, ℕ, true, List, Option, Some, MatchOption}
 use Rattle.nd_ledger.specs.declared.refusal.Refusal.{Refusal}
 use Rattle.nd_ledger.specs.declared.refusal.Refusal.TheVariants.{NotLive, AlreadyStarted, NotStarted, Uncovered, Extra, BadReferences, AlreadyStopped, Memory}
 use Rattle.nd_history.specs.declared.entry.Entry.{Entry}
 use Rattle.nd_history.specs.declared.entry.Ticket.{Ticket}
-use Rattle.nd_history.specs.History.{lease_of, is_started, has_stop}
+use Rattle.nd_history.specs.History.{lease_of, is_leased, is_started, has_stop}
 
 -- the ticket is a live lease's
 abbrev pub IsLive : List Entry → Ticket → Type 0
 IsLive past t = lease_of t.drv past ≡ Some t
+
+-- what is answered of derivation d's lease: its ticket, which is a live lease's, or none where it isn't leased
+abbrev pub IsTicketOf : List Entry → ℕ → Option Ticket → Type 0
+IsTicketOf past d answer = MatchOption answer (is_leased d past ≡ true → ⊥) (λ t. (t.drv ≡ d) × IsLive past t)
 
 -- `failed` is refused where the ticket isn't a live lease's, and nowhere else
 abbrev pub IsFailRefused : List Entry → Ticket → Refusal → Type 0

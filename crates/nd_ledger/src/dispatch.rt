@@ -1,10 +1,11 @@
 //! The dispatch: leases and their history.
 
-ghost use Rattle.std.specs.Prelude.{◌≡◌, ℕ, ◌+◌, ◌<◌, ◌≤◌, ◌++◌, [], ◌∷◌, List, true, false, length, slice_index_or, reverse, IfOk, OnOk, IfErr, OnErr, IsOk, IsOkUnless, MatchOption, IsTrue, ◌↔◌};
-ghost use Rattle.nd_history.specs.History.{live, is_leased, lease_of, current_of, load, is_started, is_up, has_stop};
+ghost use Rattle.std.specs.Prelude.{◌≡◌, ℕ, ◌+◌, ◌<◌, ◌≤◌, ◌++◌, [], ◌∷◌, List, true, false, length, slice_index_or, reverse, IfOk, OnOk, IfErr, OnErr, IsOk, IsOkUnless, IsTrue, ◌↔◌};
+ghost use Rattle.nd_history.specs.History.{live, lease_of, current_of, load, is_started, is_up, has_stop};
 ghost use Rattle.nd_failure.specs.Statuses.{total_of};
 ghost use Rattle.nd_history.specs.Choices.{machines_in, HasReply};
 ghost use Rattle.nd_history.specs.Legal.{IsInRange, IsAllowed, IsLegal};
+ghost use Rattle.nd_history.specs.Premises.{premises};
 ghost use Rattle.nd_ledger.specs.Admitting.{IsAdmitRefused};
 ghost use Rattle.nd_history.specs.Closing.{StartsAreProvisioned};
 ghost use Rattle.nd_history.specs.Headline.{SlotsAreLeases, LeasesAreInOrder, StartsAreOnce, StartsAreEligible, CountsSum, ChoicesAreBest};
@@ -17,7 +18,7 @@ ghost use Rattle.nd_ledger.specs.Moves.{IsStartRefused, IsEndRefused, IsJobRefus
 ghost use Rattle.nd_history.specs.References.{outputs_of};
 ghost use Rattle.nd_stores.specs.Stored.{IsMissing};
 ghost use Rattle.nd_ledger.specs.Worlds.{GoesOnFrom};
-ghost use Rattle.nd_ledger.specs.Refusals.{IsLive, IsFailRefused, IsDownRefused, IsStopRefused};
+ghost use Rattle.nd_ledger.specs.Refusals.{IsLive, IsTicketOf, IsFailRefused, IsDownRefused, IsStopRefused};
 
 use crate::following::{enter, record_step};
 use crate::job::Job;
@@ -386,7 +387,7 @@ impl Dispatch {
 
     /// The ticket of a live lease of derivation `drv`.
     fn live_ticket(&self, drv: u32) -> Option<Ticket>
-        ensures { MatchOption result (is_leased drv (reverse self.now.history) ≡ true → ⊥) (λ ticket. (ticket.drv ≡ drv) × IsLive (reverse self.now.history) ticket) }
+        ensures { IsTicketOf (reverse self.now.history) drv result }
     {
         self.lease(drv)
     }
@@ -491,7 +492,7 @@ impl Dispatch {
         keep_going: bool,
     ) -> Result<Dispatch, Parts>
         requires { length machines.items ≤ 1024 }
-        ensures inputs { IfOk result (λ d. d.inputs ≡ record { graph = graph; machines = machines.items; local = local; info = info.entries; keep_going = keep_going }) }
+        ensures inputs { IfOk result (λ d. d.inputs ≡ premises graph machines.items local info.entries keep_going) }
         ensures empty { IfOk result (λ d. d.history ≡ []) }
         ensures back { IfErr result (λ p. p ≡ record { graph = graph; machines = machines; local = local; info = info; keep_going = keep_going }) }
     {

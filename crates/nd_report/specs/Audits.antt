@@ -7,7 +7,7 @@ use Rattle.nd_graph.specs.Graphs.{Nodes}
 use Rattle.nd_closure.specs.Tables.{Table}
 use Rattle.nd_history.specs.declared.entry.Entry.{Entry}
 use Rattle.nd_history.specs.declared.rule.Rule.{Rule}
-use Rattle.nd_history.specs.Premises.{Premises}
+use Rattle.nd_history.specs.Premises.{Premises, premises as together}
 use Rattle.nd_history.specs.Legal.{IsLegal}
 use Rattle.nd_history.specs.Audit.{IsFirstRule}
 use Rattle.nd_ledger.specs.declared.refusal.AdmitError.{AdmitError}
@@ -37,4 +37,4 @@ answer_at index NoMemory = Memory
 
 -- the five inputs together
 abbrev pub premises : Nodes → List Builder → Settings → Table → Bool → Premises
-premises graph machines local info keep_going = record { graph = graph; machines = machines; local = local; info = info.entries; keep_going = keep_going }
+premises graph machines local info keep_going = together graph machines local info.entries keep_going
