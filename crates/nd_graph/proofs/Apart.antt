@@ -4,9 +4,9 @@ use Rattle.std.proofs.Common.{◌≡◌, ℕ, ◌+◌, ◌<◌, ◌≤◌, List,
 use Rattle.std.proofs.lemmas.Bool.{cases_lt}
 use Rattle.std.proofs.lemmas.List.{get_or_append_left, get_or_at}
 use Rattle.std.specs.List.{AllZip}
-use Rattle.nd_graph.specs.Graphs.{needed, node_limit, nodes_of}
+use Rattle.nd_graph.specs.Graphs.{needed, node_limit, nodes_of, IsAt}
 use Rattle.nd_graph.specs.Walks.{AreDistinct, IsAcyclic}
-use Rattle.nd_graph.specs.Whole.{AllNumbered, AreInputsThere, AreNumbered, AreOutputsThere, HasInputs, HasOutputs, IsAt, IsMissingInput, IsMissingOutput, IsNumbered, IsRepeat, IsWholeFault, LacksInput, LacksOutput, Links}
+use Rattle.nd_graph.specs.Whole.{AllNumbered, AreInputsThere, AreNumbered, AreOutputsThere, HasInputs, HasOutputs, IsMissingInput, IsMissingOutput, IsNumbered, IsRepeat, IsWholeFault, LacksInput, LacksOutput, Links}
 use Rattle.nd_graph.specs.declared.fault.GraphError.{GraphError}
 use Rattle.nd_graph.specs.declared.fault.GraphError.TheVariants.{Duplicate, MissingInput, MissingOutput, Cycle, TooMany, Memory}
 use Rattle.nd_graph.specs.declared.graph.Input.{Input}

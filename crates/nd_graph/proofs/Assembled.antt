@@ -4,12 +4,12 @@ use Rattle.std.proofs.lemmas.Bool.{cases_lt}
 use Rattle.std.proofs.lemmas.List.{get_or_default, get_or_past, get_or-map, length-map}
 use Rattle.nd_eligible.specs.declared.need.Need.{Need}
 use Rattle.nd_graph.specs.Columned.{HasColumns}
-use Rattle.nd_graph.specs.Graphs.{nodes_of, needed, node_limit, rows_of, Nodes, IsGraph, IsSound, NamesOutputs}
+use Rattle.nd_graph.specs.Graphs.{nodes_of, needed, node_limit, rows_of, Nodes, IsGraph, IsSound, NamesOutputs, IsAt}
 use Rattle.nd_graph.specs.Numbered.{fault_at}
 use Rattle.nd_graph.specs.Orders.{IsOrderFault}
-use Rattle.nd_graph.specs.Settled.{AreFit, AreSized, IsGraphRead, IsFit, IsRead, IsReadFault, IsResolved, ReadsFit, said, of_line, of_whole}
+use Rattle.nd_graph.specs.Settled.{AreFit, AreSized, IsGraphRead, IsFit, IsRead, IsReadFault, IsResolved, ReadsFit, said, of_line, of_whole, ArePaired, AllNamesRise, NamesRise}
 use Rattle.nd_graph.specs.Walks.{AreDistinct, AreInRange, IsAcyclic, IsOrder}
-use Rattle.nd_graph.specs.Whole.{links_of, AllNumbered, AreNumbered, ArePaired, IsAt, IsGraphOf, IsNumbered, IsTooMany, IsWholeFault, AllNamesRise, NamesRise}
+use Rattle.nd_graph.specs.Whole.{links_of, AllNumbered, AreNumbered, IsGraphOf, IsNumbered, IsTooMany, IsWholeFault}
 use Rattle.nd_graph.specs.declared.columns.Columns.{Columns}
 use Rattle.nd_graph.specs.declared.fault.GraphError.{GraphError}
 use Rattle.nd_graph.specs.declared.fault.GraphError.TheVariants.{BadLine, BadPath, BadDerivation, UnknownOutput, BadAttribute, WrongPath, Duplicate, MissingInput, MissingOutput, Cycle, TooMany, Memory}

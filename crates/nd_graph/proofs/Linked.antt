@@ -4,9 +4,10 @@ use Rattle.std.specs.List.{AllZip, list_any}
 use Rattle.std.proofs.lemmas.List.{take_more, take_all, get_or_default, get_or-take, length-take-le}
 use Rattle.std.proofs.lemmas.List.Elements.{Contains-push_cases}
 use Rattle.nd_path.specs.StorePath.{path_eq}
-use Rattle.nd_graph.specs.Graphs.{IsNumber}
+use Rattle.nd_graph.specs.Settled.{AllNamesRise, NamesRise}
+use Rattle.nd_graph.specs.Graphs.{IsNumber, IsAt}
 use Rattle.nd_graph.specs.Numbering.{LacksItem}
-use Rattle.nd_graph.specs.Whole.{AllNumbered, AreInputsThere, AreNumbered, AreOutputsThere, ArePlaces, HasInputs, HasOutputs, IsAt, IsMissingInput, IsMissingOutput, IsNumbered, LacksInput, LacksName, LacksOutput, AllNamesRise, NamesRise}
+use Rattle.nd_graph.specs.Whole.{AllNumbered, AreInputsThere, AreNumbered, AreOutputsThere, ArePlaces, HasInputs, HasOutputs, IsMissingInput, IsMissingOutput, IsNumbered, LacksInput, LacksName, LacksOutput}
 use Rattle.nd_graph.specs.declared.graph.Input.{Input}
 use Rattle.nd_graph.specs.declared.line.NamedInput.{NamedInput}
 use Rattle.nd_graph.proofs.Numbers.{is_there, not_there}
@@ -51,7 +52,7 @@ places_none names wanted = record { each = tt }
 pub places_more : (names wanted : List (List ℕ)) (places : List ℕ) (i : ℕ) (name : List ℕ) (place : ℕ) → i < length wanted → name ≡ get_or wanted i name → ArePlaces names (take i wanted) places → IsNumber names name (Some place) → ArePlaces names (take (i + 1) wanted) (places ++ place ∷ [])
 places_more names wanted places i name place lt is so at = record {
   each = subst (λ (xs : List (List ℕ)). AllZip (IsAt names) xs (places ++ place ∷ [])) (sym (taken wanted i name lt is))
-      (zip_push (IsAt names) (take i wanted) places name place so.each (record { within = at.0; is = at.1 }));
+      (zip_push (IsAt names) (take i wanted) places name place so.each at);
 }
 
 pub places_all : (names wanted : List (List ℕ)) (places : List ℕ) (i : ℕ) → ArePlaces names (take i wanted) places → length wanted ≤ i → ArePlaces names wanted places
@@ -152,10 +153,6 @@ output_missing paths names wants rows i wanted lt is so lacks =
       lacks = subst (λ (ws : List NamedInput). LacksOutput paths names ws) (is ∙ get_or_default wants i wanted [] lt) lacks;
       number = ap (λ (n : ℕ). n + 1) count;
     }
-
--- a number is a place
-pub at_number : (paths : List (List ℕ)) (path : List ℕ) (i : ℕ) → IsNumber paths path (Some i) → IsAt paths path i
-at_number paths path i is = record { within = is.0; is = is.1 }
 
 -- the names that were read rise
 pub names_rise_at : (names : List (List (List ℕ))) (node : ℕ) (row : List (List ℕ)) → node < length names → row ≡ get_or names node row → AllNamesRise names → NamesRise row

@@ -13,7 +13,7 @@ pub number_found : (paths : List (List ℕ)) (path : List ℕ) (r : Option ℕ) 
 number_found paths path None at found = λ there. true≢false (sym (list_any-from_Contains nat_list_eq_equiv path paths there) ∙ sym found)
 number_found paths path (Some i) at found =
     let is = position-Some (path_eq path) paths i [] (sym at) in
-    (is.0, sym (paths_same path (get_or paths i []) is.1))
+    record { within = is.0; is = sym (paths_same path (get_or paths i []) is.1) }
 
 -- what an insertion into a set answers
 pub was_there : (there added : Bool) → added ≡ not there → added ≡ false → there ≡ true

@@ -6,13 +6,13 @@ use Rattle.std.specs.List.{AllZip}
 use Rattle.std.specs.List.Sorted.{IsStrictlySortedBy}
 use Rattle.nd_bytes.specs.Compared.{bytes_cmp}
 use Rattle.nd_graph.specs.Bundles.{IsBundle, IsBundleRefused, IsFirstFault, IsLineRefused, IsWholeRefused}
-use Rattle.nd_graph.specs.Graphs.{Nodes, node_limit}
+use Rattle.nd_graph.specs.Graphs.{Nodes, node_limit, IsAt}
 use Rattle.nd_graph.specs.Lines.{lines}
 use Rattle.nd_graph.specs.Numbered.{fault_at}
 use Rattle.nd_graph.specs.OneReading.{NeverBoth, OneBundle, OneGraph}
 use Rattle.nd_graph.specs.Reads.{IsLine, IsFaulty}
 use Rattle.nd_graph.specs.Walks.{AreDistinct}
-use Rattle.nd_graph.specs.Whole.{links_of, AllNumbered, AreNumbered, IsAt, IsNumbered, IsWholeFault}
+use Rattle.nd_graph.specs.Whole.{links_of, AllNumbered, AreNumbered, IsNumbered, IsWholeFault}
 use Rattle.nd_graph.specs.declared.fault.GraphError.{GraphError}
 use Rattle.nd_graph.specs.declared.fault.GraphError.TheVariants as bundle
 use Rattle.nd_graph.specs.declared.graph.Input.{Input}

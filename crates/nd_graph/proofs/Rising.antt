@@ -11,7 +11,7 @@ use Rattle.nd_aterm.specs.declared.records.Parts.{Parts}
 use Rattle.nd_graph.specs.Reads.{IsLine}
 use Rattle.nd_graph.specs.declared.line.LineNode.{LineNode}
 
-both : (a b : Bool) → (a && b) ≡ true → (a ≡ true) × (b ≡ true)
+pub both : (a b : Bool) → (a && b) ≡ true → (a ≡ true) × (b ≡ true)
 both true b h = (refl, h)
 both false b h = absurd (true≢false (sym h))
 

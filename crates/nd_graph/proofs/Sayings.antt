@@ -1,5 +1,5 @@
 -- From what was read of a line to what the line says.
-use Rattle.std.proofs.Common.{◌≡◌, ℕ, Bool, true, false, true≢false, ◌&&◌, ◌++◌, List, [], ◌∷◌, map, filter, Some, cond, Result, Ok, Err, IfOk, IfErr, refl, ap, sym, subst, ◌∙◌}
+use Rattle.std.proofs.Common.{◌≡◌, ℕ, Bool, true, false, true≢false, ◌++◌, List, [], ◌∷◌, map, filter, Some, cond, Result, Ok, Err, IfOk, IfErr, refl, ap, sym, subst, ◌∙◌}
 use Rattle.std.specs.List.{list_all, starts_with}
 use Rattle.std.specs.Prelude.{nat_eq, codes}
 use Rattle.nd_aterm.specs.declared.records.EnvEntry.{EnvEntry}
@@ -19,10 +19,7 @@ use Rattle.nd_graph.specs.declared.line.NamedInput.{NamedInput}
 use Rattle.nd_graph.specs.declared.line.LineNode.{LineNode}
 use Rattle.nd_graph.specs.declared.refusal.LineFault.{LineFault}
 use Rattle.nd_graph.specs.declared.refusal.LineFault.TheVariants.{BadLine, BadPath, BadDerivation, UnknownOutput, BadAttribute, WrongPath, Memory}
-
-both : (a b : Bool) → (a && b) ≡ true → (a ≡ true) × (b ≡ true)
-both true b h = (refl, h)
-both false b h = absurd (true≢false (sym h))
+use Rattle.nd_graph.proofs.Rising.{both}
 
 kept_or : (b : Bool) (x : Output) (xs ys : List Output) → b ≡ true → xs ≡ ys → cond b (x ∷ xs) xs ≡ x ∷ ys
 kept_or true x xs ys e same = ap (λ (zs : List Output). x ∷ zs) same

@@ -4,8 +4,8 @@ use Rattle.std.proofs.lemmas.Bool.{cases_lt, cases_eq}
 use Rattle.std.proofs.lemmas.List.{get_or_append_left, get_or_at, get_or_default, get_or-map, length-map, length-set, length_push}
 use Rattle.std.proofs.lemmas.List.Elements.{Contains-push, Contains-push_cases, Contains-append_left}
 use Rattle.std.proofs.lemmas.List.Sums.{sum_by-set}
-use Rattle.nd_graph.specs.Orders.{IsCyclic, input_count, left_of, IsNew, IsOpen, IsSearch, Advances}
-use Rattle.nd_graph.specs.Walks.{inputs_of, Walk, IsOrder, IsRising, AreInRange}
+use Rattle.nd_graph.specs.Orders.{input_count, left_of, IsNew, IsOpen, IsSearch, Advances}
+use Rattle.nd_graph.specs.Walks.{inputs_of, Walk, IsOrder, IsRising, AreInRange, IsCyclic}
 use Rattle.nd_graph.specs.Graphs.{needed}
 use Rattle.nd_graph.specs.declared.graph.Input.{Input}
 use Rattle.nd_graph.proofs.Distinct.{distinct_push, distinct_front, distinct_last}

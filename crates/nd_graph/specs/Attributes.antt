@@ -1,6 +1,7 @@
 -- What a derivation needs of the machine that builds it, as its platform, its builder and its environment say.
 -- Source: Nix Reference Manual, "Advanced Attributes" (`requiredSystemFeatures`, `preferLocalBuild`,
 -- `__structuredAttrs`, whose JSON object stands in the environment as `__json`) and "builtin:fetchurl".
+-- Cited by the readers' clauses, through what a line says.
 use Rattle.std.specs.Prelude.{◌≡◌, ℕ, Bool, false, List, [], ◌∷◌, Option, Some, None, nat_eq, codes, if◌then◌else◌, unwrap_or}
 use Rattle.std.specs.List.{starts_with}
 use Rattle.nd_bytes.specs.Compared.{bytes_eq}

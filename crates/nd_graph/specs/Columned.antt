@@ -1,4 +1,4 @@
--- The parts of nodes as lists with one item per node.
+-- The parts of nodes as lists with one item per node. Serves proofs alone.
 use Rattle.std.specs.Prelude.{◌≡◌, List, map}
 use Rattle.nd_graph.specs.declared.line.LineNode.{LineNode}
 use Rattle.nd_graph.specs.declared.columns.Columns.{Columns}

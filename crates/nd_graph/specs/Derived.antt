@@ -1,5 +1,6 @@
 -- The derivation of a text, and the path that a derivation's text has.
 -- Source: Nix Reference Manual, "Store Path Specification" (kind `text`) and 'Derivation "ATerm" file format'.
+-- Cited by the clauses of the readers and of `drv_path`, through what they say.
 use Rattle.std.specs.Prelude.{◌≡◌, ℕ, ◌≤◌, true, List, length}
 use Rattle.nd_aterm.specs.declared.records.Parts.{Parts}
 use Rattle.nd_aterm.specs.Derivations.{Text}

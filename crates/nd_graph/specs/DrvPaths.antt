@@ -1,4 +1,4 @@
--- The store path of a derivation with a given name and text.
+-- The store path of a derivation with a given name and text. Cited by the clauses of `drv_path`.
 -- Source: Nix Reference Manual, "Store Path Specification": a derivation is a text whose name ends in `.drv`.
 use Rattle.std.specs.Prelude.{◌≡◌, ℕ, Bool, true, false, ◌&&◌, List}
 use Rattle.nd_aterm.specs.declared.records.Parts.{Parts}

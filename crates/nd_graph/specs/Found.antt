@@ -1,4 +1,4 @@
--- What was found of a derivation.
+-- What was found of a derivation. Serves proofs alone.
 use Rattle.std.specs.Prelude.{◌≡◌, ℕ, ◌++◌, List, map, filter}
 use Rattle.std.specs.List.{list_all}
 use Rattle.nd_aterm.specs.declared.records.Output.{Output}
@@ -15,7 +15,7 @@ use Rattle.nd_graph.specs.declared.refusal.LineFault.{LineFault}
 use Rattle.nd_graph.specs.declared.refusal.LineFault.TheVariants.{BadLine, BadPath, BadDerivation, UnknownOutput, BadAttribute, WrongPath, Memory}
 
 -- the names, the known paths, and whether all are known
-pub record HasOutputs (outputs : List Output) (found : Outputs) : Type 0 where
+pub record TellsOutputs (outputs : List Output) (found : Outputs) : Type 0 where
   pub names : found.names ≡ map (λ (output : Output). output.name) outputs
   pub paths : found.paths ≡ map (λ (output : Output). output.path) (filter is_known outputs)
   pub known : found.known ≡ list_all is_known outputs
@@ -24,7 +24,7 @@ pub record HasOutputs (outputs : List Output) (found : Outputs) : Type 0 where
 pub record HasContents (parts : Parts) (contents : Contents) : Type 0 where
   pub inputs : contents.inputs ≡ map named parts.input_drvs
   pub sources : contents.sources ≡ parts.input_srcs
-  pub outputs : HasOutputs parts.outputs contents.outputs
+  pub outputs : TellsOutputs parts.outputs contents.outputs
   pub platform : contents.platform ≡ parts.platform
   pub builder : contents.builder ≡ parts.builder
   pub env : contents.env ≡ parts.env

@@ -1,4 +1,4 @@
--- The graph of a bundle, as contracts see it.
+-- The graph of a bundle, as contracts see it. Cited by the clauses of the graph and its readers, and by the crates above.
 use Rattle.std.specs.Prelude.{◌≡◌, ℕ, ◌<◌, ◌≤◌, List, [], length, map, Contains, Option, None, Some}
 use Rattle.std.specs.List.{slice_index_or}
 use Rattle.nd_eligible.specs.declared.need.Need.{Need}
@@ -54,7 +54,12 @@ pub record IsGraph (nodes : Nodes) (order : List ℕ) : Type 0 where
   pub sound : IsSound nodes
   pub ordered : IsOrder (rows_of nodes) order
 
+-- the place is that of the item
+pub record IsAt (items : List (List ℕ)) (item : List ℕ) (place : ℕ) : Type 0 where
+  pub within : place < length items
+  pub is : slice_index_or items place [] ≡ item
+
 -- the number of the node with this path, or none where there is no such node
 abbrev pub IsNumber : List (List ℕ) → List ℕ → Option ℕ → Type 0
 IsNumber paths path None = Contains paths path → ⊥
-IsNumber paths path (Some i) = (i < length paths) × (slice_index_or paths i [] ≡ path)
+IsNumber paths path (Some i) = IsAt paths path i

@@ -1,6 +1,7 @@
 -- The kinds of path that the parts of a derivation have.
 -- Source: Nix Reference Manual, "Store Path" and "Derivation": a derivation's own store path ends in `.drv`; an
 -- output path that isn't known before the build is the empty string in the derivation text.
+-- Cited by the clauses of the readers and of `drv_path`, through what they say.
 use Rattle.std.specs.Prelude.{ℕ, Bool, ◌&&◌, ◌||◌, ◌==◌, List, map, ◌++◌, length, is_none, not}
 use Rattle.std.specs.List.{list_all}
 use Rattle.nd_aterm.specs.declared.records.InputDrv.{InputDrv}

@@ -1,4 +1,5 @@
 -- The lines of a bundle: a newline-separated text, whose last newline may be missing (this project's own format).
+-- Cited by the readers' clauses, through what a bundle is.
 use Rattle.std.specs.Prelude.{ℕ, ◌==◌, List, [], ◌∷◌}
 use Rattle.std.specs.List.{slice_split}
 

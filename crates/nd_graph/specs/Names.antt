@@ -1,4 +1,4 @@
--- What is printed of a refusal of a bundle. The names are this project's own.
+-- What is printed of a refusal of a bundle. The names are this project's own. Cited where refusals are printed.
 use Rattle.std.specs.Prelude.{ℕ, List, ◌++◌, codes}
 use Rattle.std.specs.Fmt.{decimal}
 use Rattle.nd_graph.specs.declared.fault.GraphError.{GraphError}

@@ -1,4 +1,4 @@
--- A line's refusal as one of the bundle.
+-- A line's refusal as one of the bundle. Cited by the clause of `LineFault::at`.
 use Rattle.std.specs.Prelude.{ℕ}
 use Rattle.nd_graph.specs.declared.refusal.LineFault.{LineFault}
 use Rattle.nd_graph.specs.declared.refusal.LineFault.TheVariants.{BadLine, BadPath, BadDerivation, UnknownOutput, BadAttribute, WrongPath, Memory}

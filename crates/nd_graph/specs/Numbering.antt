@@ -1,4 +1,4 @@
--- When paths can't be numbered.
+-- When paths can't be numbered. Serves proofs alone.
 use Rattle.std.specs.Prelude.{ℕ, List, Contains}
 use Rattle.nd_graph.specs.declared.line.NamedInput.{NamedInput}
 use Rattle.nd_graph.specs.declared.fault.GraphError.{GraphError}

@@ -1,15 +1,9 @@
--- When there is no order of the nodes in which each stands after its inputs: some node is below itself.
--- And the state of a depth-first search for such an order.
+-- The state of a depth-first search for an order of the nodes in which each stands after its inputs. Serves proofs alone.
 use Rattle.std.specs.Prelude.{◌≡◌, ℕ, suc, ◌+◌, ◌<◌, ◌≤◌, List, length, Contains}
 use Rattle.std.specs.List.{slice_index_or}
-use Rattle.nd_graph.specs.Walks.{inputs_of, IsBelow, IsRising, AreDistinct}
+use Rattle.nd_graph.specs.Walks.{inputs_of, IsCyclic, IsRising, AreDistinct}
 use Rattle.nd_graph.specs.declared.fault.GraphError.{GraphError}
 use Rattle.nd_graph.specs.declared.fault.GraphError.TheVariants.{Cycle, Memory}
-
--- some node is below itself
-pub record IsCyclic (rows : List (List ℕ)) : Type 0 where
-  pub node : ℕ
-  pub below : IsBelow rows node node
 
 -- why there is no order: a cycle, or want of memory, which may come at any point
 abbrev pub IsOrderFault : List (List ℕ) → GraphError → Type 0

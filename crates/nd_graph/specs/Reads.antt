@@ -1,4 +1,5 @@
 -- What a line of a bundle says, and when it is refused with which refusal (this project's own format).
+-- Cited by the readers' clauses, through what a bundle is, and by the laws.
 use Rattle.std.specs.Prelude.{◌≡◌, ℕ, Bool, true, false, ◌==◌, List, map, Option, Some, None, Result, Ok, Err}
 use Rattle.nd_bytes.specs.Cut.{until, behind}
 use Rattle.nd_aterm.specs.declared.records.InputDrv.{InputDrv}

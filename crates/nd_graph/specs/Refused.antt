@@ -1,5 +1,5 @@
 -- When a part of a line is refused, by one refusal with a cause. Want of memory may come at any point, and no other
--- refusal comes.
+-- refusal comes. Serves proofs alone.
 use Rattle.std.specs.Prelude.{◌≡◌, ℕ, List, Option, None}
 use Rattle.serde_json.specs.Data.{Data, Items}
 use Rattle.nd_graph.specs.Structured.{IsJson, strings, features_in, preference_in}

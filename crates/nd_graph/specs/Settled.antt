@@ -1,5 +1,8 @@
--- What was read of the lines, put together.
-use Rattle.std.specs.Prelude.{◌≡◌, ℕ, ◌+◌, List, ◌∷◌, ◌++◌, length, map, Contains, Result, Ok, Err}
+-- What was read of the lines, put together. Serves proofs alone.
+use Rattle.std.specs.Prelude.{◌≡◌, ℕ, ◌+◌, ◌<◌, List, [], ◌∷◌, ◌++◌, length, map, Contains, Result, Ok, Err}
+use Rattle.std.specs.List.{slice_index_or}
+use Rattle.std.specs.List.Sorted.{IsStrictlySortedBy}
+use Rattle.nd_bytes.specs.Compared.{bytes_cmp}
 use Rattle.nd_graph.specs.declared.line.LineNode.{LineNode}
 use Rattle.nd_graph.specs.declared.line.NamedInput.{NamedInput}
 use Rattle.nd_graph.specs.declared.refusal.LineFault.{LineFault}
@@ -10,7 +13,20 @@ use Rattle.nd_graph.specs.declared.graph.Input.{Input}
 use Rattle.nd_graph.specs.Graphs.{Nodes, rows_of, IsSound}
 use Rattle.nd_graph.specs.Numbered.{fault_at}
 use Rattle.nd_graph.specs.Walks.{IsAcyclic}
-use Rattle.nd_graph.specs.Whole.{links_of, AllNumbered, AreInputsThere, IsGraphOf, IsMissingInput, IsMissingOutput, IsWholeFault, NamesRise}
+use Rattle.nd_graph.specs.Whole.{links_of, AllNumbered, AreInputsThere, IsGraphOf, IsMissingInput, IsMissingOutput, IsWholeFault}
+
+-- a list of names that rises
+pub record NamesRise (names : List (List ℕ)) : Type 0 where
+  pub rises : IsStrictlySortedBy bytes_cmp names
+
+-- the names of each node rise
+pub record AllNamesRise (names : List (List (List ℕ))) : Type 0 where
+  pub rise : (d : ℕ) → d < length names → NamesRise (slice_index_or names d [])
+
+-- each node has as many output names as output paths
+pub record ArePaired (names : List (List (List ℕ))) (outputs : List (List (List ℕ))) : Type 0 where
+  pub sized : length names ≡ length outputs
+  pub paired : (d : ℕ) → length (slice_index_or names d []) ≡ length (slice_index_or outputs d [])
 
 -- the node has as many output names as output paths, and its output names rise
 pub record IsFit (node : LineNode) : Type 0 where

@@ -1,4 +1,4 @@
--- How far a search for an order is with a node.
+-- How far a search for an order is with a node. Serves proofs alone.
 use Rattle.std.specs.Prelude.{◌≡◌, ℕ, ◌+◌, ◌-◌, ◌<◌, List, Option, None, Some, Contains}
 use Rattle.std.specs.List.{slice_index_or}
 use Rattle.nd_graph.specs.Walks.{inputs_of}

@@ -1,6 +1,7 @@
 -- Structured attributes: the JSON value of a text, and what its members are.
 -- Source: Nix Reference Manual, "Advanced Attributes" (`__structuredAttrs`, `requiredSystemFeatures`,
 -- `preferLocalBuild`). That a member of another kind is a refusal is this project's own choice.
+-- Cited by the readers' clauses, through what a line says.
 use Rattle.std.specs.Prelude.{◌≡◌, ℕ, List, [], ◌∷◌, Bool, false, Option, Some, None, option_map, option_and_then, IsUtf8}
 use Rattle.serde_json.specs.Data.{Data, Items, no_items, item}
 use Rattle.serde_json.specs.Find.{as_bool, as_str, as_array}

@@ -1,5 +1,6 @@
 -- Graphs of nodes 0, 1, 2 .., each given by the list of the nodes that it needs, its inputs.
 -- "Below", "acyclic" and "an order with inputs first" (a topological order) are the usual words on directed graphs.
+-- Cited by the clauses of the graph, and by the crates above.
 use Rattle.std.specs.Prelude.{◌≡◌, ℕ, zero, suc, ◌+◌, ◌<◌, List, [], ◌∷◌, length, Contains, cond, nat_eq}
 use Rattle.std.specs.List.{slice_index_or}
 
@@ -24,6 +25,11 @@ pub record IsBelow (rows : List (List ℕ)) (d x : ℕ) : Type 0 where
 -- no node is below itself
 pub record IsAcyclic (rows : List (List ℕ)) : Type 0 where
   pub apart : (d : ℕ) → IsBelow rows d d → ⊥
+
+-- some node is below itself
+pub record IsCyclic (rows : List (List ℕ)) : Type 0 where
+  pub node : ℕ
+  pub below : IsBelow rows node node
 
 -- no two places of the list hold the same
 pub record AreDistinct {X : Type 0} (xs : List X) : Type 0 where

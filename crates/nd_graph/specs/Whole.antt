@@ -1,17 +1,15 @@
 -- When the lines of a bundle, each of which says a node, are no graph together: the refusals over the whole, in their order
--- (this project's own choice). Nodes are numbered in the order of the lines.
+-- (this project's own choice); and their graph, where they are one. Nodes are numbered in the order of the lines. Cited by the
+-- readers' clauses, through what a bundle is.
 use Rattle.std.specs.Prelude.{◌≡◌, ℕ, ◌+◌, ◌<◌, List, [], ◌∷◌, ◌++◌, length, map, Contains}
 use Rattle.std.specs.List.{slice_index_or, AllZip}
-use Rattle.std.specs.List.Sorted.{IsStrictlySortedBy}
-use Rattle.nd_bytes.specs.Compared.{bytes_cmp}
 use Rattle.nd_graph.specs.declared.line.NamedInput.{NamedInput}
 use Rattle.nd_graph.specs.declared.line.LineNode.{LineNode}
 use Rattle.nd_graph.specs.declared.graph.Input.{Input}
 use Rattle.nd_graph.specs.declared.fault.GraphError.{GraphError}
 use Rattle.nd_graph.specs.declared.fault.GraphError.TheVariants.{Duplicate, MissingInput, MissingOutput, Cycle, TooMany, Memory}
-use Rattle.nd_graph.specs.Graphs.{Nodes, needed, node_limit}
-use Rattle.nd_graph.specs.Orders.{IsCyclic}
-use Rattle.nd_graph.specs.Walks.{AreDistinct, IsAcyclic}
+use Rattle.nd_graph.specs.Graphs.{Nodes, needed, node_limit, IsAt}
+use Rattle.nd_graph.specs.Walks.{AreDistinct, IsAcyclic, IsCyclic}
 
 -- what the lines say of the links between them: node i has the item at i of each list
 pub record Links : Type 0 where
@@ -95,11 +93,6 @@ pub record IsMissingOutput (paths : List (List ℕ)) (names : List (List (List �
 pub record AreOutputsThere (paths : List (List ℕ)) (names : List (List (List ℕ))) (wants : List (List NamedInput)) : Type 0 where
   pub there : (d : ℕ) → d < length wants → HasOutputs paths names (slice_index_or wants d [])
 
--- the place is that of the item
-pub record IsAt (items : List (List ℕ)) (item : List ℕ) (place : ℕ) : Type 0 where
-  pub within : place < length items
-  pub is : slice_index_or items place [] ≡ item
-
 -- the places are those of the wanted items
 pub record ArePlaces (items wanted : List (List ℕ)) (places : List ℕ) : Type 0 where
   pub each : AllZip (IsAt items) wanted places
@@ -147,19 +140,6 @@ IsWholeFault links Cycle = IsCycle links
 IsWholeFault links TooMany = IsTooMany links
 IsWholeFault links Memory = Unit {0}
 IsWholeFault links _ = ⊥
-
--- a list of names that rises
-pub record NamesRise (names : List (List ℕ)) : Type 0 where
-  pub rises : IsStrictlySortedBy bytes_cmp names
-
--- the names of each node rise
-pub record AllNamesRise (names : List (List (List ℕ))) : Type 0 where
-  pub rise : (d : ℕ) → d < length names → NamesRise (slice_index_or names d [])
-
--- each node has as many output names as output paths
-pub record ArePaired (names : List (List (List ℕ))) (outputs : List (List (List ℕ))) : Type 0 where
-  pub sized : length names ≡ length outputs
-  pub paired : (d : ℕ) → length (slice_index_or names d []) ≡ length (slice_index_or outputs d [])
 
 -- the graph has the nodes that the lines say
 pub record IsGraphOf (nodes : List LineNode) (graph : Nodes) : Type 0 where

@@ -1,6 +1,7 @@
 -- What structured attributes say of a derivation's needs.
 -- Source: Nix Reference Manual, "Advanced Attributes" (`__structuredAttrs`, `requiredSystemFeatures`,
 -- `preferLocalBuild`). That a member of another kind is refused is this project's own choice.
+-- Cited by the readers' clauses, through what a line says.
 use Rattle.std.specs.Prelude.{◌≡◌, ℕ, List, Some, codes}
 use Rattle.nd_machines.specs.FeatureSets.{set_of}
 use Rattle.serde_json.specs.Data.{Data, Members}

@@ -4,7 +4,7 @@ ghost use Rattle.std.specs.Prelude.{◌≡◌, true, false, map, IfOk, IfErr, Ma
 ghost use Rattle.nd_graph.specs.Kinds.{is_path, is_drv, is_known, are_drvs, are_paths, are_outputs};
 ghost use Rattle.nd_graph.specs.Reads.{named};
 ghost use Rattle.nd_graph.specs.Refused.{WantsMemory, NotPaths};
-ghost use Rattle.nd_graph.specs.Found.{HasOutputs};
+ghost use Rattle.nd_graph.specs.Found.{TellsOutputs};
 
 use crate::line::NamedInput;
 use crate::refusal::LineFault;
@@ -97,7 +97,7 @@ pub(crate) struct Outputs {
 
 /// The outputs' names and paths.
 pub(crate) fn outputs_of(alloc: Global, outputs: Items<Output>) -> Result<Outputs, LineFault>
-    ensures found { IfOk result (HasOutputs outputs) }
+    ensures found { IfOk result (TellsOutputs outputs) }
     ensures paths { IfOk result (λ _. are_outputs outputs ≡ true) }
     ensures err { IfErr result (λ fault. NotPaths fault (are_outputs outputs ≡ false)) }
 {

@@ -2,9 +2,10 @@
 
 ghost use Rattle.std.specs.Prelude.{◌≡◌, ◌<◌, [], length, Contains, IfOk, IfErr, MatchOption};
 ghost use Rattle.std.specs.List.{slice_index_or};
-ghost use Rattle.nd_graph.specs.Graphs.{IsNumber};
+ghost use Rattle.nd_graph.specs.Settled.{AllNamesRise, NamesRise};
+ghost use Rattle.nd_graph.specs.Graphs.{IsNumber, IsAt};
 ghost use Rattle.nd_graph.specs.Numbering.{IsOutputFault, LacksItem};
-ghost use Rattle.nd_graph.specs.Whole.{AllNumbered, AreInputsThere, AreNumbered, ArePlaces, HasInputs, IsAt, IsNumbered, LacksName, LacksOutput, AllNamesRise, NamesRise};
+ghost use Rattle.nd_graph.specs.Whole.{AllNumbered, AreInputsThere, AreNumbered, ArePlaces, HasInputs, IsNumbered, LacksName, LacksOutput};
 
 use crate::fault::GraphError;
 use crate::graph::Input;
@@ -84,7 +85,6 @@ fn number_input(
 }
 
 /// The number of a path that is there.
-#[tactic(auto, using(crate::proofs::Linked::at_number))]
 fn node_of(paths: &IndexSet<StorePath>, path: &StorePath) -> usize
     requires { Contains paths.now.keys path.now }
     ensures { IsAt paths.now.keys path.now result }

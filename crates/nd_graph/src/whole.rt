@@ -2,9 +2,9 @@
 
 ghost use Rattle.std.specs.Prelude.{◌≡◌, length, map, Ok, IfOk, IfErr};
 ghost use Rattle.nd_graph.specs.Graphs.{rows_of, IsSound};
-ghost use Rattle.nd_graph.specs.Settled.{AreFit, AreSized, IsFirstErr, IsGraphOfColumns, IsGraphRead, IsLinkFault, IsRead, IsReadFault, IsResolved, ReadsFit};
+ghost use Rattle.nd_graph.specs.Settled.{AreFit, AreSized, IsFirstErr, IsGraphOfColumns, IsGraphRead, IsLinkFault, IsRead, IsReadFault, IsResolved, ReadsFit, AllNamesRise, ArePaired};
 ghost use Rattle.nd_graph.specs.Walks.{IsAcyclic};
-ghost use Rattle.nd_graph.specs.Whole.{links_of, AllNamesRise, ArePaired, IsGraphOf, IsWholeFault};
+ghost use Rattle.nd_graph.specs.Whole.{links_of, IsGraphOf, IsWholeFault};
 
 use crate::columns::{Columns, split_nodes};
 use crate::fault::GraphError;

@@ -10,7 +10,7 @@ returns-in-Ok c =
     let names : List (List ℕ) = c.args.names.now in
     let name : List ℕ = c.args.name.now in
     let place : ℕ = c.in-Ok.place in
-    (c.in-Ok.ensures.bound, paths_same (get_or names place []) name (texts_ties (get_or names place []) name ∙ ap is_eq (c.in-Ok.ensures.ok [])))
+    record { within = c.in-Ok.ensures.bound; is = paths_same (get_or names place []) name (texts_ties (get_or names place []) name ∙ ap is_eq (c.in-Ok.ensures.ok [])) }
 
 pub returns-in-Err : goal.returns-in-Err
 returns-in-Err c = λ there.
