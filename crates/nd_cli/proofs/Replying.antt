@@ -15,7 +15,8 @@ use Rattle.nd_hook.specs.Replies.{IsReply}
 use Rattle.nd_hook.specs.ReplyText.{reply_text}
 use Rattle.nd_hook.specs.Written.{WritesPart}
 use Rattle.nd_cli.proofs.Accepted.{same_reply}
-use Rattle.nd_cli.specs.Asks.{idle, all_up, IsFreeHere, IsIdleReply, AreReplies, WritesReply, WritesReplyPart, WritesReplies, WritesSomeReplies}
+use Rattle.nd_hook.specs.Idle.{idle, all_up, IsFreeHere, IsIdleReply}
+use Rattle.nd_cli.specs.Asks.{AreReplies, WritesReply, WritesReplyPart, WritesReplies, WritesSomeReplies}
 
 AllZip-snoc : {A B : Type 0} (R : A → B → Type 0) (xs : List A) (ys : List B) (x : A) (y : B) → AllZip R xs ys → R x y → AllZip R (xs ++ x ∷ []) (ys ++ y ∷ [])
 AllZip-snoc R [] [] x y each here = (here, tt)

@@ -1,34 +1,14 @@
 -- What `ask` writes: for each derivation in order the hook's reply on an idle park.
-use Rattle.std.specs.Prelude.{◌≡◌, ℕ, ◌≤◌, Bool, true, Option, List, length, flat_map, take, replicate, IsTrue, ◌↔◌}
+use Rattle.std.specs.Prelude.{◌≡◌, ℕ, Option, List, flat_map, take}
 use Rattle.std.specs.List.{AllZip}
 use Rattle.std.specs.Io.KnownBytes.{Appends}
 use Rattle.nd_machines.specs.Builders.{Builder}
 use Rattle.nd_eligible.specs.Settings.{Settings}
-use Rattle.nd_eligible.specs.Eligibility.{IsEligibleAt, LocalOk}
 use Rattle.nd_eligible.specs.declared.need.Need.{Need}
 use Rattle.nd_hook.specs.declared.kinds.Reply.{Reply}
-use Rattle.nd_hook.specs.Replies.{IsReply}
+use Rattle.nd_hook.specs.Idle.{IsIdleReply}
 use Rattle.nd_hook.specs.ReplyText.{reply_text}
 use Rattle.nd_hook.specs.Written.{WritesPart}
-
--- no slot is taken
-abbrev pub idle : List Builder → List ℕ
-idle machines = replicate (length machines) 0
-
--- every machine is up
-abbrev pub all_up : List Builder → List Bool
-all_up machines = replicate (length machines) true
-
--- the local machine may build the derivation, and on an idle park one of its slots is free
-pub record IsFreeHere (local : Settings) (need : Need) : Type 0 where
-  pub may : LocalOk local need
-  pub slot : 1 ≤ local.jobs
-
--- the reply about a derivation with this need
-pub record IsIdleReply (machines : List Builder) (local : Settings) (need : Need) (reply : Reply) : Type 0 where
-  pub free_here : Bool
-  pub is_free : IsTrue free_here ↔ IsFreeHere local need
-  pub is : IsReply machines (idle machines) (all_up machines) (IsEligibleAt machines need) free_here reply
 
 -- the replies about derivations with these needs, in order
 pub record AreReplies (machines : List Builder) (local : Settings) (needs : List Need) (text : List ℕ) : Type 0 where

@@ -2,8 +2,9 @@
 
 ghost use Rattle.std.specs.Prelude.{◌≡◌, ◌↔◌, ◌⊎◌, ◌||◌, true, false, IsTrue, OnOk, OnErr, IfErr, is_err};
 ghost use Rattle.nd_eligible.specs.Eligibility.{AreEligible};
-ghost use Rattle.nd_cli.specs.Asks.{IsFreeHere, WritesReplies, WritesSomeReplies, WritesReply, WritesReplyPart, idle, all_up};
+ghost use Rattle.nd_cli.specs.Asks.{WritesReplies, WritesSomeReplies, WritesReply, WritesReplyPart};
 ghost use Rattle.nd_cli.specs.Inputs.{is_write_fault, is_write_failure};
+ghost use Rattle.nd_hook.specs.Idle.{IsFreeHere, idle, all_up};
 
 use crate::fault::CliFault;
 use nd_eligible::{Classes, Local, Need, local_ok};

@@ -2,6 +2,7 @@ pub mod Alike
 pub mod Closing
 pub mod Following
 pub mod Headline
+pub mod IdleReplies
 pub mod Legality
 pub mod OneChoice
 pub mod Provisions

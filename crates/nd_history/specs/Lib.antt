@@ -3,6 +3,7 @@ pub mod Books
 pub mod BooksKept
 pub mod Choices
 pub mod Closing
+pub mod FirstReplies
 pub mod Fitting
 pub mod Headline
 pub mod History

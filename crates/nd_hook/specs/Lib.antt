@@ -1,5 +1,6 @@
 pub mod Device
 pub mod Decisions
+pub mod Idle
 pub mod Replies
 pub mod ReplyText
 pub mod SameAnswers
