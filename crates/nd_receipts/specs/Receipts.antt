@@ -1,9 +1,11 @@
--- Which calls of a transport stand behind a receipt. This project's own choice.
-use Rattle.std.specs.Prelude.{◌≡◌, ℕ, true, false, List, [], ◌∷◌, ◌++◌, ◌⊎◌, slice_get, Some}
+-- Which calls of a transport stand behind a receipt. The clause `calls` of nd_workers' `run` cites `AreCallsIn`; the other
+-- definitions are what it is made of. This project's own choice.
+use Rattle.std.specs.Prelude.{◌≡◌, ℕ, Bool, true, false, List, [], ◌∷◌, ◌++◌, ◌⊎◌, slice_get, take, reverse, Some}
 use Rattle.nd_history.specs.declared.entry.Entry.{Entry}
 use Rattle.nd_history.specs.declared.entry.Entry.TheVariants.{Chosen, NoBuilder, Started, Down, Built, Failed, Stop, Drain, Enable}
 use Rattle.nd_history.specs.declared.entry.Why.{Why}
 use Rattle.nd_history.specs.declared.entry.Why.TheVariants.{Status, Lost, BadReferences, NoWorker, Memory}
+use Rattle.nd_history.specs.History.{is_started}
 use Rattle.nd_transports.specs.declared.kinds.Answer.TheVariants.{Built as AnswerBuilt, Status as AnswerStatus, Lost as AnswerLost}
 use Rattle.nd_transports.specs.declared.kinds.Call.{Call}
 use Rattle.nd_transports.specs.declared.kinds.Call.TheVariants.{Connect, Copy, Build}
@@ -17,25 +19,35 @@ pub record IsOneBuilt (d : ℕ) (n : ℕ) (calls : List Call) : Type 0 where
   pub one : n ≡ 1
   pub is : calls ≡ Build d (AnswerBuilt refs) ∷ []
 
--- the calls behind a failure
-abbrev pub AreCallsOfFailure : ℕ → List (List ℕ) → ℕ → Why → List Call → Type 0
-AreCallsOfFailure n paths d (Status code) calls = (n ≡ 1) × (calls ≡ Build d (AnswerStatus code) ∷ [])
-AreCallsOfFailure n paths d Lost calls = (n ≡ 1) × (calls ≡ Build d AnswerLost ∷ [])
-AreCallsOfFailure n paths d BadReferences calls = IsOneBuilt d n calls
-AreCallsOfFailure n paths d Memory calls = IsOneBuilt d n calls ⊎ (((n ≡ 0) × (calls ≡ [])) ⊎ ((n ≡ 2) × (calls ≡ Connect true ∷ Copy paths true ∷ [])))
-AreCallsOfFailure n paths d NoWorker calls = ⊥
+-- the calls behind a failure for want of memory: the build of a lease that was started; or, where it wasn't, either none
+-- or a connect and a copy that were both answered yes
+abbrev pub AreCallsOfShortage : Bool → ℕ → List (List ℕ) → ℕ → List Call → Type 0
+AreCallsOfShortage true n paths d calls = IsOneBuilt d n calls
+AreCallsOfShortage false n paths d calls = ((n ≡ 0) × (calls ≡ [])) ⊎ ((n ≡ 2) × (calls ≡ Connect true ∷ Copy paths true ∷ []))
 
--- n calls, with the paths of a copy that the entry doesn't hold, behind an entry that a worker makes
-abbrev pub AreCallsFor : ℕ → List (List ℕ) → Entry → List Call → Type 0
-AreCallsFor n paths (Started d copied) calls = (n ≡ 2) × (calls ≡ Connect true ∷ Copy copied true ∷ [])
-AreCallsFor n paths (Down d) calls = ((n ≡ 1) × (calls ≡ Connect false ∷ [])) ⊎ ((n ≡ 2) × (calls ≡ Connect true ∷ Copy paths false ∷ []))
-AreCallsFor n paths (Built d refs) calls = (n ≡ 1) × (calls ≡ Build d (AnswerBuilt refs) ∷ [])
-AreCallsFor n paths (Failed d why) calls = AreCallsOfFailure n paths d why calls
-AreCallsFor n paths (Chosen d m s) calls = ⊥
-AreCallsFor n paths (NoBuilder d) calls = ⊥
-AreCallsFor n paths Stop calls = ⊥
-AreCallsFor n paths (Drain m) calls = ⊥
-AreCallsFor n paths (Enable m) calls = ⊥
+-- the calls behind a failure of a lease that was started, or wasn't
+abbrev pub AreCallsOfFailure : Bool → ℕ → List (List ℕ) → ℕ → Why → List Call → Type 0
+AreCallsOfFailure started n paths d (Status code) calls = (n ≡ 1) × (calls ≡ Build d (AnswerStatus code) ∷ [])
+AreCallsOfFailure started n paths d Lost calls = (n ≡ 1) × (calls ≡ Build d AnswerLost ∷ [])
+AreCallsOfFailure started n paths d BadReferences calls = IsOneBuilt d n calls
+AreCallsOfFailure started n paths d Memory calls = AreCallsOfShortage started n paths d calls
+AreCallsOfFailure started n paths d NoWorker calls = ⊥
+
+-- the two ways in which a lease is given back: the machine wasn't reached, or the copy of these paths failed
+abbrev pub AreCallsOfDown : ℕ → List (List ℕ) → List Call → Type 0
+AreCallsOfDown n paths calls = ((n ≡ 1) × (calls ≡ Connect false ∷ [])) ⊎ ((n ≡ 2) × (calls ≡ Connect true ∷ Copy paths false ∷ []))
+
+-- n calls, with the paths of a copy that the entry doesn't hold, behind an entry that a worker makes after `past`, newest first
+abbrev pub AreCallsFor : List Entry → ℕ → List (List ℕ) → Entry → List Call → Type 0
+AreCallsFor past n paths (Started d copied) calls = (n ≡ 2) × (calls ≡ Connect true ∷ Copy copied true ∷ [])
+AreCallsFor past n paths (Down d) calls = AreCallsOfDown n paths calls
+AreCallsFor past n paths (Built d refs) calls = (n ≡ 1) × (calls ≡ Build d (AnswerBuilt refs) ∷ [])
+AreCallsFor past n paths (Failed d why) calls = AreCallsOfFailure (is_started d past) n paths d why calls
+AreCallsFor past n paths (Chosen d m s) calls = ⊥
+AreCallsFor past n paths (NoBuilder d) calls = ⊥
+AreCallsFor past n paths Stop calls = ⊥
+AreCallsFor past n paths (Drain m) calls = ⊥
+AreCallsFor past n paths (Enable m) calls = ⊥
 
 -- the entry is of this kind
 abbrev pub IsOfKind : Kind → Entry → Type 0
@@ -49,17 +61,18 @@ IsOfKind kind Stop = ⊥
 IsOfKind kind (Drain m) = ⊥
 IsOfKind kind (Enable m) = ⊥
 
--- these are the calls of a receipt whose entry is e
-pub record AreCallsOf (r : Receipt) (e : Entry) (these : List Call) : Type 0 where
+-- these are the calls of a receipt whose entry e came after `past`, newest first
+pub record AreCallsOf (past : List Entry) (r : Receipt) (e : Entry) (these : List Call) : Type 0 where
   pub kind : IsOfKind r.kind e
-  pub calls : AreCallsFor r.calls r.paths e these
+  pub calls : AreCallsFor past r.calls r.paths e these
 
--- these are the calls of the receipts in order, each entry beside its receipt
-pub data AreCallsOfAll : List Receipt → List Entry → List Call → Type 0 where
-  none : AreCallsOfAll [] [] []
-  more : (r : Receipt) (e : Entry) (these : List Call) (rs : List Receipt) (es : List Entry) (rest : List Call) → AreCallsOf r e these → AreCallsOfAll rs es rest → AreCallsOfAll (r ∷ rs) (e ∷ es) (these ++ rest)
+-- these are the calls of a receipt, for the entry of the history that it names and what stands before that entry
+pub record AreCallsAt (history : List Entry) (r : Receipt) (these : List Call) : Type 0 where
+  pub entry : Entry
+  pub at : slice_get history r.index ≡ Some entry
+  pub calls : AreCallsOf (reverse (take r.index history)) r entry these
 
--- .. each for the entry of the history that it names
+-- these are the calls of the receipts, one after another
 pub data AreCallsIn (history : List Entry) : List Receipt → List Call → Type 0 where
   none : AreCallsIn history [] []
-  more : (r : Receipt) (e : Entry) (these : List Call) (rs : List Receipt) (rest : List Call) → slice_get history r.index ≡ Some e → AreCallsOf r e these → AreCallsIn history rs rest → AreCallsIn history (r ∷ rs) (these ++ rest)
+  more : (r : Receipt) (these : List Call) (rs : List Receipt) (rest : List Call) → AreCallsAt history r these → AreCallsIn history rs rest → AreCallsIn history (r ∷ rs) (these ++ rest)

@@ -1,6 +1,8 @@
--- What is known while the entries of a run are gone through.
-use Rattle.std.specs.Prelude.{◌≡◌, ℕ, suc, ◌+◌, ◌≤◌, List, ◌∷◌, Some, drop, length, replicate, slice_get, slice_set}
+-- What is known while the entries of a run are gone through. No public clause but that of `are_dealt` and of `Tables` cites
+-- these definitions; the rest serves proofs.
+use Rattle.std.specs.Prelude.{◌≡◌, ℕ, suc, ◌+◌, ◌==◌, ◌≤◌, Bool, true, false, if◌then◌else◌, List, ◌∷◌, Option, Some, None, drop, length, replicate, slice_get, slice_set}
 use Rattle.nd_history.specs.declared.entry.Entry.{Entry}
+use Rattle.nd_history.specs.declared.entry.Entry.TheVariants.{Chosen, NoBuilder, Started, Down, Built, Failed, Stop, Drain, Enable}
 use Rattle.nd_receipts.specs.declared.receipt.Receipt.{Receipt}
 use Rattle.nd_receipts.specs.declared.receipt.Kind.{Kind}
 use Rattle.nd_receipts.specs.Dealt.{place_of, marks_of, marks_on, HasWorker}
@@ -46,3 +48,15 @@ pub record IsDealt (places : List (ℕ × ℕ)) (rows : List (List Receipt)) (i 
   pub follows : Follows places choices after e
   pub left : (past es : List Entry) → Knows places choices past → AreLeft places rows now (i + 1) (e ∷ past) es → AreLeft places rows met i past (e ∷ es)
   pub has : (past : List Entry) → Knows places choices past → HasWorker places past e
+
+-- what an entry says of whether derivation d is started: its start that it is, its choice that it isn't
+abbrev pub start_said : ℕ → Entry → Option Bool
+start_said d (Started e paths) = if d == e then Some true else None
+start_said d (Chosen e m s) = if d == e then Some false else None
+start_said d (NoBuilder e) = None
+start_said d (Down e) = None
+start_said d (Built e refs) = None
+start_said d (Failed e why) = None
+start_said d Stop = None
+start_said d (Drain m) = None
+start_said d (Enable m) = None

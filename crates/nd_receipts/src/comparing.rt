@@ -1,10 +1,11 @@
 //! Whether the entries of a history are those that workers noted.
 
-ghost use Rattle.std.specs.Prelude.{◌≡◌, ◌↔◌, ◌∷◌, [], ℕ, List, Some, slice_get, true, length, IsTrue};
+ghost use Rattle.std.specs.Prelude.{◌≡◌, ◌↔◌, ◌∷◌, [], ℕ, List, Some, slice_get, reverse, true, length, IsTrue};
 ghost use Rattle.std.specs.List.{AllZip, list_any, list_all};
-ghost use Rattle.nd_history.specs.History.{is_stop};
+ghost use Rattle.nd_history.specs.History.{is_started, is_stop};
 ghost use Rattle.nd_receipts.specs.Made.{made, is_made, is_quiet};
-ghost use Rattle.nd_receipts.specs.Noted.{IsNotedIn};
+ghost use Rattle.nd_receipts.specs.Noted.{TellsStart, IsNotedIn};
+ghost use Rattle.nd_receipts.specs.Walks.{start_said};
 
 use crate::receipt::Receipt;
 use nd_closure::Refs;
@@ -102,17 +103,81 @@ fn is_noted(entry: &Entry, copy: &Entry) -> bool
     }
 }
 
-/// Whether the entry stands at this place of the history.
-fn is_at(history: &[Entry], index: usize, copy: &Entry) -> bool
-    ensures { result ≡ true → slice_get history.now index ≡ Some copy.now }
+/// What an entry says of whether this derivation is started: its start that it is, its choice that it isn't.
+fn start_said(entry: &Entry, drv: u32) -> Option<bool>
+    ensures { result ≡ start_said drv entry.now }
 {
-    match history.get(index) {
-        Some(entry) => is_noted(entry, copy),
-        None => false,
+    match entry {
+        Entry::Started { drv: d, .. } => {
+            if drv == *d {
+                return Some(true);
+            }
+            None
+        }
+        Entry::Chosen { drv: d, .. } => {
+            if drv == *d {
+                return Some(false);
+            }
+            None
+        }
+        Entry::NoBuilder { .. }
+        | Entry::Down { .. }
+        | Entry::Built { .. }
+        | Entry::Failed { .. }
+        | Entry::Stop
+        | Entry::Drain { .. }
+        | Entry::Enable { .. } => None,
     }
 }
 
-/// Whether each receipt names the place of the entry that was noted beside it.
+/// Whether the derivation was started since its last choice among these entries.
+#[tactic(auto, using(crate::proofs::Starts::starts))]
+fn is_started(past: &[Entry], drv: u32) -> bool
+    ensures { result ≡ is_started drv (reverse past.now) }
+{
+    let mut rest = past;
+    'searching: while let Some((entry, earlier)) = rest.split_last() {
+        if let Some(started) = start_said(entry, drv) {
+            return started;
+        }
+        rest = earlier;
+    }
+    false
+}
+
+/// Whether the receipt of a failure for want of memory tells of its lease's start what these entries before
+/// it do: one call, the build, stands behind it exactly where the lease was started.
+fn tells_start(past: &[Entry], receipt: &Receipt, copy: &Entry) -> bool
+    ensures { result ≡ true → TellsStart past.now receipt.now copy.now }
+{
+    match copy {
+        Entry::Failed { drv, why } => {
+            if *why != Why::Memory {
+                return true;
+            }
+            (receipt.calls == 1) == is_started(past, *drv)
+        }
+        _ => true,
+    }
+}
+
+/// Whether the entry that was noted stands where its receipt says, and the receipt tells of its lease's
+/// start what stands before it.
+fn is_at(history: &[Entry], receipt: &Receipt, copy: &Entry) -> bool
+    ensures { result ≡ true → IsNotedIn history.now receipt.now copy.now }
+{
+    let Some(entry) = history.get(receipt.index) else {
+        return false;
+    };
+    if !is_noted(entry, copy) {
+        return false;
+    }
+    let (past, _) = history.split_at(receipt.index);
+    tells_start(past, receipt, copy)
+}
+
+/// Whether each receipt names the place of the entry that was noted beside it, and those of failures for
+/// want of memory tell whether the lease was started.
 pub fn are_as_noted(history: &[Entry], receipts: &[Receipt], copies: &[Entry]) -> bool
     ensures { result ≡ true → AllZip (IsNotedIn history.now) receipts.now copies.now }
 {
@@ -122,7 +187,7 @@ pub fn are_as_noted(history: &[Entry], receipts: &[Receipt], copies: &[Entry]) -
         let Some((copy, behind)) = left.split_first() else {
             return false;
         };
-        if !is_at(history, receipt.index, copy) {
+        if !is_at(history, receipt, copy) {
             return false;
         }
         rest = more;

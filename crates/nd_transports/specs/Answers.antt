@@ -1,4 +1,5 @@
--- How a build ended, with and without the references that it reported. This project's own choice.
+-- How a build ended, with and without the references that it reported. The clause of `Answer::ended` cites it, and so do
+-- the definitions of calls. This project's own choice.
 use Rattle.nd_transports.specs.declared.kinds.Answer.{Answer}
 use Rattle.nd_transports.specs.declared.kinds.Answer.TheVariants.{Built, Status, Lost}
 use Rattle.nd_transports.specs.declared.kinds.Ended.{Ended}

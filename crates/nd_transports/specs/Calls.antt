@@ -1,4 +1,5 @@
--- What a transport is seen as, and what each call does to it. This project's own choice.
+-- What a transport is seen as, and what each call does to it. The clauses of `Transport` and `CallLog` cite these
+-- definitions. This project's own choice.
 use Rattle.std.specs.Prelude.{◌≡◌, ℕ, Bool, List, [], ◌∷◌, ◌++◌, if◌then◌else◌}
 use Rattle.nd_transports.specs.declared.kinds.Answer.{Answer}
 use Rattle.nd_transports.specs.declared.kinds.Answer.TheVariants.{Built}
@@ -17,6 +18,10 @@ pub record State : Type 0 where
   pub paths : List (List ℕ)
   -- the calls so far, oldest first, with their answers
   pub calls : List Call
+
+-- nothing was prepared or called yet
+abbrev pub unused : State
+unused = record { phase = Idle; drv = 0; paths = []; calls = [] }
 
 -- a job was prepared
 abbrev pub prepared : State → ℕ → List (List ℕ) → State

@@ -1,4 +1,5 @@
--- How the calls of a transport are stored.
+-- How the calls of a transport are stored. No clause cites these definitions: they are the view and the invariant of
+-- `CallLog`, for proofs alone.
 use Rattle.std.specs.Prelude.{ℕ, ◌+◌, ◌≤◌, vec_len, vec_capacity}
 use Rattle.nd_transports.specs.declared.call_log.CallLog.TheInside.{Inside}
 use Rattle.nd_transports.specs.declared.kinds.Phase.{Phase}

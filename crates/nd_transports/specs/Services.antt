@@ -1,4 +1,5 @@
--- What serving a lease does to its transport: the calls that stand behind each answer. This project's own choice.
+-- What serving a lease does to its transport: the calls that stand behind each answer. The clauses of `serve_copy` and
+-- `serve_build` cite these definitions. This project's own choice.
 use Rattle.std.specs.Prelude.{◌≡◌, ℕ, true, false, List, [], ◌∷◌, ◌++◌, ◌⊎◌}
 use Rattle.nd_transports.specs.declared.kinds.Answer.TheVariants.{Built, Status, Lost}
 use Rattle.nd_transports.specs.declared.kinds.Call.TheVariants.{Connect, Copy}

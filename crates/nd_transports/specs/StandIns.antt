@@ -1,5 +1,5 @@
--- What a stand-in answers. This project's own choice.
-use Rattle.std.specs.Prelude.{◌≡◌, ℕ, Bool, true, not, ◌&&◌, ◌==◌, ◌-◌, List, [], Option, Some, None, replicate, ◌⊎◌}
+-- What a stand-in answers. The clauses of `StandIn` cite these definitions. This project's own choice.
+use Rattle.std.specs.Prelude.{◌≡◌, ℕ, Bool, true, false, not, ◌&&◌, ◌==◌, ◌-◌, List, [], Option, Some, None, replicate, ◌⊎◌}
 use Rattle.std.specs.List.{find, list_any}
 use Rattle.nd_transports.specs.declared.kinds.Answer.{Answer}
 use Rattle.nd_transports.specs.declared.kinds.Answer.TheVariants.{Built, Status, Lost}
@@ -8,7 +8,7 @@ use Rattle.nd_script.specs.declared.rule.Rule.TheVariants.{NoConnect, NoCopy, Fa
 use Rattle.nd_script.specs.Rules.{is_no_connect, is_no_copy, is_about}
 use Rattle.nd_transports.specs.declared.kinds.Ended.{Ended}
 use Rattle.nd_transports.specs.Answers.{ended_of}
-use Rattle.nd_transports.specs.Calls.{State, built}
+use Rattle.nd_transports.specs.Calls.{State, unused, prepared, built}
 
 pub record Stood : Type 0 where
   -- the machine that it stands for
@@ -20,6 +20,14 @@ pub record Stood : Type 0 where
   pub fuse : Option ℕ
   -- the transport that it is
   pub state : State
+
+-- a stand-in for a machine, with nothing called and no fuse
+abbrev pub fresh : ℕ → List Rule → Stood
+fresh machine rules = record { machine = machine; outputs = 0; rules = rules; fuse = None; state = unused }
+
+-- a job with so many outputs was prepared
+abbrev pub readied : Stood → ℕ → ℕ → List (List ℕ) → Stood
+readied s outputs drv paths = record s { outputs = outputs; state = prepared s.state drv paths }
 
 -- how a build ends by its rule; without one it reports an empty list for each output
 abbrev pub answer_by : ℕ → Option Rule → Answer
@@ -50,9 +58,17 @@ connects s = lets_pass s.fuse && not (list_any (is_no_connect s.machine) s.rules
 abbrev pub copies : Stood → Bool
 copies s = lets_pass s.fuse && not (list_any (is_no_copy s.machine) s.rules)
 
--- a build is lost where it isn't let pass or no memory is found for its references, and else ends as the rules say
-abbrev pub IsTold : Bool → Answer → Answer → Type 0
-IsTold passes ruled answer = (answer ≡ Lost) ⊎ ((passes ≡ true) × (answer ≡ ruled))
+-- the build ends with its outputs, for whose references memory is wanted
+abbrev pub NeedsLists : Answer → Type 0
+NeedsLists (Built refs) = Unit {0}
+NeedsLists (Status code) = ⊥
+NeedsLists Lost = ⊥
+
+-- a build that the fuse lets pass ends as the rules say, or is lost where they say that it ends with its outputs, for
+-- whose references no memory was found; one that the fuse doesn't let pass is lost
+pub record IsTold (passes : Bool) (ruled answer : Answer) : Type 0 where
+  pub blown : passes ≡ false → answer ≡ Lost
+  pub passed : passes ≡ true → (answer ≡ ruled) ⊎ ((answer ≡ Lost) × NeedsLists ruled)
 
 -- a build with that answer
 pub record StandInBuilds (s : Stood) (ended : Ended) (t : Stood) : Type 0 where

@@ -1,4 +1,4 @@
--- How a stand-in is stored.
+-- How a stand-in is stored. No clause cites this definition: it is the view of `StandIn`, for proofs alone.
 use Rattle.nd_transports.specs.declared.stand_in.StandIn.TheInside.{Inside}
 use Rattle.nd_transports.specs.StandIns.{Stood}
 

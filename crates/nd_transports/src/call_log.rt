@@ -1,7 +1,7 @@
 //! The calls of a transport, and how far it is.
 
 ghost use Rattle.std.specs.Prelude.{◌≡◌, ℕ, List, [], IfOk, OnOk, OnErr};
-ghost use Rattle.nd_transports.specs.Calls.{prepared, IsIdleAgain, connected, copied, built, Reports};
+ghost use Rattle.nd_transports.specs.Calls.{unused, prepared, IsIdleAgain, connected, copied, built, Reports};
 
 use crate::kinds::{Answer, Call, Phase};
 use nd_closure::Refs;
@@ -37,7 +37,7 @@ impl Model for CallLog {
 impl CallLog {
     /// No calls, and no job. It takes no memory.
     pub fn new(alloc: Global) -> CallLog
-        ensures { result ≡ record { phase = Phase.Idle; drv = 0; paths = []; calls = [] } }
+        ensures { result ≡ unused }
     {
         CallLog {
             phase: Phase::Idle,

@@ -32,9 +32,9 @@ pub enum Outcome {
     Memory,
 }
 
-/// Prepares a job, calls its machine and copies its paths.
-pub fn serve_copy(transport: &mut dyn Transport, job: &Job) -> Fetch
-    ensures { Fetches (state transport.old) job.now.ticket.drv job.now.paths result (state transport.new) }
+/// Prepares a job, calls its machine and copies its paths. Where memory is refused nothing is called.
+pub fn serve_copy<T: Transport>(transport: &mut T, job: &Job) -> Fetch
+    ensures { Fetches (T.state transport.old) job.now.ticket.drv job.now.paths result (T.state transport.new) }
 {
     if transport.prepare(job).is_err() {
         return Fetch::Memory;
@@ -49,9 +49,9 @@ pub fn serve_copy(transport: &mut dyn Transport, job: &Job) -> Fetch
 }
 
 /// Builds what was prepared and copied, and takes the references that the build reported.
-pub fn serve_build(transport: &mut dyn Transport) -> Outcome
-    requires { (state transport.old).phase ≡ Phase.Copied }
-    ensures { Serves (state transport.old) result (state transport.new) }
+pub fn serve_build<T: Transport>(transport: &mut T) -> Outcome
+    requires { (T.state transport.old).phase ≡ Phase.Copied }
+    ensures { Serves (T.state transport.old) result (T.state transport.new) }
 {
     match transport.build() {
         Ended::Built => match transport.reported() {

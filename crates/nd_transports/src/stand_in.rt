@@ -5,7 +5,7 @@ ghost use Rattle.std.specs.List.{find, list_any};
 ghost use Rattle.nd_transports.specs.Answers.{ended_of};
 ghost use Rattle.nd_transports.specs.Calls.{prepared, connected, copied, built, Reports, IsIdleAgain};
 ghost use Rattle.nd_script.specs.Rules.{is_no_connect, is_no_copy, is_about};
-ghost use Rattle.nd_transports.specs.StandIns.{answer_by, answer_of, lets_pass, burnt, connects, copies, IsTold, StandInBuilds};
+ghost use Rattle.nd_transports.specs.StandIns.{fresh, readied, answer_by, lets_pass, burnt, connects, copies, NeedsLists, IsTold, StandInBuilds};
 
 use crate::call_log::CallLog;
 use crate::kinds::{Answer, Ended, Phase};
@@ -19,8 +19,8 @@ use std::marker::Model;
 
 /// A transport without a machine behind it, which follows rules. Of several rules about a build the
 /// first decides. Where none fits, a connect and a copy answer yes, and a build reports an empty list
-/// for each output. A stand-in that finds no memory for the references of a build answers that it was
-/// lost.
+/// for each output. A build that is to end with its outputs, and for whose references no memory is found,
+/// is lost; one that is to end otherwise takes no memory.
 #[derive(Drop, Debug)]
 pub struct StandIn {
     alloc: Global,
@@ -44,7 +44,7 @@ impl Model for StandIn {
 impl StandIn {
     /// A stand-in for this machine, without a fuse. It takes no memory.
     pub fn new(machine: u32, rules: Vec<Rule>) -> StandIn
-        ensures { result ≡ record { machine = machine; outputs = 0; rules = rules.items; fuse = None; state = record { phase = Phase.Idle; drv = 0; paths = []; calls = [] } } }
+        ensures { result ≡ fresh machine rules.items }
     {
         let alloc = *rules.allocator();
         StandIn {
@@ -102,8 +102,8 @@ fn refuses_copy(rules: &[Rule], machine: u32) -> bool
     rules.iter().any(|rule| rule.is_no_copy(machine))
 }
 
-/// How the build of derivation `drv` ends: it is lost where the fuse doesn't let it pass, or where no
-/// memory is found for its references.
+/// How the build of derivation `drv` ends: it is lost where the fuse doesn't let it pass, or where it ends
+/// with its outputs and no memory is found for their references.
 fn told(alloc: Global, rules: &[Rule], drv: u32, outputs: usize, passes: bool) -> Answer
     ensures { IsTold passes (answer_by outputs (find (is_about drv) rules.now)) result }
 {
@@ -116,9 +116,11 @@ fn told(alloc: Global, rules: &[Rule], drv: u32, outputs: usize, passes: bool) -
     }
 }
 
-/// How the build of derivation `drv` ends by the first of these rules about it.
+/// How the build of derivation `drv` ends by the first of these rules about it. Memory is refused for the
+/// references of outputs alone.
 fn answer(alloc: Global, rules: &[Rule], drv: u32, outputs: usize) -> Result<Answer, AllocError>
-    ensures { IfOk result (λ answer. answer ≡ answer_by outputs (find (is_about drv) rules.now)) }
+    ensures ok { IfOk result (λ answer. answer ≡ answer_by outputs (find (is_about drv) rules.now)) }
+    ensures err { OnErr result (NeedsLists (answer_by outputs (find (is_about drv) rules.now))) }
 {
     for rule in rules {
         if rule.is_about(drv) {
@@ -128,9 +130,10 @@ fn answer(alloc: Global, rules: &[Rule], drv: u32, outputs: usize) -> Result<Ans
     Ok(Answer::Built(empty_lists(alloc, outputs)?))
 }
 
-/// How a build ends by this rule.
+/// How a build ends by this rule. Memory is refused for the references of outputs alone.
 fn answer_by(alloc: Global, rule: &Rule, outputs: usize) -> Result<Answer, AllocError>
-    ensures { IfOk result (λ answer. answer ≡ answer_by outputs (Some rule.now)) }
+    ensures ok { IfOk result (λ answer. answer ≡ answer_by outputs (Some rule.now)) }
+    ensures err { OnErr result (NeedsLists (answer_by outputs (Some rule.now))) }
 {
     match rule {
         Rule::Fail(_, code) => Ok(Answer::Status(*code)),
@@ -151,7 +154,7 @@ impl Transport for StandIn {
     ghost state = { λ s. s.state };
 
     fn prepare(&mut self, job: &Job) -> Result<(), AllocError>
-        ensures ok { OnOk result (self.new ≡ record self.old { outputs = job.now.outputs; state = prepared self.old.state job.now.ticket.drv job.now.paths }) }
+        ensures ok { OnOk result (self.new ≡ readied self.old job.now.outputs job.now.ticket.drv job.now.paths) }
         ensures err { OnErr result (IsIdleAgain self.old.state self.new.state) }
         ensures kept { OnErr result (self.new ≡ record self.old { state = self.new.state }) }
     {

@@ -5,7 +5,7 @@ use Rattle.nd_history.specs.declared.entry.Entry.{Entry}
 use Rattle.nd_receipts.specs.declared.receipt.Receipt.{Receipt}
 use Rattle.nd_workers.specs.declared.working.End.{End}
 use Rattle.nd_workers.specs.declared.working.End.TheVariants.{Again, Finished, Left, Refused}
-use Rattle.nd_receipts.specs.Receipts.AreCallsOfAll.{none}
+use Rattle.nd_receipts.specs.Noted.AreLeases.{none}
 use Rattle.nd_receipts.specs.Noted.{Noted, Track, track, GoesOn}
 use Rattle.nd_workers.specs.Ends.{EndsWell}
 use Rattle.nd_workers.specs.Served.{Seated, IsServed}

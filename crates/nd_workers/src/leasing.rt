@@ -3,8 +3,7 @@
 
 ghost use Rattle.std.specs.Prelude.{◌≡◌, ◌+◌, ◌<◌, ◌≤◌, [], true, IfOk, IfErr, OnOk, OnErr, ℕ, List};
 ghost use Rattle.nd_receipts.specs.Made.{is_worker_cause};
-ghost use Rattle.nd_receipts.specs.Noted.{HasNoted, HasBegun, HasEnded, GoesOn, track};
-ghost use Rattle.nd_transports.specs.Services.{Fetches, Serves};
+ghost use Rattle.nd_receipts.specs.Noted.{HasNoted, HasBegun, HasEnded, HasFetched, IsFinished, GoesOn, track};
 
 use crate::desk::Desk;
 use crate::hand::Hand;
@@ -14,8 +13,8 @@ use nd_history::{Entry, Ticket, Why};
 use nd_ledger::{Job, Refusal, Refused};
 use nd_path::PathSet;
 use nd_receipts::receipt::Kind;
-use nd_transports::kinds::{Ended, Phase};
-use nd_transports::serving::{Fetch, Outcome};
+use nd_transports::kinds::Phase;
+use nd_transports::serving::{Fetch, Outcome, serve_build, serve_copy};
 use nd_transports::transport::Transport;
 use std::alloc::{AllocError, Global};
 use std::sync::{Condvar, Mutex, Wait};
@@ -25,37 +24,6 @@ use std::sync::{Condvar, Mutex, Wait};
 pub(crate) struct Shared<L: Opened> {
     pub(crate) desk: Mutex<Desk<L>>,
     pub(crate) changed: Condvar,
-}
-
-/// As [`nd_transports::serving::serve_copy`], through a transport of any type.
-fn fetch<T: Transport>(transport: &mut T, job: &Job) -> Fetch
-    ensures { Fetches (T.state transport.old) job.now.ticket.drv job.now.paths result (T.state transport.new) }
-{
-    if transport.prepare(job).is_err() {
-        return Fetch::Memory;
-    }
-    if !transport.connect() {
-        return Fetch::Refused(1);
-    }
-    if !transport.copy() {
-        return Fetch::Refused(2);
-    }
-    Fetch::Copied
-}
-
-/// As [`nd_transports::serving::serve_build`], through a transport of any type.
-fn build<T: Transport>(transport: &mut T) -> Outcome
-    requires { (T.state transport.old).phase ≡ Phase.Copied }
-    ensures { Serves (T.state transport.old) result (T.state transport.new) }
-{
-    match transport.build() {
-        Ended::Built => match transport.reported() {
-            Ok(refs) => Outcome::Built(refs),
-            Err(_) => Outcome::Memory,
-        },
-        Ended::Status(code) => Outcome::Status(code),
-        Ended::Lost => Outcome::Lost,
-    }
 }
 
 /// Under the lock, gives a lease back.
@@ -263,8 +231,8 @@ fn unfinished<L: Opened, R: Wait>(
     Ok(())
 }
 
-/// Builds what was copied, and makes the entry of its end.
-#[tactic(auto, using(crate::proofs::Going::goes_status, crate::proofs::Going::goes_lost, crate::proofs::Going::goes_unreported))]
+/// Builds what was copied, and makes the entry of its end: one build stands behind it.
+#[tactic(auto, using(crate::proofs::Going::finishes_status, crate::proofs::Going::finishes_lost, crate::proofs::Going::finishes_unreported))]
 fn build_lease<L: Opened, T: Transport, R: Wait>(
     rt: &R,
     alloc: Global,
@@ -276,9 +244,9 @@ fn build_lease<L: Opened, T: Transport, R: Wait>(
     requires room { 0 < hand.old.notes.room }
     requires phase { (T.state transport.old).phase ≡ Phase.Copied }
     requires drv { (T.state transport.old).drv ≡ ticket.drv }
-    ensures { OnOk result (GoesOn (track hand.old.notes (T.state transport.old).calls) (track hand.new.notes (T.state transport.new).calls)) }
+    ensures { OnOk result (IsFinished (track hand.old.notes (T.state transport.old).calls) (track hand.new.notes (T.state transport.new).calls) ticket.drv) }
 {
-    match build(transport) {
+    match serve_build(transport) {
         Outcome::Built(refs) => {
             finish(rt, alloc, shared, hand, ticket, refs)?;
             Ok(())
@@ -298,8 +266,9 @@ fn build_lease<L: Opened, T: Transport, R: Wait>(
     }
 }
 
-/// Copies what a lease needs, and makes the entry of its start. The answer is whether it started.
-#[tactic(auto, using(crate::proofs::Going::goes_begun, crate::proofs::Going::begun_room, crate::proofs::Going::goes_short))]
+/// Copies what a lease needs, and makes the entry of its start, or of its end where it can't start. The
+/// answer is whether it started.
+#[tactic(auto, using(crate::proofs::Going::has_begun, crate::proofs::Going::begun_room, crate::proofs::Going::goes_short))]
 fn fetch_lease<L: Opened, T: Transport, R: Wait>(
     rt: &R,
     alloc: Global,
@@ -309,12 +278,12 @@ fn fetch_lease<L: Opened, T: Transport, R: Wait>(
     job: Job,
 ) -> Result<bool, Refusal>
     requires { 0 < hand.old.notes.room }
-    ensures goes { OnOk result (GoesOn (track hand.old.notes (T.state transport.old).calls) (track hand.new.notes (T.state transport.new).calls)) }
+    ensures goes { IfOk result (HasFetched (track hand.old.notes (T.state transport.old).calls) (track hand.new.notes (T.state transport.new).calls) job.ticket.drv) }
     ensures phase { result ≡ Ok true → (T.state transport.new).phase ≡ Phase.Copied }
     ensures drv { result ≡ Ok true → (T.state transport.new).drv ≡ job.ticket.drv }
     ensures room { OnOk result (hand.old.notes.room ≤ hand.new.notes.room + 1) }
 {
-    let fetched = fetch(transport, &job);
+    let fetched = serve_copy(transport, &job);
     let ticket = job.ticket;
     let paths = into_paths(job);
     match fetched {
@@ -373,7 +342,8 @@ pub(crate) fn serve<L: Opened, T: Transport, R: Wait>(
     ensures { OnOk result (GoesOn (track hand.old.notes (T.state transport.old).calls) (track hand.new.notes (T.state transport.new).calls)) }
 {
     let ticket = job.ticket;
-    if !fetch_lease(rt, alloc, shared, hand, transport, job)? {
+    let started = fetch_lease(rt, alloc, shared, hand, transport, job)?;
+    if !started {
         return Ok(());
     }
     build_lease(rt, alloc, shared, hand, transport, ticket)
