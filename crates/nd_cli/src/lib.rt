@@ -1,4 +1,5 @@
-//! The engines of the program `nix-dispatch`: each command as a function over a reader and a writer.
+//! The commands `path` and `ask` as functions over a reader and a writer; and what all commands share: the
+//! options, the reading of an input, the park that is described, and faults.
 #![tactic(auto)]
 
 pub mod ask;

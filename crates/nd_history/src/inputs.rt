@@ -11,7 +11,7 @@ use nd_graph::Graph;
 use nd_machines::Machine;
 use std::alloc::{AllocError, Global};
 
-/// The five inputs as [`crate::Dispatch::new`] hands them back where memory was refused.
+/// The five inputs as `Dispatch::new` of `nd_ledger` hands them back where memory was refused.
 #[derive(Drop, Debug)]
 pub struct Parts {
     /// The derivations and what each needs.

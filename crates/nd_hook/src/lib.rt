@@ -1,4 +1,5 @@
-//! The replies of a build hook, and how they are written.
+//! The replies of a build hook and the decisions about a derivation, how a reply is written, and readers
+//! and writers that remember whether they refused a call.
 #![tactic(auto)]
 
 mod decisions;

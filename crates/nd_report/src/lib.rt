@@ -1,4 +1,5 @@
-//! The audit of a history, the report of how a dispatch stands, and the texts of histories.
+//! The audit of a history, and the report of how a dispatch stands. The readers and writers of history
+//! texts, which are those of `nd_texts`, are handed on.
 #![tactic(auto)]
 
 mod audit_error;

@@ -1,14 +1,14 @@
-//! Why a line of a script has no command.
+//! Why a line of a script has no command, or one of a stand text no rule.
 
 ghost use Rattle.std.specs.Prelude.{◌≡◌};
 ghost use Rattle.nd_script.specs.declared.line_fault.LineFault.TheVariants.{Memory};
 
 use std::alloc::{AllocError, AllocFailed};
 
-/// Why a line has no command; its number joins it later.
+/// Why a line has no command or no rule; its number joins it later.
 #[derive(Clone, Copy, Debug, PartialEq, Eq)]
 pub enum LineFault {
-    /// The line is none of those of a script.
+    /// The line is none of those of a script, or of a stand text.
     Bad,
     /// An allocation was refused.
     Memory,

@@ -1,4 +1,5 @@
-//! The words of a script's line behind the first one: numbers, sets of paths, and lists of such sets.
+//! The words behind the first one of a line, in a script or a stand text: numbers, sets of paths, and lists
+//! of such sets.
 
 ghost use Rattle.std.specs.Prelude.{◌≡◌, [], IfOk, IfErr, MatchOption};
 ghost use Rattle.std.specs.Option.{option_copied};

@@ -1,0 +1,80 @@
+#!/bin/sh
+# Runs the checks that the gate doesn't have, one after another, and says of each that it passed, that it
+# failed, or what it was skipped for:
+#
+#     checks/all.sh [--long]
+#
+# farm.sh          the replies and the paths of the bundled example; needs the built program
+# runs.py          runs on threads, and the audit of their histories; needs the built program and Python 3
+# allocations.sh   each allocation refused in turn; needs the built program, a C compiler, and the tests of
+#                  `nd_lease_examples` that `rt test` leaves in its folder
+# wrong-bodies.sh  the wrong bodies that the gate leaves out; needs the toolchain, and takes hours, so it is
+#                  run with --long alone
+#
+# `./build` builds the program. Another check that is put beside these is run where the program is built.
+# The status is 0 where each check that ran has passed, 1 where one has failed, 2 where none ran.
+set -u
+cd "$(dirname "$0")/.." || exit 2
+program=crates/nix_dispatch/out/nix_dispatch
+tests=crates/nd_lease_examples/out/nd_lease_examples_tests
+long=
+if [ "$*" = --long ]; then
+  long=yes
+elif [ "$#" -ne 0 ]; then
+  echo 'usage: checks/all.sh [--long]' >&2
+  exit 2
+fi
+
+# What a check needs.
+needs_of() {
+  case $1 in
+    allocations.sh) echo program cc tests ;;
+    runs.py) echo program python3 ;;
+    wrong-bodies.sh) echo rt git time ;;
+    *) echo program ;;
+  esac
+}
+
+# What is wanting of this, in words; nothing where it is there.
+wanting() {
+  case $1 in
+    program) [ -x "$program" ] || echo 'the program is not built: ./build' ;;
+    tests) [ -x "$tests" ] || echo 'the tests are not built: cd crates/nd_lease_examples && rt test' ;;
+    time) [ -n "$long" ] || echo 'it takes hours: checks/all.sh --long' ;;
+    *) command -v "$1" > /dev/null || echo "there is no $1" ;;
+  esac
+}
+
+passed=0
+failed=0
+skipped=0
+for check in checks/*.sh checks/*.py; do
+  name=${check#checks/}
+  [ "$name" = all.sh ] && continue
+  why=
+  for need in $(needs_of "$name"); do
+    why=$(wanting "$need")
+    [ -z "$why" ] || break
+  done
+  if [ -n "$why" ]; then
+    echo "-- $name: skipped, $why"
+    skipped=$((skipped + 1))
+    continue
+  fi
+  echo "-- $name"
+  case $name in
+    *.py) python3 "$check" ;;
+    *) "./$check" ;;
+  esac
+  status=$?
+  if [ "$status" -eq 0 ]; then
+    echo "-- $name: passed"
+    passed=$((passed + 1))
+  else
+    echo "-- $name: failed with status $status"
+    failed=$((failed + 1))
+  fi
+done
+echo "$passed passed, $failed failed, $skipped skipped"
+[ "$failed" -eq 0 ] || exit 1
+[ "$passed" -gt 0 ] || exit 2
