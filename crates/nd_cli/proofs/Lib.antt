@@ -1,2 +1,3 @@
 pub mod Replying
 pub mod Accepted
+pub mod Whole

@@ -71,6 +71,19 @@ pub record HasPark (options : ParkOptions) (text : List ℕ) (graph : Nodes) (ma
   pub builders : HasBuilders options machines
   pub references : HasInfo options info
 
+-- the parts of two parks, of which the second ones are these
+pub record AreSameParts (graph same_graph : Nodes) (machines same_machines : List Builder) (info same_info : List (List ℕ × List (List ℕ))) : Type 0 where
+  pub graphs : graph ≡ same_graph
+  pub builders : machines ≡ same_machines
+  pub references : info ≡ same_info
+
+-- each of them is accepted
+pub record IsParkAccepted (options : ParkOptions) (text : List ℕ) : Type 0 where
+  pub graph : Nodes
+  pub machines : List Builder
+  pub info : List (List ℕ × List (List ℕ))
+  pub has : HasPark options text graph machines info
+
 -- the bundle is refused, or else the builders list, or else the info text
 abbrev pub IsParkFault : ParkOptions → List ℕ → CliFault → Type 0
 IsParkFault options text e =

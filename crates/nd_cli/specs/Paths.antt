@@ -11,6 +11,11 @@ use Rattle.nd_cli.specs.declared.fault.DerivationRefusal.TheVariants.{BadPath, B
 use Rattle.nd_cli.specs.declared.fault.CliFault.{CliFault}
 use Rattle.nd_cli.specs.declared.fault.CliFault.TheVariants.{Derivation, Drvs, Builders, Info, Script, Stand, History, TooLarge, TooManySlots, Read, Write, Memory, Thread, Receipts}
 
+-- the text is within the limit, and has this path under the name
+pub record HasPath (name text path : List ℕ) : Type 0 where
+  pub within : length text ≤ limit
+  pub is : IsDrvPath name text path
+
 -- the path and a newline were written, of a whole input within the limit
 pub record AnswersPath (name : List ℕ) (unread left written_before written : Option (List ℕ)) : Type 0 where
   pub text : List ℕ

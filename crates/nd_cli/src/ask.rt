@@ -1,6 +1,8 @@
 //! The command `ask`.
 
-ghost use Rattle.std.specs.Prelude.{◌≡◌, true, false, IfOk, IfErr, OnOk};
+ghost use Rattle.std.specs.Prelude.{◌≡◌, ℕ, List, Some, true, false, IfOk, IfErr, OnOk};
+ghost use Rattle.nd_cli.specs.Parks.{IsParkAccepted};
+ghost use Rattle.nd_cli.specs.Statuses.{exit_status};
 ghost use Rattle.nd_cli.specs.Asked.{AnswersAsk, AnswersAskInPart, IsAskFault};
 ghost use Rattle.nd_cli.specs.Inputs.{is_write_fault, is_read_failure, is_write_failure};
 
@@ -21,7 +23,8 @@ use std::thread::Threads;
 /// `Drvs` for the bundle; `TooLarge` or `Builders` for the builders list; `TooLarge` or `Info` for the
 /// info text. `Write` leaves a part of the replies, from their beginning. `Memory` may come at any
 /// point before the replies are written. The reader is marked exactly at `Read`, and the writer exactly
-/// at `Write`.
+/// at `Write`. Where a reader that is known to have a whole bundle left has one that is accepted, with
+/// the other inputs, nothing but `Read`, `Write` and `Memory` comes.
 pub fn ask_engine<R: Read, W: Write>(
     rt: &(impl Threads + Sync),
     alloc: Global,
@@ -36,6 +39,7 @@ pub fn ask_engine<R: Read, W: Write>(
     ensures fault { IfErr result (IsAskFault options.now (R.remaining input.old.device) (R.remaining input.new.device) input.new.is_marked output.new.is_marked) }
     ensures reader_mark { input.new.is_marked ≡ is_read_failure result }
     ensures writer_mark { output.new.is_marked ≡ is_write_failure result }
+    ensures exactly { (text : List ℕ) → R.remaining input.old.device ≡ Some text → IsParkAccepted options.now text → IfErr result (λ e. exit_status e ≡ 5) }
     ensures untouched { IfErr result (λ e. is_write_fault e ≡ false → output.new ≡ output.old) }
     ensures partly { IfErr result (λ e. is_write_fault e ≡ true → AnswersAskInPart options.now (R.remaining input.old.device) (R.remaining input.new.device) (W.contents output.old.device) (W.contents output.new.device)) }
 {

@@ -1,11 +1,13 @@
 //! The command `path`.
 
-ghost use Rattle.std.specs.Prelude.{◌≡◌, ◌≤◌, ◌++◌, ◌∷◌, ◌||◌, [], true, false, length, is_err, IfOk, IfErr, OnOk, OnErr};
+ghost use Rattle.std.specs.Prelude.{◌≡◌, ◌≤◌, ℕ, List, Some, MatchResult, ◌++◌, ◌∷◌, ◌||◌, [], true, false, length, is_err, IfOk, IfErr, OnOk, OnErr};
 ghost use Rattle.std.specs.Io.KnownBytes.{Appends};
 ghost use Rattle.nd_graph.specs.DrvPaths.{IsDrvPath};
 ghost use Rattle.nd_hook.specs.Written.{WritesPart};
+ghost use Rattle.nd_cli.specs.declared.fault.CliFault.{CliFault};
+ghost use Rattle.nd_cli.specs.Statuses.{exit_status};
 ghost use Rattle.nd_cli.specs.Inputs.{limit, is_write_fault, is_read_failure, is_write_failure};
-ghost use Rattle.nd_cli.specs.Paths.{AnswersPath, AnswersPathInPart, IsPathFault, IsTextFault};
+ghost use Rattle.nd_cli.specs.Paths.{HasPath, AnswersPath, AnswersPathInPart, IsPathFault, IsTextFault};
 
 use crate::fault::{CliFault, DerivationRefusal, Place};
 use crate::input::{LIMIT, read_input};
@@ -20,7 +22,8 @@ use std::io::{Read, Write};
 ///
 /// A refusal comes in this order, and nothing is written then: `Read`, `TooLarge`, `Derivation`. `Write`
 /// leaves a part of the line, from its beginning. `Memory` may come at any point before the line is
-/// written. The reader is marked exactly at `Read`, and the writer exactly at `Write`.
+/// written. The reader is marked exactly at `Read`, and the writer exactly at `Write`. Where a reader that
+/// is known to have a whole text left has one with a path, nothing but `Read`, `Write` and `Memory` comes.
 pub fn path_engine<R: Read, W: Write>(
     alloc: Global,
     name: &[u8],
@@ -35,6 +38,7 @@ pub fn path_engine<R: Read, W: Write>(
     ensures reader_mark { input.new.is_marked ≡ is_read_failure result }
     ensures writer_mark { output.new.is_marked ≡ is_write_failure result }
     ensures partly { IfErr result (λ e. is_write_fault e ≡ true → AnswersPathInPart name.now (R.remaining input.old.device) (R.remaining input.new.device) (W.contents output.old.device) (W.contents output.new.device)) }
+    ensures exactly { (text path : List ℕ) → R.remaining input.old.device ≡ Some text → HasPath name.now text path → IfErr result (λ e. exit_status e ≡ 5) }
     ensures untouched { IfErr result (λ e. is_write_fault e ≡ false → output.new ≡ output.old) }
 {
     let text = match read_input(alloc, input) {
@@ -62,6 +66,7 @@ fn derivation_path(alloc: Global, name: &[u8], text: &[u8]) -> Result<StorePath,
     ensures found { IfOk result (IsDrvPath name.now text.now) }
     ensures within { OnOk result (length text.now ≤ limit) }
     ensures refused { IfErr result (IsTextFault name.now text.now) }
+    ensures exactly { (path : List ℕ) → HasPath name.now text.now path → MatchResult result (λ p. p ≡ path) (λ e. e ≡ CliFault.Memory) }
 {
     if text.len() > LIMIT {
         return Err(CliFault::TooLarge(Place::Derivation));

@@ -15,7 +15,8 @@ use Rattle.nd_ledger.specs.Worlds.{World}
 use Rattle.nd_report.specs.Audits.{IsFirstIllegal}
 use Rattle.nd_script.specs.declared.command.Command.{Command}
 use Rattle.nd_cli.specs.Inputs.{ReadsWhole, IsReadFault, is_write_fault, is_write_failure}
-use Rattle.nd_cli.specs.Parks.{HasPark, IsParkFault, local_of}
+use Rattle.nd_cli.specs.Parks.{AreSameParts, HasPark, IsParkFault, local_of}
+use Rattle.nd_cli.specs.Statuses.{exit_status}
 use Rattle.nd_cli.specs.declared.options.ParkOptions.{ParkOptions}
 use Rattle.nd_cli.specs.declared.fault.CliFault.{CliFault}
 use Rattle.nd_cli.specs.declared.fault.CliFault.TheVariants.{Derivation, Drvs, Builders, Info, Script, Stand, History, TooLarge, TooManySlots, Read, Write, Memory, Thread, Receipts}
@@ -402,3 +403,23 @@ pub sim_read_no_write : (options : ParkOptions) (script : List ℕ) (unread left
     → ((writer_marked : Bool) → IsSimFault options script unread left reader_marked writer_marked e) → is_write_fault e ≡ false
 sim_read_no_write options script unread left reader_marked Write fault = absurd (false_or_true (fault false))
 sim_read_no_write options script unread left reader_marked _ fault = refl
+
+-- a verdict that isn't out is no refusal of an input
+pub verdict_ends : (marked : Bool) (e : CliFault) → IsVerdictFault marked e → exit_status e ≡ 5
+verdict_ends marked Write fault = refl
+verdict_ends marked Memory fault = refl
+verdict_ends marked _ fault = absurd fault
+
+-- the same inputs with this flag
+abbrev premises_keeping : Premises → Bool → Premises
+premises_keeping i keep_going = record { graph = i.graph; machines = i.machines; local = i.local; info = i.info; keep_going = keep_going }
+
+-- the inputs of a dispatch are the accepted ones
+pub same_inputs : (options : ParkOptions) (text : List ℕ) (i made : Premises) (graph : Nodes) (machines : List Builder) (local : Settings) (info : List (List ℕ × List (List ℕ)))
+    → HasInputs options text i → made ≡ inputs_of options graph machines local info → local ≡ local_of options → AreSameParts graph i.graph machines i.machines info i.info → made ≡ i
+same_inputs options text i made graph machines local info has is here same =
+    is ∙ ap (λ (g : Nodes). inputs_of options g machines local info) same.graphs
+    ∙ ap (λ (m : List Builder). inputs_of options i.graph m local info) same.builders
+    ∙ ap (λ (l : Settings). inputs_of options i.graph i.machines l info) (here ∙ sym has.local)
+    ∙ ap (λ (t : List (List ℕ × List (List ℕ))). inputs_of options i.graph i.machines i.local t) same.references
+    ∙ ap (premises_keeping i) (sym has.keep_going)

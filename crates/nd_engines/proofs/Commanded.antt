@@ -59,3 +59,9 @@ pub script_refused : (i : Premises) (drvs machines : ℕ) (script : List ℕ) (r
     → IsRefused drvs machines script refusal → IsRefused (length i.graph.paths) (machines_in i) script refusal
 script_refused i drvs machines script refusal all park refused =
     at_sizes i (λ (d m : ℕ). IsRefused d m script refusal) drvs machines all park refused
+
+pub script_wanted : (i : Premises) (drvs machines : ℕ) (script : List ℕ) (commands : List Command) → drvs ≡ length i.graph.paths → machines ≡ machines_in i → HasScript i script commands
+    → AreCommands drvs machines (lines_of script) commands
+script_wanted i drvs machines script commands all park has =
+    subst (λ (m : ℕ). AreCommands drvs m (lines_of script) commands) (sym park)
+    (subst (λ (d : ℕ). AreCommands d (machines_in i) (lines_of script) commands) (sym all) has.says)

@@ -13,6 +13,7 @@ use Rattle.nd_texts.specs.Sound.{IsHistoryText, IsRefused}
 use Rattle.nd_report.specs.Audits.{IsFirstIllegal}
 use Rattle.nd_texts.specs.declared.history_error.HistoryError.{HistoryError}
 use Rattle.nd_cli.specs.Inputs.{limit}
+use Rattle.nd_cli.specs.Parks.{IsParkAccepted}
 use Rattle.nd_cli.specs.Asked.{RefusesPark}
 use Rattle.nd_cli.specs.declared.options.ParkOptions.{ParkOptions}
 use Rattle.nd_cli.specs.declared.fault.Place.{Place}
@@ -98,6 +99,12 @@ pub record AnswersAuditInPart (options : ParkOptions) (history : List ℕ) (unre
   pub entries : List Entry
   pub has : HasHistory history entries
   pub verdict : WritesVerdictPart inputs entries before written
+
+-- each input is accepted
+pub record IsAuditAccepted (options : ParkOptions) (text history : List ℕ) : Type 0 where
+  pub park : IsParkAccepted options text
+  pub entries : List Entry
+  pub has : HasHistory history entries
 
 -- the bundle and the park are accepted, and the history text is refused for this reason
 pub record RefusesHistory (options : ParkOptions) (history : List ℕ) (unread left : Option (List ℕ)) (fault : CliFault) : Type 0 where

@@ -8,7 +8,7 @@ use Rattle.nd_cli.specs.declared.options.ParkOptions.{ParkOptions}
 use Rattle.nd_cli.specs.declared.fault.CliFault.{CliFault}
 use Rattle.nd_cli.specs.declared.fault.CliFault.TheVariants.{Derivation, Drvs, Builders, Info, Script, Stand, History, TooLarge, TooManySlots, Read, Write, Memory, Thread, Receipts}
 use Rattle.nd_sim.specs.Written.{WritesSimulation, WritesSimulationPart}
-use Rattle.nd_engines.specs.Opened.{ReadsInputs}
+use Rattle.nd_engines.specs.Opened.{HasInputs, ReadsInputs}
 use Rattle.nd_engines.specs.Scripts.{HasScript, IsScriptFault}
 
 -- the inputs are accepted: a dispatch over them, with the empty history, and the commands of the script
@@ -16,6 +16,13 @@ pub record IsSimGiven (options : ParkOptions) (script : List ℕ) (unread left :
   pub reads : ReadsInputs options unread left dispatch.inputs
   pub empty : dispatch.history ≡ []
   pub says : HasScript dispatch.inputs script commands
+
+-- each input is accepted
+pub record IsSimAccepted (options : ParkOptions) (text script : List ℕ) : Type 0 where
+  pub inputs : Premises
+  pub has : HasInputs options text inputs
+  pub commands : List Command
+  pub says : HasScript inputs script commands
 
 -- the inputs are accepted, and the simulation was written
 pub record AnswersSim (options : ParkOptions) (script : List ℕ) (status : ℕ) (unread left before written : Option (List ℕ)) : Type 0 where

@@ -1,12 +1,13 @@
 //! The command `audit`.
 
-ghost use Rattle.std.specs.Prelude.{◌≡◌, ◌≤◌, ◌||◌, true, false, length, is_err, IfOk, IfErr, OnOk, OnErr};
+ghost use Rattle.std.specs.Prelude.{◌≡◌, ◌≤◌, ◌||◌, ℕ, List, Some, true, false, length, is_err, IfOk, IfErr, OnOk, OnErr};
 ghost use Rattle.std.specs.Io.KnownBytes.{Appends};
 ghost use Rattle.nd_hook.specs.Written.{WritesPart};
 ghost use Rattle.nd_cli.specs.declared.fault.CliFault.{CliFault};
+ghost use Rattle.nd_cli.specs.Statuses.{exit_status};
 ghost use Rattle.nd_cli.specs.Inputs.{is_write_fault, is_read_failure, is_write_failure};
 ghost use Rattle.nd_report.specs.Audits.{premises};
-ghost use Rattle.nd_engines.specs.Audited.{AnswersAudit, AnswersAuditInPart, IsAuditFault, WritesVerdict, WritesVerdictPart, IsVerdictFault, legal_line, illegal_line};
+ghost use Rattle.nd_engines.specs.Audited.{IsAuditAccepted, AnswersAudit, AnswersAuditInPart, IsAuditFault, WritesVerdict, WritesVerdictPart, IsVerdictFault, legal_line, illegal_line};
 
 use crate::reading::read_audit_inputs;
 use crate::verdict::{write_illegal, write_legal};
@@ -29,7 +30,8 @@ const ILLEGAL: u8 = 4;
 /// `Drvs` for the bundle; `TooLarge` or `Builders` for the builders list; `TooLarge` or `Info` for the
 /// info text; `TooLarge` or `History` for the history text. `Write` leaves a part of the line, from its
 /// beginning. `Memory` may come at any point before the line is written. The reader is marked exactly at
-/// `Read`, and the writer exactly at `Write`.
+/// `Read`, and the writer exactly at `Write`. Where a reader that is known to have a whole bundle left
+/// has one that is accepted, with the other inputs, nothing but `Read`, `Write` and `Memory` comes.
 pub fn audit_engine<R: Read, W: Write>(
     rt: &(impl Threads + Sync),
     alloc: Global,
@@ -44,6 +46,7 @@ pub fn audit_engine<R: Read, W: Write>(
     ensures fault { IfErr result (IsAuditFault options.now history.now (R.remaining input.old.device) (R.remaining input.new.device) input.new.is_marked output.new.is_marked) }
     ensures reader_mark { input.new.is_marked ≡ is_read_failure result }
     ensures writer_mark { output.new.is_marked ≡ is_write_failure result }
+    ensures exactly { (text : List ℕ) → R.remaining input.old.device ≡ Some text → IsAuditAccepted options.now text history.now → IfErr result (λ e. exit_status e ≡ 5) }
     ensures untouched { IfErr result (λ e. is_write_fault e ≡ false → output.new ≡ output.old) }
     ensures partly { IfErr result (λ e. is_write_fault e ≡ true → AnswersAuditInPart options.now history.now (R.remaining input.old.device) (R.remaining input.new.device) (W.contents output.old.device) (W.contents output.new.device)) }
 {

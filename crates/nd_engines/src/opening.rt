@@ -1,8 +1,10 @@
 //! The dispatch over what a command was given, from its making to its end.
 
-ghost use Rattle.std.specs.Prelude.{IfOk, IfErr};
+ghost use Rattle.std.specs.Prelude.{◌≡◌, IfOk, IfErr, MatchResult};
+ghost use Rattle.nd_history.specs.Premises.{Premises};
+ghost use Rattle.nd_cli.specs.declared.fault.CliFault.{CliFault};
 ghost use Rattle.nd_cli.specs.Parks.{IsParkFault};
-ghost use Rattle.nd_engines.specs.Opened.{IsOpened};
+ghost use Rattle.nd_engines.specs.Opened.{HasInputs, IsOpened};
 
 use nd_cli::{CliFault, ParkOptions, read_park};
 use nd_ledger::Dispatch;
@@ -22,6 +24,7 @@ pub(crate) fn open_dispatch(
 ) -> Result<Dispatch, CliFault>
     ensures opened { IfOk result (IsOpened options.now text.now) }
     ensures refused { IfErr result (IsParkFault options.now text.now) }
+    ensures exactly { (inputs : Premises) → HasInputs options.now text.now inputs → MatchResult result (λ dispatch. dispatch.inputs ≡ inputs) (λ e. e ≡ CliFault.Memory) }
 {
     let park = match read_park(rt, alloc, options, text) {
         Ok(park) => park,

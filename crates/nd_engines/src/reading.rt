@@ -1,12 +1,13 @@
 //! What `sim` and `audit` are given.
 
-ghost use Rattle.std.specs.Prelude.{◌≡◌, ◌≤◌, Bool, false, length, IfOk, IfErr};
+ghost use Rattle.std.specs.Prelude.{◌≡◌, ◌≤◌, ℕ, List, Some, Bool, false, length, IfOk, IfErr};
 ghost use Rattle.std.specs.List.{All};
 ghost use Rattle.nd_cli.specs.Inputs.{is_read_failure};
+ghost use Rattle.nd_cli.specs.Statuses.{exit_status};
 ghost use Rattle.nd_sim.specs.Answers.{IsNamed};
 ghost use Rattle.nd_engines.specs.Opened.{inputs_of, ReadsInputs};
-ghost use Rattle.nd_engines.specs.Simulated.{IsSimGiven, IsSimFault};
-ghost use Rattle.nd_engines.specs.Audited.{HasHistory, IsAuditFault};
+ghost use Rattle.nd_engines.specs.Simulated.{IsSimAccepted, IsSimGiven, IsSimFault};
+ghost use Rattle.nd_engines.specs.Audited.{HasHistory, IsAuditAccepted, IsAuditFault};
 
 use crate::history::read_entries;
 use crate::opening::{close_dispatch, open_dispatch};
@@ -52,6 +53,7 @@ pub(crate) fn read_sim_inputs<R: Read>(
     ensures read { IfOk result (λ given. IsSimGiven options.now script.now (R.remaining input.old.device) (R.remaining input.new.device) given.dispatch given.commands.items) }
     ensures named { IfOk result (λ given. All (IsNamed given.dispatch.inputs) given.commands.items) }
     ensures mark { input.new.is_marked ≡ is_read_failure result }
+    ensures exactly { (text : List ℕ) → R.remaining input.old.device ≡ Some text → IsSimAccepted options.now text script.now → IfErr result (λ e. exit_status e ≡ 5) }
     ensures fault { IfErr result (λ e. (writer_marked : Bool) → IsSimFault options.now script.now (R.remaining input.old.device) (R.remaining input.new.device) input.new.is_marked writer_marked e) }
 {
     let text = match read_input(alloc, input) {
@@ -89,6 +91,7 @@ pub(crate) fn read_audit_inputs<R: Read>(
     ensures entries { IfOk result (λ given. HasHistory history.now given.entries.items) }
     ensures few { IfOk result (λ given. length given.park.machines.items ≤ 1024) }
     ensures mark { input.new.is_marked ≡ is_read_failure result }
+    ensures exactly { (text : List ℕ) → R.remaining input.old.device ≡ Some text → IsAuditAccepted options.now text history.now → IfErr result (λ e. exit_status e ≡ 5) }
     ensures fault { IfErr result (λ e. (writer_marked : Bool) → IsAuditFault options.now history.now (R.remaining input.old.device) (R.remaining input.new.device) input.new.is_marked writer_marked e) }
 {
     let text = match read_input(alloc, input) {

@@ -1,12 +1,13 @@
 //! The command `sim`.
 
-ghost use Rattle.std.specs.Prelude.{◌≡◌, ◌||◌, true, false, [], IfOk, IfErr, OnErr};
+ghost use Rattle.std.specs.Prelude.{◌≡◌, ◌||◌, ℕ, List, Some, true, false, [], IfOk, IfErr, OnErr};
 ghost use Rattle.std.specs.List.{All};
 ghost use Rattle.nd_sim.specs.Answers.{IsNamed};
+ghost use Rattle.nd_cli.specs.Statuses.{exit_status};
 ghost use Rattle.nd_cli.specs.Inputs.{is_read_failure, is_write_failure};
 ghost use Rattle.nd_sim.specs.Written.{WritesSimulation, WritesSimulationPart};
 ghost use Rattle.nd_sim.specs.Written.{is_write_failure as is_writer_failure};
-ghost use Rattle.nd_engines.specs.Simulated.{AnswersSim, LeavesSim, IsSimFault, may_have_begun};
+ghost use Rattle.nd_engines.specs.Simulated.{IsSimAccepted, AnswersSim, LeavesSim, IsSimFault, may_have_begun};
 
 use crate::opening::close_dispatch;
 use crate::reading::{SimInputs, read_sim_inputs};
@@ -26,7 +27,8 @@ use std::thread::Threads;
 /// `Drvs` for the bundle; `TooLarge` or `Builders` for the builders list; `TooLarge` or `Info` for the
 /// info text; `TooLarge` or `Script` for the script. `Write` and `Memory` leave the beginning of the
 /// text; `Memory` may come at any point. The reader is marked exactly at `Read`, and the writer exactly
-/// at `Write`.
+/// at `Write`. Where a reader that is known to have a whole bundle left has one that is accepted, with
+/// the other inputs, nothing but `Read`, `Write` and `Memory` comes.
 pub fn sim_engine<R: Read, W: Write>(
     rt: &(impl Threads + Sync),
     alloc: Global,
@@ -41,6 +43,7 @@ pub fn sim_engine<R: Read, W: Write>(
     ensures fault { IfErr result (IsSimFault options.now script.now (R.remaining input.old.device) (R.remaining input.new.device) input.new.is_marked output.new.is_marked) }
     ensures reader_mark { input.new.is_marked ≡ is_read_failure result }
     ensures writer_mark { output.new.is_marked ≡ is_write_failure result }
+    ensures exactly { (text : List ℕ) → R.remaining input.old.device ≡ Some text → IsSimAccepted options.now text script.now → IfErr result (λ e. exit_status e ≡ 5) }
     ensures untouched { IfErr result (λ e. may_have_begun e ≡ false → output.new ≡ output.old) }
     ensures partly { IfErr result (λ e. may_have_begun e ≡ true → LeavesSim options.now script.now (R.remaining input.old.device) (R.remaining input.new.device) (W.contents output.old.device) (W.contents output.new.device)) }
 {

@@ -45,6 +45,15 @@ pub record IsGiven (options : ParkOptions) (stand : List ℕ) (unread left : Opt
   pub begun : dispatch.history ≡ []
   pub ruled : HasRules stand (length (rows_of graph)) (length machines + 1) rules
 
+-- each input is accepted
+pub record IsGivenAccepted (options : ParkOptions) (text stand : List ℕ) : Type 0 where
+  pub graph : Nodes
+  pub machines : List Builder
+  pub info : List (List ℕ × List (List ℕ))
+  pub park : HasPark options text graph machines info
+  pub rules : List Rule
+  pub ruled : HasRules stand (length (rows_of graph)) (length machines + 1) rules
+
 -- the park and the bundle are accepted, and the stand text is refused for this reason
 pub record IsStandAtFault (options : ParkOptions) (text stand : List ℕ) (fault : CliFault) : Type 0 where
   pub graph : Nodes

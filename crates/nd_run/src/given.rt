@@ -1,8 +1,11 @@
 //! What `run` is given.
 
-ghost use Rattle.std.specs.Prelude.{◌≡◌, false, IfOk, IfErr};
+ghost use Rattle.std.specs.Prelude.{◌≡◌, ℕ, List, Some, false, IfOk, IfErr, MatchResult};
+ghost use Rattle.nd_script.specs.declared.rule.Rule.{Rule};
+ghost use Rattle.nd_cli.specs.declared.fault.CliFault.{CliFault};
 ghost use Rattle.nd_cli.specs.Inputs.{is_read_failure};
-ghost use Rattle.nd_run.specs.Given.{HasRules, IsGiven, IsStandFault, IsGivenFault};
+ghost use Rattle.nd_cli.specs.Statuses.{exit_status};
+ghost use Rattle.nd_run.specs.Given.{HasRules, IsGiven, IsGivenAccepted, IsStandFault, IsGivenFault};
 
 use nd_cli::{CliFault, LIMIT, ParkOptions, Place, read_input, read_park};
 use nd_hook::Told;
@@ -27,6 +30,8 @@ pub struct RunInputs {
 /// The first refusal in this order is answered: `Read`; `TooLarge` or `Drvs` for the bundle; `TooLarge`
 /// or `Builders` for the builders list; `TooLarge` or `Info` for the info text; `TooLarge` or `Stand`
 /// for the stand text. `Memory` may come at any point. The reader is marked exactly at `Read`.
+/// Where a reader that is known to have a whole bundle left has one that is accepted, with the other
+/// inputs, nothing but `Read` and `Memory` comes.
 pub fn run_inputs<R: Read>(
     rt: &(impl Threads + Sync),
     alloc: Global,
@@ -36,6 +41,7 @@ pub fn run_inputs<R: Read>(
 ) -> Result<RunInputs, CliFault>
     requires reader { input.old.is_marked ≡ false }
     ensures read { IfOk result (λ given. IsGiven options.now stand.now (R.remaining input.old.device) (R.remaining input.new.device) given.dispatch given.rules.items) }
+    ensures exactly { (text : List ℕ) → R.remaining input.old.device ≡ Some text → IsGivenAccepted options.now text stand.now → IfErr result (λ e. exit_status e ≡ 5) }
     ensures mark { input.new.is_marked ≡ is_read_failure result }
     ensures fault { IfErr result (IsGivenFault options.now stand.now (R.remaining input.old.device) (R.remaining input.new.device) input.new.is_marked) }
 {
@@ -76,6 +82,7 @@ fn read_rules(
 ) -> Result<Vec<Rule>, CliFault>
     ensures read { IfOk result (λ rules. HasRules stand.now drvs machines rules.items) }
     ensures refused { IfErr result (IsStandFault stand.now drvs machines) }
+    ensures exactly { (rules : List Rule) → HasRules stand.now drvs machines rules → MatchResult result (λ read. read.items ≡ rules) (λ e. e ≡ CliFault.Memory) }
 {
     if stand.len() > LIMIT {
         return Err(CliFault::TooLarge(Place::Stand));

@@ -1,7 +1,7 @@
 use Rattle.std.proofs.Common.{sym, subst, ◌∙◌}
 use Rattle.nd_engines.specs.Opened.{inputs_of}
 use Rattle.nd_engines.specs.Audited.{HasHistory}
-use Rattle.nd_engines.proofs.Answering.{audit_answered, audit_begun, verdict_fault, read_no_write, audit_read_no_write}
+use Rattle.nd_engines.proofs.Answering.{audit_answered, audit_begun, verdict_fault, read_no_write, audit_read_no_write, verdict_ends}
 use Rattle.nd_engines.proofs.audit.audit_engine.Goals as goal
 
 pub returns-in-Err-clause-fault : goal.returns-in-Err-clause-fault
@@ -37,3 +37,6 @@ pub returns-in-Err-clause-writer_mark : goal.returns-in-Err-clause-writer_mark
 returns-in-Err-clause-writer_mark g c =
     c.requires.writer ∙ sym (audit_read_no_write c.args.options.now c.args.history.now (g.R.Read.remaining c.args.input.now.device) (g.R.Read.remaining c.read_audit_inputs.new.input.device)
     c.read_audit_inputs.new.input.is_marked c.in-Err.fault c.in-Err.ensures.fault)
+
+pub returns-clause-exactly : goal.returns-clause-exactly
+returns-clause-exactly g c = λ text known accepted. verdict_ends c.write_verdict.new.output.is_marked c.in-Err-write_verdict.fault c.in-Err-write_verdict.ensures.fault
