@@ -6,7 +6,7 @@ ghost use Rattle.nd_sim.specs.Answers.{IsNamed};
 ghost use Rattle.nd_cli.specs.Inputs.{is_read_failure, is_write_failure};
 ghost use Rattle.nd_sim.specs.Written.{WritesSimulation, WritesSimulationPart};
 ghost use Rattle.nd_sim.specs.Written.{is_write_failure as is_writer_failure};
-ghost use Rattle.nd_engines.specs.Simulated.{AnswersSim, LeavesSim, IsSimFault, may_have_begun};
+ghost use Rattle.nd_engines.specs.Simulated.{AnswersSim, AnswersAccepted, LeavesSim, IsSimFault, may_have_begun};
 
 use crate::opening::close_dispatch;
 use crate::reading::{SimInputs, read_sim_inputs};
@@ -20,7 +20,8 @@ use std::thread::Threads;
 
 /// Reads the bundle on the input, does what the script says, and writes each entry's line as it is
 /// made, `refused` and its name for a command that is refused, the reply for one that asks, and last
-/// the report. The status is 1 where a derivation failed or was cancelled, and else 0.
+/// the report. The status is 1 where a derivation failed or was cancelled, and else 0. Where the inputs
+/// are accepted this is the answer, unless a device fails or memory runs out.
 ///
 /// The first refusal in this order is answered, and nothing is written then: `Read`; `TooLarge` or
 /// `Drvs` for the bundle; `TooLarge` or `Builders` for the builders list; `TooLarge` or `Info` for the
@@ -38,6 +39,7 @@ pub fn sim_engine<R: Read, W: Write>(
     requires reader { input.old.is_marked ≡ false }
     requires writer { output.old.is_marked ≡ false }
     ensures answer { IfOk result (λ status. AnswersSim options.now script.now status (R.remaining input.old.device) (R.remaining input.new.device) (W.contents output.old.device) (W.contents output.new.device)) }
+    ensures accepted { AnswersAccepted options.now script.now (R.remaining input.old.device) (W.contents output.old.device) (W.contents output.new.device) result }
     ensures fault { IfErr result (IsSimFault options.now script.now (R.remaining input.old.device) (R.remaining input.new.device) input.new.is_marked output.new.is_marked) }
     ensures reader_mark { input.new.is_marked ≡ is_read_failure result }
     ensures writer_mark { output.new.is_marked ≡ is_write_failure result }
