@@ -1,3 +1,4 @@
 pub mod Commanded
 pub mod Answering
 pub mod Ending
+pub mod Accepting

@@ -1,5 +1,5 @@
 -- What `sim` answers: the simulation of the script over the bundle that was read.
-use Rattle.std.specs.Prelude.{◌≡◌, ◌⊎◌, ℕ, Bool, true, false, List, [], Option}
+use Rattle.std.specs.Prelude.{◌≡◌, ◌⊎◌, ℕ, Bool, true, false, List, [], Option, Some, Result, MatchResult}
 use Rattle.nd_history.specs.Premises.{Premises}
 use Rattle.nd_ledger.specs.Worlds.{World}
 use Rattle.nd_script.specs.declared.command.Command.{Command}
@@ -76,3 +76,23 @@ abbrev pub may_have_begun : CliFault → Bool
 may_have_begun Write = true
 may_have_begun Memory = true
 may_have_begun _ = false
+
+-- ---- accepted inputs
+
+-- the bundle with this text and the park of the options make these five inputs, and the script says these commands for them
+pub record AcceptsSim (options : ParkOptions) (script text : List ℕ) (i : Premises) (commands : List Command) : Type 0 where
+  pub has : HasInputs options text i
+  pub says : HasScript i script commands
+
+-- a device failed, or memory ran out: no input is refused
+abbrev pub IsNoRefusal : CliFault → Type 0
+IsNoRefusal Read = Unit {0}
+IsNoRefusal Write = Unit {0}
+IsNoRefusal Memory = Unit {0}
+IsNoRefusal _ = ⊥
+
+-- where the inputs are accepted the answer is the status of their simulation, which was written, unless a device failed or memory ran
+-- out
+pub record AnswersAccepted (options : ParkOptions) (script : List ℕ) (unread before written : Option (List ℕ)) (answer : Result ℕ CliFault) : Type 0 where
+  pub each : (text : List ℕ) (i : Premises) (commands : List Command) → unread ≡ Some text → AcceptsSim options script text i commands
+      → MatchResult answer (λ status. WritesSimulation i commands status before written) IsNoRefusal

@@ -1,13 +1,12 @@
 //! The command `sim`.
 
-ghost use Rattle.std.specs.Prelude.{◌≡◌, ◌||◌, ℕ, List, Some, true, false, [], IfOk, IfErr, OnErr};
+ghost use Rattle.std.specs.Prelude.{◌≡◌, ◌||◌, true, false, [], IfOk, IfErr, OnErr};
 ghost use Rattle.std.specs.List.{All};
 ghost use Rattle.nd_sim.specs.Answers.{IsNamed};
-ghost use Rattle.nd_cli.specs.Statuses.{exit_status};
 ghost use Rattle.nd_cli.specs.Inputs.{is_read_failure, is_write_failure};
 ghost use Rattle.nd_sim.specs.Written.{WritesSimulation, WritesSimulationPart};
 ghost use Rattle.nd_sim.specs.Written.{is_write_failure as is_writer_failure};
-ghost use Rattle.nd_engines.specs.Simulated.{IsSimAccepted, AnswersSim, LeavesSim, IsSimFault, may_have_begun};
+ghost use Rattle.nd_engines.specs.Simulated.{AnswersSim, AnswersAccepted, LeavesSim, IsSimFault, may_have_begun};
 
 use crate::opening::close_dispatch;
 use crate::reading::{SimInputs, read_sim_inputs};
@@ -21,14 +20,14 @@ use std::thread::Threads;
 
 /// Reads the bundle on the input, does what the script says, and writes each entry's line as it is
 /// made, `refused` and its name for a command that is refused, the reply for one that asks, and last
-/// the report. The status is 1 where a derivation failed or was cancelled, and else 0.
+/// the report. The status is 1 where a derivation failed or was cancelled, and else 0. Where the inputs
+/// are accepted this is the answer, unless a device fails or memory runs out.
 ///
 /// The first refusal in this order is answered, and nothing is written then: `Read`; `TooLarge` or
 /// `Drvs` for the bundle; `TooLarge` or `Builders` for the builders list; `TooLarge` or `Info` for the
 /// info text; `TooLarge` or `Script` for the script. `Write` and `Memory` leave the beginning of the
 /// text; `Memory` may come at any point. The reader is marked exactly at `Read`, and the writer exactly
-/// at `Write`. Where a reader that is known to have a whole bundle left has one that is accepted, with
-/// the other inputs, nothing but `Read`, `Write` and `Memory` comes.
+/// at `Write`.
 pub fn sim_engine<R: Read, W: Write>(
     rt: &(impl Threads + Sync),
     alloc: Global,
@@ -40,10 +39,10 @@ pub fn sim_engine<R: Read, W: Write>(
     requires reader { input.old.is_marked ≡ false }
     requires writer { output.old.is_marked ≡ false }
     ensures answer { IfOk result (λ status. AnswersSim options.now script.now status (R.remaining input.old.device) (R.remaining input.new.device) (W.contents output.old.device) (W.contents output.new.device)) }
+    ensures accepted { AnswersAccepted options.now script.now (R.remaining input.old.device) (W.contents output.old.device) (W.contents output.new.device) result }
     ensures fault { IfErr result (IsSimFault options.now script.now (R.remaining input.old.device) (R.remaining input.new.device) input.new.is_marked output.new.is_marked) }
     ensures reader_mark { input.new.is_marked ≡ is_read_failure result }
     ensures writer_mark { output.new.is_marked ≡ is_write_failure result }
-    ensures exactly { (text : List ℕ) → R.remaining input.old.device ≡ Some text → IsSimAccepted options.now text script.now → IfErr result (λ e. exit_status e ≡ 5) }
     ensures untouched { IfErr result (λ e. may_have_begun e ≡ false → output.new ≡ output.old) }
     ensures partly { IfErr result (λ e. may_have_begun e ≡ true → LeavesSim options.now script.now (R.remaining input.old.device) (R.remaining input.new.device) (W.contents output.old.device) (W.contents output.new.device)) }
 {

@@ -1,20 +1,22 @@
 -- What calls on a dispatch say of the commands that they stand for.
-use Rattle.std.proofs.Common.{◌≡◌, ℕ, List, [], ◌∷◌, ◌++◌, reverse, Some, refl, ap, subst, ◌∙◌, inl, inr}
+use Rattle.std.proofs.Common.{◌≡◌, ℕ, true, List, [], ◌∷◌, ◌++◌, reverse, Some, refl, ap, subst, ◌∙◌, inl, inr}
 use Rattle.nd_path.specs.PathSets.{IsRising}
 use Rattle.nd_history.specs.declared.entry.Entry.{Entry}
 use Rattle.nd_history.specs.declared.entry.Why.{Why}
 use Rattle.nd_history.specs.declared.entry.Ticket.{Ticket}
 use Rattle.nd_history.specs.Premises.{Premises}
-use Rattle.nd_history.specs.History.{lease_of}
+use Rattle.nd_history.specs.History.{lease_of, is_leased}
 use Rattle.nd_history.specs.Legal.{IsAllowed}
+use Rattle.nd_history.proofs.Provisions.{leased_by}
 use Rattle.nd_stores.specs.Stored.{IsMissing}
 use Rattle.nd_ledger.specs.declared.refusal.Refusal.{Refusal}
 use Rattle.nd_ledger.specs.Refusals.{IsFailRefused, IsDownRefused}
 use Rattle.nd_ledger.specs.Moves.{IsStartRefused, IsEndRefused}
 use Rattle.nd_ledger.specs.Worlds.{World}
 use Rattle.nd_script.specs.declared.command.Command.{Command}
+use Rattle.nd_script.specs.declared.command.Command.TheVariants.{Start, StartWith, Built, BuiltWith, Fail, Lose, Down, Stop, Drain, Enable, Ask}
 use Rattle.nd_sim.specs.Answers.{Adds, HasAdded, IsRefusedWith, IsTicketRefused, IsCommandRefused, no_references}
-use Rattle.nd_sim.specs.Outcomes.{IsRefusal}
+use Rattle.nd_sim.specs.Outcomes.{TakesMemory, IsRefusal}
 
 pub added : (old new : World) (command : Command) (e : Entry) → Adds old.inputs (reverse old.history) command e → IsAllowed old.inputs e (reverse old.history)
     → new ≡ record { inputs = old.inputs; history = old.history ++ e ∷ [] } → HasAdded old.inputs old.history new.history command
@@ -31,7 +33,49 @@ lease_refused : (i : Premises) (past : List Entry) (d : ℕ) (command : Command)
 lease_refused i past d command t e lease refused = inr (record { ticket = t; lease = lease; refused = refused })
 
 pub genuinely_refused : (i : Premises) (past : List Entry) (command : Command) (e : Refusal) → IsRefusal i past command e → (e ≡ Refusal.Memory → ⊥) → IsCommandRefused i past command e
-genuinely_refused i past command e refused genuine = elim refused [ inl memory ↦ absurd (genuine memory) | inr cause ↦ cause ]
+genuinely_refused i past command e refused genuine = elim refused [ inl want ↦ absurd (genuine want.is) | inr cause ↦ cause ]
+
+-- ---- want of memory
+
+-- a call with a ticket wants memory for a live lease alone
+wants_with : (i : Premises) (past : List Entry) (d : ℕ) (command : Command) → IsTicketRefused i past d command Refusal.Memory → is_leased d past ≡ true
+wants_with i past d command (inl none) = let is = none.is in cc
+wants_with i past d command (inr refused) = leased_by d past refused.ticket refused.lease
+
+wants_never : (i : Premises) (past : List Entry) (d : ℕ) (command : Command) → ((t : Ticket) → IsRefusedWith i past command t Refusal.Memory → ⊥) → IsTicketRefused i past d command Refusal.Memory → ⊥
+wants_never i past d command none_with (inl none) = let is = none.is in cc
+wants_never i past d command none_with (inr refused) = none_with refused.ticket refused.refused
+
+wants : (i : Premises) (past : List Entry) (command : Command) → IsCommandRefused i past command Refusal.Memory → TakesMemory past command
+wants i past (Start d) h = wants_with i past d (Start d) h
+wants i past (StartWith d paths) h = wants_with i past d (StartWith d paths) h
+wants i past (Built d) h = wants_with i past d (Built d) h
+wants i past (BuiltWith d refs) h = wants_with i past d (BuiltWith d refs) h
+wants i past (Fail d c) h = wants_never i past d (Fail d c) (λ t k. k) h
+wants i past (Lose d) h = wants_never i past d (Lose d) (λ t k. k) h
+wants i past (Down d) h = wants_never i past d (Down d) (λ t k. k) h
+wants i past Stop h = h
+wants i past (Drain m) h = tt
+wants i past (Enable m) h = tt
+wants i past (Ask d) h = h
+
+pub wanting : (i : Premises) (past : List Entry) (command : Command) (e : Refusal) → IsRefusal i past command e → e ≡ Refusal.Memory → TakesMemory past command
+wanting i past command e refused is =
+    elim refused [ inl want ↦ want.takes | inr cause ↦ wants i past command (subst (λ (r : Refusal). IsCommandRefused i past command r) is cause) ]
+
+pub start_wants : (i : Premises) (past : List Entry) (d : ℕ) (t : Ticket) (e : Refusal) → lease_of d past ≡ Some t → e ≡ Refusal.Memory → IsRefusal i past (Command.Start d) e
+start_wants i past d t e lease is = inl (record { is = is; takes = leased_by d past t lease })
+
+pub end_wants : (i : Premises) (past : List Entry) (d : ℕ) (t : Ticket) → lease_of d past ≡ Some t → IsRefusal i past (Command.Built d) Refusal.Memory
+end_wants i past d t lease = inl (record { is = refl; takes = leased_by d past t lease })
+
+pub drain_wants : (i : Premises) (past : List Entry) (m : ℕ) → IsRefusal i past (Command.Drain m) Refusal.Memory
+drain_wants i past m = inl (record { is = refl; takes = tt })
+
+pub enable_wants : (i : Premises) (past : List Entry) (m : ℕ) → IsRefusal i past (Command.Enable m) Refusal.Memory
+enable_wants i past m = inl (record { is = refl; takes = tt })
+
+-- ---- entries and refusals
 
 pub full_start : (old new : World) (d : ℕ) (t : Ticket) (paths : List (List ℕ)) → lease_of d (reverse old.history) ≡ Some t → t.drv ≡ d
     → IsMissing old.inputs (reverse old.history) t.drv t.machine paths → IsRising paths → IsAllowed old.inputs (Entry.Started t.drv paths) (reverse old.history)

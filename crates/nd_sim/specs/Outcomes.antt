@@ -1,11 +1,14 @@
 -- What a command comes to: an entry, a refusal or a reply. Histories called `past` stand newest first, the others oldest first.
-use Rattle.std.specs.Prelude.{◌≡◌, ◌⊎◌, ℕ, List, reverse}
+-- Public clauses cite `ComesTo` and `TakesMemory`; `IsReplyNow` and `IsRefusal` serve the clauses of private functions alone.
+use Rattle.std.specs.Prelude.{◌≡◌, ◌⊎◌, ℕ, true, List, reverse}
 use Rattle.nd_hook.specs.declared.kinds.Reply.{Reply}
 use Rattle.nd_history.specs.declared.entry.Entry.{Entry}
 use Rattle.nd_history.specs.Premises.{Premises}
+use Rattle.nd_history.specs.History.{is_leased}
 use Rattle.nd_history.specs.Choices.{HasReply}
 use Rattle.nd_ledger.specs.declared.refusal.Refusal.{Refusal}
 use Rattle.nd_script.specs.declared.command.Command.{Command}
+use Rattle.nd_script.specs.declared.command.Command.TheVariants.{Start, StartWith, Built, BuiltWith, Fail, Lose, Down, Stop, Drain, Enable, Ask}
 use Rattle.nd_sim.specs.Answers.{HasAdded, IsCommandRefused}
 use Rattle.nd_sim.specs.declared.answer.Answer.{Answer}
 use Rattle.nd_sim.specs.declared.answer.Answer.TheVariants.{Added, Refused, Replied}
@@ -38,6 +41,26 @@ pub record IsReplyNow (i : Premises) (past : List Entry) (reply : Reply) : Type 
   pub drv : ℕ
   pub replies : HasReply i past drv reply
 
--- why there is no answer yet: the command is refused, or memory is wanting
+-- The command takes memory: a start and an end with outputs where there is a lease, and a mark on a machine. The other commands take
+-- none.
+abbrev pub TakesMemory : List Entry → Command → Type 0
+TakesMemory past (Start d) = is_leased d past ≡ true
+TakesMemory past (StartWith d paths) = is_leased d past ≡ true
+TakesMemory past (Built d) = is_leased d past ≡ true
+TakesMemory past (BuiltWith d refs) = is_leased d past ≡ true
+TakesMemory past (Fail d c) = ⊥
+TakesMemory past (Lose d) = ⊥
+TakesMemory past (Down d) = ⊥
+TakesMemory past Stop = ⊥
+TakesMemory past (Drain m) = Unit {0}
+TakesMemory past (Enable m) = Unit {0}
+TakesMemory past (Ask d) = ⊥
+
+-- memory is wanting
+pub record IsWant (past : List Entry) (command : Command) (refusal : Refusal) : Type 0 where
+  pub is : refusal ≡ Refusal.Memory
+  pub takes : TakesMemory past command
+
+-- why there is no answer yet: memory is wanting, or the command is refused
 abbrev pub IsRefusal : Premises → List Entry → Command → Refusal → Type 0
-IsRefusal i past command e = (e ≡ Refusal.Memory) ⊎ IsCommandRefused i past command e
+IsRefusal i past command e = IsWant past command e ⊎ IsCommandRefused i past command e

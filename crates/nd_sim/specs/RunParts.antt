@@ -1,4 +1,5 @@
 -- What a simulation that is cut short leaves: the text of its beginning. Histories stand oldest first.
+-- The public clauses cite `IsSimulationPart`, by way of what a writer has of it.
 use Rattle.std.specs.Prelude.{◌≡◌, ◌⊎◌, ℕ, ◌≤◌, List, [], ◌∷◌, ◌++◌, reverse}
 use Rattle.nd_history.specs.declared.entry.Entry.{Entry}
 use Rattle.nd_history.specs.Premises.{Premises}

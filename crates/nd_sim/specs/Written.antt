@@ -1,9 +1,12 @@
 -- What a writer has of a simulation.
+-- The public clauses cite `WritesRun`, `WritesSimulation`, `WritesSimulationPart` and `is_write_failure`; the rest serves the clauses of
+-- private functions alone.
 use Rattle.std.specs.Prelude.{ℕ, Bool, true, false, List, Option, Result, Ok, Err}
 use Rattle.std.specs.Io.KnownBytes.{Appends}
 use Rattle.nd_hook.specs.Written.{WritesPart}
 use Rattle.nd_history.specs.declared.entry.Entry.{Entry}
 use Rattle.nd_history.specs.Premises.{Premises}
+use Rattle.nd_ledger.specs.Worlds.{World}
 use Rattle.nd_script.specs.declared.command.Command.{Command}
 use Rattle.nd_sim.specs.Runs.{IsObeyed, IsPumped, IsTurn, IsRun, IsSimulation}
 use Rattle.nd_sim.specs.RunParts.{IsPumpingPart, IsTurnPart, IsSimulationPart}
@@ -22,11 +25,19 @@ pub record WritesObeyed (i : Premises) (old new : List Entry) (command : Command
   pub obeyed : IsObeyed i old new command text
   pub appended : Appends before written text
 
+-- .. between two states of the dispatch
+abbrev pub ObeyedBetween : World → World → Command → Option (List ℕ) → Option (List ℕ) → Type 0
+ObeyedBetween old new command before written = WritesObeyed old.inputs old.history new.history command before written
+
 -- the lines of pump steps, after which none is left
 pub record WritesPumped (i : Premises) (old new : List Entry) (before written : Option (List ℕ)) : Type 0 where
   pub text : List ℕ
   pub pumped : IsPumped i old new text
   pub appended : Appends before written text
+
+-- .. between two states of the dispatch
+abbrev pub PumpedBetween : World → World → Option (List ℕ) → Option (List ℕ) → Type 0
+PumpedBetween old new before written = WritesPumped old.inputs old.history new.history before written
 
 -- the lines of some pump steps, or a part of them, from their beginning
 pub record WritesPumpedPart (i : Premises) (old : List Entry) (before written : Option (List ℕ)) : Type 0 where
@@ -39,6 +50,10 @@ pub record WritesTurn (i : Premises) (old new : List Entry) (command : Command) 
   pub text : List ℕ
   pub turn : IsTurn i old new command text
   pub appended : Appends before written text
+
+-- .. between two states of the dispatch
+abbrev pub TurnedBetween : World → World → Command → Option (List ℕ) → Option (List ℕ) → Type 0
+TurnedBetween old new command before written = WritesTurn old.inputs old.history new.history command before written
 
 -- a part of them, from their beginning
 pub record WritesTurnPart (i : Premises) (old : List Entry) (command : Command) (before written : Option (List ℕ)) : Type 0 where

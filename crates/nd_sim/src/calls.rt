@@ -14,7 +14,7 @@ use nd_path::PathSet;
 use std::alloc::{AllocError, Global};
 
 /// `start`: the lease starts, once what its machine lacks was copied.
-#[tactic(auto, using(crate::proofs::Recording::full_start, crate::proofs::Recording::full_start_refused))]
+#[tactic(auto, using(crate::proofs::Recording::full_start, crate::proofs::Recording::full_start_refused, crate::proofs::Recording::start_wants))]
 pub(crate) fn start(alloc: Global, dispatch: &mut Dispatch, drv: u32) -> Result<Answer, Refusal>
     ensures inputs { dispatch.new.inputs ≡ dispatch.old.inputs }
     ensures answer { IfOk result (IsAnswer dispatch.old.inputs dispatch.old.history dispatch.new.history (Command.Start drv)) }
@@ -59,7 +59,7 @@ pub(crate) fn start_with(
 }
 
 /// `built`: the build ends with its outputs, which refer to nothing.
-#[tactic(auto, using(crate::proofs::Recording::bare_end, crate::proofs::Recording::bare_end_refused))]
+#[tactic(auto, using(crate::proofs::Recording::bare_end, crate::proofs::Recording::bare_end_refused, crate::proofs::Recording::end_wants))]
 pub(crate) fn built(alloc: Global, dispatch: &mut Dispatch, drv: u32) -> Result<Answer, Refusal>
     requires { drv < length dispatch.old.inputs.graph.paths }
     ensures inputs { dispatch.new.inputs ≡ dispatch.old.inputs }
@@ -173,7 +173,7 @@ pub(crate) fn stop(dispatch: &mut Dispatch) -> Result<Answer, Refusal>
 }
 
 /// `drain`: the machine gets no more leases.
-#[tactic(auto, using(crate::proofs::Recording::added))]
+#[tactic(auto, using(crate::proofs::Recording::added, crate::proofs::Recording::drain_wants))]
 pub(crate) fn drain(dispatch: &mut Dispatch, machine: u32) -> Result<Answer, Refusal>
     requires { machine < machines_in dispatch.old.inputs }
     ensures inputs { dispatch.new.inputs ≡ dispatch.old.inputs }
@@ -188,7 +188,7 @@ pub(crate) fn drain(dispatch: &mut Dispatch, machine: u32) -> Result<Answer, Ref
 }
 
 /// `enable`: the machine gets leases again.
-#[tactic(auto, using(crate::proofs::Recording::added))]
+#[tactic(auto, using(crate::proofs::Recording::added, crate::proofs::Recording::enable_wants))]
 pub(crate) fn enable(dispatch: &mut Dispatch, machine: u32) -> Result<Answer, Refusal>
     requires { machine < machines_in dispatch.old.inputs }
     ensures inputs { dispatch.new.inputs ≡ dispatch.old.inputs }

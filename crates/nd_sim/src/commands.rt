@@ -3,7 +3,7 @@
 ghost use Rattle.std.specs.Prelude.{◌≡◌, MatchBool, reverse, IfOk, IfErr, OnErr};
 ghost use Rattle.nd_ledger.specs.declared.refusal.Refusal.{Refusal};
 ghost use Rattle.nd_sim.specs.Answers.{IsNamed};
-ghost use Rattle.nd_sim.specs.Outcomes.{ComesTo, IsAnswer, IsRefusal};
+ghost use Rattle.nd_sim.specs.Outcomes.{ComesTo, IsAnswer, IsRefusal, TakesMemory};
 
 use crate::answer::Answer;
 use crate::calls::{built, built_with, down, drain, enable, fail, lose, start, start_with, stop};
@@ -16,13 +16,15 @@ use std::alloc::{AllocError, Global};
 /// machine lacks, and `built` without lists reports no references for any output.
 ///
 /// A refusal is an answer, and leaves the dispatch as it was. Where an allocation is refused the
-/// dispatch is as it was, too.
-#[tactic(auto, using(crate::proofs::Recording::genuinely_refused))]
+/// dispatch is as it was, too. `fail`, `lose`, `down`, `stop` and `ask` take no memory, and `start`,
+/// `startwith` and `built` only where the derivation has a live lease.
+#[tactic(auto, using(crate::proofs::Recording::genuinely_refused, crate::proofs::Recording::wanting))]
 pub fn obey(alloc: Global, dispatch: &mut Dispatch, command: Command) -> Result<Answer, AllocError>
     requires { IsNamed dispatch.old.inputs command }
     ensures inputs { dispatch.new.inputs ≡ dispatch.old.inputs }
     ensures answer { IfOk result (ComesTo dispatch.old.inputs dispatch.old.history dispatch.new.history command) }
     ensures kept { OnErr result (dispatch.new ≡ dispatch.old) }
+    ensures memory { OnErr result (TakesMemory (reverse dispatch.old.history) command) }
 {
     match call(alloc, dispatch, command) {
         Ok(answer) => Ok(answer),

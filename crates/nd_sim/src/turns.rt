@@ -3,7 +3,7 @@
 ghost use Rattle.std.specs.Prelude.{◌≡◌, ◌||◌, [], OnOk, OnErr};
 ghost use Rattle.std.specs.List.{All};
 ghost use Rattle.nd_sim.specs.Answers.{IsNamed};
-ghost use Rattle.nd_sim.specs.Written.{WritesObeyed, WritesPumped, WritesPumpedPart, WritesTurn, WritesTurnPart, WritesRun, WritesSimulationPart, is_write_failure};
+ghost use Rattle.nd_sim.specs.Written.{ObeyedBetween, PumpedBetween, WritesPumpedPart, TurnedBetween, WritesTurnPart, WritesRun, WritesSimulationPart, is_write_failure};
 
 use crate::answer::Answer;
 use crate::commands::obey;
@@ -59,7 +59,7 @@ fn turn<W: io::Write>(
 ) -> Result<(), SimFault>
     requires { IsNamed dispatch.old.inputs command }
     ensures inputs { dispatch.new.inputs ≡ dispatch.old.inputs }
-    ensures written { OnOk result (WritesTurn dispatch.old.inputs dispatch.old.history dispatch.new.history command (W.contents out.old.device) (W.contents out.new.device)) }
+    ensures written { OnOk result (TurnedBetween dispatch.old dispatch.new command (W.contents out.old.device) (W.contents out.new.device)) }
     ensures partly { OnErr result (WritesTurnPart dispatch.old.inputs dispatch.old.history command (W.contents out.old.device) (W.contents out.new.device)) }
     ensures mark { out.new.is_marked ≡ (out.old.is_marked || is_write_failure result) }
 {
@@ -84,7 +84,7 @@ fn act<W: io::Write>(
 ) -> Result<(), SimFault>
     requires { IsNamed dispatch.old.inputs command }
     ensures inputs { dispatch.new.inputs ≡ dispatch.old.inputs }
-    ensures written { OnOk result (WritesObeyed dispatch.old.inputs dispatch.old.history dispatch.new.history command (W.contents out.old.device) (W.contents out.new.device)) }
+    ensures written { OnOk result (ObeyedBetween dispatch.old dispatch.new command (W.contents out.old.device) (W.contents out.new.device)) }
     ensures partly { OnErr result (WritesTurnPart dispatch.old.inputs dispatch.old.history command (W.contents out.old.device) (W.contents out.new.device)) }
     ensures mark { out.new.is_marked ≡ (out.old.is_marked || is_write_failure result) }
 {
@@ -111,7 +111,7 @@ fn act<W: io::Write>(
 #[tactic(auto, using(crate::proofs::Simulating::pumps))]
 fn pump<W: io::Write>(dispatch: &mut Dispatch, out: &mut Told<W>) -> Result<(), SimFault>
     ensures inputs { dispatch.new.inputs ≡ dispatch.old.inputs }
-    ensures written { OnOk result (WritesPumped dispatch.old.inputs dispatch.old.history dispatch.new.history (W.contents out.old.device) (W.contents out.new.device)) }
+    ensures written { OnOk result (PumpedBetween dispatch.old dispatch.new (W.contents out.old.device) (W.contents out.new.device)) }
     ensures partly { OnErr result (WritesPumpedPart dispatch.old.inputs dispatch.old.history (W.contents out.old.device) (W.contents out.new.device)) }
     ensures mark { out.new.is_marked ≡ (out.old.is_marked || is_write_failure result) }
 {

@@ -1,5 +1,6 @@
 use Rattle.std.proofs.Common.{inl, refl, sym, ◌∙◌}
 use Rattle.nd_engines.proofs.Answering.{sim_answered, sim_begun, sim_read_no_write}
+use Rattle.nd_engines.proofs.Accepting.{sim_free, sim_accepted}
 use Rattle.nd_engines.proofs.sim.sim_engine.Goals as goal
 
 pub returns-in-Err-clause-fault : goal.returns-in-Err-clause-fault
@@ -33,3 +34,24 @@ pub returns-in-Err-clause-writer_mark : goal.returns-in-Err-clause-writer_mark
 returns-in-Err-clause-writer_mark g c =
     c.requires.writer ∙ sym (sim_read_no_write c.args.options.now c.args.script.now (g.R.Read.remaining c.args.input.now.device) (g.R.Read.remaining c.read_sim_inputs.new.input.device)
     c.read_sim_inputs.new.input.is_marked c.in-Err.fault c.in-Err.ensures.fault)
+
+pub returns-in-Err-clause-accepted : goal.returns-in-Err-clause-accepted
+returns-in-Err-clause-accepted g c = record {
+  each = λ text i commands known accepts.
+      sim_free c.args.options.now c.args.script.now (g.R.Read.remaining c.args.input.now.device) (g.R.Read.remaining c.read_sim_inputs.new.input.device)
+      c.read_sim_inputs.new.input.is_marked c.args.output.now.is_marked text i commands c.in-Err.fault known accepts (c.in-Err.ensures.fault c.args.output.now.is_marked);
+}
+
+pub returns-in-Ok-perform-clause-accepted : goal.returns-in-Ok-perform-clause-accepted
+returns-in-Ok-perform-clause-accepted g c = record {
+  each = λ text i commands known accepts.
+      sim_accepted c.args.options.now c.args.script.now (g.R.Read.remaining c.args.input.now.device) (g.R.Read.remaining c.read_sim_inputs.new.input.device)
+      (g.W.Write.contents c.args.output.now.device) (g.W.Write.contents c.perform.new.output.device) c.in-Ok.given.dispatch c.in-Ok.given.commands.items c.in-Ok-perform.status text i commands
+      c.in-Ok.ensures.read c.in-Ok-perform.ensures.written known accepts;
+}
+
+pub returns-in-Err-Write-clause-accepted : goal.returns-in-Err-Write-clause-accepted
+returns-in-Err-Write-clause-accepted g c = record { each = λ text i commands known accepts. tt }
+
+pub returns-in-Err-Memory-clause-accepted : goal.returns-in-Err-Memory-clause-accepted
+returns-in-Err-Memory-clause-accepted g c = record { each = λ text i commands known accepts. tt }
