@@ -1,5 +1,5 @@
 -- Lemmas on what a worker is known to have done.
-use Rattle.std.proofs.Common.{◌≡◌, List, [], refl, sym, subst}
+use Rattle.std.proofs.Common.{◌≡◌, List, [], ◌∷◌, map, refl, sym, subst}
 use Rattle.std.proofs.lemmas.List.{append-nil}
 use Rattle.nd_history.specs.declared.entry.Entry.{Entry}
 use Rattle.nd_receipts.specs.declared.receipt.Receipt.{Receipt}
@@ -8,7 +8,10 @@ use Rattle.nd_workers.specs.declared.working.End.TheVariants.{Again, Finished, L
 use Rattle.nd_receipts.specs.Noted.AreLeases.{none}
 use Rattle.nd_receipts.specs.Noted.{Noted, Track, track, GoesOn}
 use Rattle.nd_workers.specs.Ends.{EndsWell}
-use Rattle.nd_workers.specs.Served.{Seated, IsServed}
+use Rattle.nd_transports.specs.Calls.{State}
+use Rattle.nd_workers.specs.declared.seat.Seat.{Seat}
+use Rattle.nd_workers.specs.declared.threads.Stint.{Stint}
+use Rattle.nd_workers.specs.Served.{Seated, IsServed, HaveServed, places_served}
 use Rattle.nd_workers.proofs.Going.{goes_further}
 
 -- a worker that did nothing
@@ -42,3 +45,10 @@ ends_further Again s t u one two = goes_further s t u one two
 ends_further Finished s t u one two = goes_further s t u one two
 ends_further Left s t u one two = goes_further s t u one two
 ends_further Refused s t u one two = tt
+
+-- workers keep their places
+pub places_kept : {T : Type 0} (state : T → State) (workers : List (Seat T)) (stints : List (Stint T)) → HaveServed state workers stints → places_served (map (λ x. x.seat) stints) ≡ places_served workers
+places_kept state [] [] all = refl
+places_kept state [] (x ∷ stints) all = absurd all
+places_kept state (w ∷ workers) [] all = absurd all
+places_kept state (w ∷ workers) (x ∷ stints) all = let rest = places_kept state workers stints all.1 in λ i. (all.0.machine i, all.0.slot i) ∷ rest i

@@ -1,4 +1,4 @@
--- How a worker ends. This project's own choice.
+-- How a worker ends. It serves proofs alone. This project's own choice.
 use Rattle.nd_workers.specs.declared.working.End.{End}
 use Rattle.nd_workers.specs.declared.working.End.TheVariants.{Again, Finished, Left, Refused}
 use Rattle.nd_receipts.specs.Noted.{Track, GoesOn}

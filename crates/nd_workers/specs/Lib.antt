@@ -1,4 +1,5 @@
 pub mod Abandoned
+pub mod AtWork
 pub mod Ends
 pub mod Picks
 pub mod Runs

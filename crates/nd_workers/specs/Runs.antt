@@ -1,6 +1,6 @@
--- When a run is refused, and what is known of its end. This project's own choice.
-use Rattle.std.specs.Prelude.{◌≡◌, ℕ, ◌<◌, Bool, true, ◌&&◌, ◌==◌, List, ◌++◌, length, count_by, nat_lt, reverse}
-use Rattle.std.specs.List.{list_all}
+-- When a run is refused, and what is known of its end. The public clauses of a run cite it. This project's own choice.
+use Rattle.std.specs.Prelude.{◌≡◌, ℕ, ◌<◌, Bool, true, ◌&&◌, ◌==◌, List, ◌++◌, length, map, drop, count_by, nat_lt, reverse, Vec}
+use Rattle.std.specs.List.{AllZip, zip, list_all}
 use Rattle.nd_history.specs.declared.entry.Entry.{Entry}
 use Rattle.nd_history.specs.Premises.{Premises}
 use Rattle.nd_history.specs.Choices.{machines_in, jobs_of}
@@ -9,9 +9,12 @@ use Rattle.nd_ledger.specs.Worlds.{World, GoesOnFrom}
 use Rattle.nd_transports.specs.declared.kinds.Call.{Call}
 use Rattle.nd_receipts.specs.declared.receipt.Receipt.{Receipt}
 use Rattle.nd_receipts.specs.Receipts.{AreCallsIn}
+use Rattle.nd_receipts.specs.Dealt.{AreReceipted}
+use Rattle.nd_transports.specs.Calls.{State}
 use Rattle.nd_workers.specs.declared.run_end.RunRefusal.{RunRefusal}
 use Rattle.nd_workers.specs.declared.run_end.RunRefusal.TheVariants.{Slots, TooManySlots, Memory}
-use Rattle.nd_workers.specs.Served.{Seated}
+use Rattle.nd_workers.specs.declared.seat.Seat.{Seat}
+use Rattle.nd_workers.specs.Served.{Seated, seat_of}
 
 -- a worker is on this place
 abbrev pub is_at : ℕ → ℕ → ℕ × ℕ → Bool
@@ -48,3 +51,15 @@ pub record IsServedIn (history : List Entry) (before after : Seated) (receipts :
   pub calls : List Call
   pub grown : after.calls ≡ before.calls ++ calls
   pub agree : AreCallsIn history receipts calls
+
+-- .. each of these workers, with its receipts
+abbrev pub AreServedIn : {T A : Type 0} → (T → State) → List Entry → List (Seat T) → List (Seat T) → List (Vec Receipt A) → Type 0
+AreServedIn state history before after receipts = AllZip (λ w x. IsServedIn history (seat_of state w) (seat_of state x.0) x.1.items) before (zip after receipts)
+
+-- the entries since the opening
+abbrev pub since : World → World → List Entry
+since opening now = drop (length opening.history) now.history
+
+-- these are the receipts of the entries that workers on these places made since the opening
+abbrev pub AreReceiptedSince : {A : Type 0} → World → World → List (ℕ × ℕ) → List (Vec Receipt A) → Type 0
+AreReceiptedSince opening now places receipts = AreReceipted places (length opening.history) (since opening now) (map (λ v. v.items) receipts)

@@ -1,8 +1,15 @@
--- What a worker is known to have done. This project's own choice.
-use Rattle.std.specs.Prelude.{◌≡◌, ℕ, List, []}
+-- What a worker is known to have done. The public clauses of a run cite `Seated`, `seat_of` and `places_served`; the others serve
+-- proofs alone. This project's own choice.
+use Rattle.std.specs.Prelude.{◌≡◌, ℕ, List, [], map, sum_by, length}
+use Rattle.std.specs.List.{AllZip}
+use Rattle.nd_history.specs.declared.entry.Entry.{Entry}
 use Rattle.nd_transports.specs.declared.kinds.Call.{Call}
+use Rattle.nd_transports.specs.Calls.{State}
+use Rattle.nd_workers.specs.declared.seat.Seat.{Seat}
+use Rattle.nd_workers.specs.declared.threads.Stint.{Stint}
 use Rattle.nd_workers.specs.declared.working.End.{End}
-use Rattle.nd_receipts.specs.Noted.{Noted, track}
+use Rattle.nd_workers.specs.declared.working.End.TheVariants.{Refused}
+use Rattle.nd_receipts.specs.Noted.{Noted, track, IsNotedIn}
 use Rattle.nd_workers.specs.Ends.{EndsWell}
 
 -- a worker's place, and the calls of its transport
@@ -11,8 +18,32 @@ pub record Seated : Type 0 where
   pub slot : ℕ
   pub calls : List Call
 
+-- .. where this is the state of a transport
+abbrev pub seat_of : {T : Type 0} → (T → State) → Seat T → Seated
+seat_of state w = record { machine = w.machine; slot = w.slot; calls = (state w.transport).calls }
+
+-- the places that these workers serve, machines with slots of theirs
+abbrev pub places_served : {T : Type 0} → List (Seat T) → List (ℕ × ℕ)
+places_served workers = map (λ w. (w.machine, w.slot)) workers
+
 -- a worker ended so, on the same place, with these notes
 pub record IsServed (before : Seated) (how : End) (after : Seated) (notes : Noted) : Type 0 where
   pub machine : after.machine ≡ before.machine
   pub slot : after.slot ≡ before.slot
   pub goes : EndsWell how (record { receipts = []; copies = []; calls = before.calls }) (track notes after.calls)
+
+-- this came back of the worker
+abbrev pub HasServed : {T : Type 0} → (T → State) → Seated → Stint T → Type 0
+HasServed state w x = IsServed w x.end (seat_of state x.seat) x.notes
+
+-- .. of each worker
+abbrev pub HaveServed : {T : Type 0} → (T → State) → List (Seat T) → List (Stint T) → Type 0
+HaveServed state workers stints = AllZip (λ w x. HasServed state (seat_of state w) x) workers stints
+
+-- how many receipts came back
+abbrev pub receipts_in : {T : Type 0} → List (Stint T) → ℕ
+receipts_in stints = sum_by (λ x. length x.notes.receipts) stints
+
+-- the worker ended as it should, and its receipts name the entries that it noted
+abbrev pub IsSound : {T : Type 0} → List Entry → Stint T → Type 0
+IsSound history x = (x.end ≡ Refused → ⊥) × AllZip (IsNotedIn history) x.notes.receipts x.notes.copies

@@ -7,7 +7,8 @@ ghost use Rattle.nd_receipts.specs.Made.{is_quiet};
 ghost use Rattle.nd_receipts.specs.Noted.{IsNotedIn};
 ghost use Rattle.nd_receipts.specs.Dealt.{AreApart, AreReceipted};
 ghost use Rattle.nd_receipts.specs.Walks.{AreUnknown};
-ghost use Rattle.nd_workers.specs.Runs.{IsOver};
+ghost use Rattle.nd_workers.specs.Runs.{IsOver, AreReceiptedSince, since};
+ghost use Rattle.nd_workers.specs.Served.{IsSound};
 
 use crate::run_end::RunFault;
 use crate::threads::Stint;
@@ -30,7 +31,7 @@ fn is_sound<T: Transport>(history: &[Entry], stint: &Stint<T>) -> bool
 
 /// Whether every worker ended as it should, and its receipts name the entries that it noted.
 pub(crate) fn are_sound<T: Transport>(history: &[Entry], stints: &[Stint<T>]) -> bool
-    ensures { result ≡ true → All (λ x. (x.end ≡ End.Refused → ⊥) × AllZip (IsNotedIn history.now) x.notes.receipts x.notes.copies) stints.now }
+    ensures { result ≡ true → All (IsSound history.now) stints.now }
 {
     for stint in stints {
         if !is_sound(history, stint) {
@@ -63,7 +64,7 @@ pub(crate) fn are_receipted(
     requires apart { AreApart places.now }
     requires choices { AreUnknown (length places.now) tables.choices.items }
     requires met { tables.met.items ≡ replicate (length places.now) 0 }
-    ensures { result ≡ true → AreReceipted places.now (length opening.now.history) (drop (length opening.now.history) dispatch.now.history) (map (λ v. v.items) receipts.now) }
+    ensures { result ≡ true → AreReceiptedSince opening.now dispatch.now places.now receipts.now }
 {
     let opened = opening.history().len();
     if dispatch.history().len() < opened {
@@ -87,7 +88,7 @@ pub(crate) fn fault_of(
 ) -> Option<RunFault>
     ensures sound { result ≡ None → sound ≡ true }
     ensures dealt { result ≡ None → dealt ≡ true }
-    ensures quiet { result ≡ None → list_all is_quiet (drop (length opening.now.history) dispatch.now.history) ≡ true }
+    ensures quiet { result ≡ None → list_all is_quiet (since opening.now dispatch.now) ≡ true }
     ensures thread { result ≡ Some RunFault.Thread → list_any is_stop dispatch.now.history ≡ true }
     ensures memory { result ≡ Some RunFault.Memory → list_any is_stop dispatch.now.history ≡ true }
     ensures goes_on { (result ≡ Some RunFault.Receipts → ⊥) → IsOver opening.now dispatch.now }

@@ -3,6 +3,7 @@
 ghost use Rattle.std.specs.Prelude.{◌≡◌, ◌+◌, ◌<◌, ◌≤◌, ◌&&◌, ◌==◌, ℕ, length, count_by, map, IfOk, IsTrue, ◌↔◌};
 ghost use Rattle.std.specs.List.{list_all};
 ghost use Rattle.nd_workers.specs.Runs.{is_at, is_in_park, IsMachineManned, AreManned};
+ghost use Rattle.nd_workers.specs.Served.{places_served};
 
 use crate::abandoning::{jobs_on, machine_count};
 use crate::seat::Seat;
@@ -62,7 +63,7 @@ pub(crate) fn are_manned(dispatch: &Dispatch, places: &[(u32, u32)]) -> bool
 
 /// The places of these workers.
 pub(crate) fn places_of<T>(alloc: Global, seats: &[Seat<T>]) -> Result<Vec<(u32, u32)>, AllocError>
-    ensures { IfOk result (λ v. v.items ≡ map (λ w. (w.machine, w.slot)) seats.now) }
+    ensures { IfOk result (λ v. v.items ≡ places_served seats.now) }
 {
     seats
         .iter()

@@ -7,8 +7,8 @@ ghost use Rattle.nd_receipts.specs.Made.{made, is_quiet};
 ghost use Rattle.nd_receipts.specs.Noted.{IsNotedIn};
 ghost use Rattle.nd_receipts.specs.Dealt.{AreApart, AreReceipted};
 ghost use Rattle.nd_receipts.specs.Walks.{AreUnknown};
-ghost use Rattle.nd_workers.specs.Runs.{AreManned, IsRunRefused, IsOver, IsServedIn};
-ghost use Rattle.nd_workers.specs.Served.{IsServed};
+ghost use Rattle.nd_workers.specs.Runs.{AreManned, IsRunRefused, IsOver, AreServedIn, AreReceiptedSince, since};
+ghost use Rattle.nd_workers.specs.Served.{places_served, HaveServed, IsSound, receipts_in};
 ghost use Rattle.nd_workers.specs.Steps.{RunsOn};
 
 use crate::desk::Desk;
@@ -38,6 +38,8 @@ struct Plan {
     opening: Dispatch,
     places: Vec<(u32, u32)>,
     tables: Tables,
+    ghost apart: { AreApart places.items },
+    ghost met: { tables.met.items ≡ replicate (length places.items) 0 },
 }
 
 /// Room for what comes back of a run.
@@ -46,21 +48,25 @@ struct Room<L: Opened, T: Transport> {
     running: Vec<Running<L, T>>,
     stints: Vec<Stint<T>>,
     back: Back<T>,
+    ghost no_threads: { vec_len running ≡ 0 },
+    ghost no_stints: { vec_len stints ≡ 0 },
 }
 
-/// The workers and their receipts, in the same order.
+/// Room for the workers and their receipts.
 #[derive(Drop)]
 struct Back<T> {
     workers: Vec<Seat<T>>,
     receipts: Vec<Vec<Receipt>>,
+    ghost no_workers: { vec_len workers ≡ 0 },
+    ghost no_receipts: { vec_len receipts ≡ 0 },
 }
 
 /// Room for so many workers.
 fn make_room<L: Opened, T: Transport>(alloc: Global, count: usize) -> Result<Room<L, T>, AllocError>
-    ensures running { IfOk result (λ r. (vec_len r.running ≡ 0) × (count ≤ vec_capacity r.running)) }
-    ensures stints { IfOk result (λ r. (vec_len r.stints ≡ 0) × (count ≤ vec_capacity r.stints)) }
-    ensures workers { IfOk result (λ r. (vec_len r.back.workers ≡ 0) × (count ≤ vec_capacity r.back.workers)) }
-    ensures receipts { IfOk result (λ r. (vec_len r.back.receipts ≡ 0) × (count ≤ vec_capacity r.back.receipts)) }
+    ensures running { IfOk result (λ r. count ≤ vec_capacity r.running) }
+    ensures stints { IfOk result (λ r. count ≤ vec_capacity r.stints) }
+    ensures workers { IfOk result (λ r. count ≤ vec_capacity r.back.workers) }
+    ensures receipts { IfOk result (λ r. count ≤ vec_capacity r.back.receipts) }
 {
     let back = make_back(alloc, count)?;
     let stints = match Vec::with_capacity(alloc, count) {
@@ -86,8 +92,8 @@ fn make_room<L: Opened, T: Transport>(alloc: Global, count: usize) -> Result<Roo
 
 /// Room for so many workers and their receipts.
 fn make_back<T: Transport>(alloc: Global, count: usize) -> Result<Back<T>, AllocError>
-    ensures workers { IfOk result (λ b. (vec_len b.workers ≡ 0) × (count ≤ vec_capacity b.workers)) }
-    ensures receipts { IfOk result (λ b. (vec_len b.receipts ≡ 0) × (count ≤ vec_capacity b.receipts)) }
+    ensures workers { IfOk result (λ b. count ≤ vec_capacity b.workers) }
+    ensures receipts { IfOk result (λ b. count ≤ vec_capacity b.receipts) }
 {
     let workers = Vec::with_capacity(alloc, count)?;
     match Vec::with_capacity(alloc, count) {
@@ -106,9 +112,9 @@ fn accepted_places<T>(
     dispatch: &Dispatch,
     seats: &[Seat<T>],
 ) -> Result<Vec<(u32, u32)>, RunRefusal>
-    ensures refused { IfErr result (IsRunRefused dispatch.now.inputs (map (λ w. (w.machine, w.slot)) seats.now)) }
-    ensures places { IfOk result (λ v. v.items ≡ map (λ w. (w.machine, w.slot)) seats.now) }
-    ensures manned { OnOk result (AreManned dispatch.now.inputs (map (λ w. (w.machine, w.slot)) seats.now)) }
+    ensures refused { IfErr result (IsRunRefused dispatch.now.inputs (places_served seats.now)) }
+    ensures places { IfOk result (λ v. v.items ≡ places_served seats.now) }
+    ensures manned { OnOk result (AreManned dispatch.now.inputs (places_served seats.now)) }
     ensures apart { IfOk result (λ v. AreApart v.items) }
     ensures few { OnOk result (length seats.now ≤ 1024) }
 {
@@ -134,10 +140,8 @@ fn make_plan(
 ) -> Result<Plan, AllocError>
     requires { AreApart places.items }
     ensures opening { IfOk result (λ p. p.opening ≡ dispatch.now) }
-    ensures apart { IfOk result (λ p. AreApart p.places.items) }
     ensures places { IfOk result (λ p. p.places.items ≡ places.items) }
     ensures choices { IfOk result (λ p. AreUnknown (length places.items) p.tables.choices.items) }
-    ensures met { IfOk result (λ p. p.tables.met.items ≡ replicate (length places.items) 0) }
 {
     let tables = match Tables::new(alloc, dispatch.graph().len(), places.len()) {
         Ok(tables) => tables,
@@ -166,14 +170,12 @@ fn prepare<T>(
     dispatch: &Dispatch,
     seats: &[Seat<T>],
 ) -> Result<(Vec<(u32, u32)>, Plan), RunRefusal>
-    ensures refused { IfErr result (IsRunRefused dispatch.now.inputs (map (λ w. (w.machine, w.slot)) seats.now)) }
-    ensures manned { OnOk result (AreManned dispatch.now.inputs (map (λ w. (w.machine, w.slot)) seats.now)) }
+    ensures refused { IfErr result (IsRunRefused dispatch.now.inputs (places_served seats.now)) }
+    ensures manned { OnOk result (AreManned dispatch.now.inputs (places_served seats.now)) }
     ensures few { OnOk result (length seats.now ≤ 1024) }
     ensures opening { IfOk result (λ p. p.1.opening ≡ dispatch.now) }
-    ensures apart { IfOk result (λ p. AreApart p.1.places.items) }
-    ensures places { IfOk result (λ p. p.1.places.items ≡ map (λ w. (w.machine, w.slot)) seats.now) }
+    ensures places { IfOk result (λ p. p.1.places.items ≡ places_served seats.now) }
     ensures choices { IfOk result (λ p. AreUnknown (length p.1.places.items) p.1.tables.choices.items) }
-    ensures met { IfOk result (λ p. p.1.tables.met.items ≡ replicate (length p.1.places.items) 0) }
 {
     let places = match accepted_places(alloc, dispatch, seats) {
         Ok(places) => places,
@@ -204,7 +206,9 @@ fn take_apart<T: Transport>(
     requires workers_room { vec_len stints ≤ vec_capacity workers.old }
     requires receipts_room { vec_len stints ≤ vec_capacity receipts.old }
     ensures each { AllZip (λ y x. (x.0 ≡ y.seat) × (x.1.items ≡ y.notes.receipts)) stints.items (zip workers.new.items receipts.new.items) }
-    ensures total { sum_by (λ v. vec_len v) receipts.new.items ≡ sum_by (λ x. length x.notes.receipts) stints.items }
+    ensures workers { workers.new.items ≡ map (λ y. y.seat) stints.items }
+    ensures count { vec_len receipts.new ≡ vec_len stints }
+    ensures total { sum_by (λ v. vec_len v) receipts.new.items ≡ receipts_in stints.items }
 {
     'parting: for stint in stints {
         let Stint {
@@ -226,19 +230,17 @@ fn settle<T: Transport>(
     short: bool,
     threadless: bool,
 ) -> Ran<T>
-    requires apart { AreApart plan.places.items }
     requires choices { AreUnknown (length plan.places.items) plan.tables.choices.items }
-    requires met { plan.tables.met.items ≡ replicate (length plan.places.items) 0 }
-    requires no_workers { vec_len back.workers ≡ 0 }
-    requires no_receipts { vec_len back.receipts ≡ 0 }
     requires workers_room { vec_len stints ≤ vec_capacity back.workers }
     requires receipts_room { vec_len stints ≤ vec_capacity back.receipts }
     ensures dispatch { result.dispatch ≡ dispatch }
     ensures each { AllZip (λ y x. (x.0 ≡ y.seat) × (x.1.items ≡ y.notes.receipts)) stints.items (zip result.workers.items result.receipts.items) }
-    ensures total { sum_by (λ v. vec_len v) result.receipts.items ≡ sum_by (λ x. length x.notes.receipts) stints.items }
-    ensures sound { result.fault ≡ None → All (λ x. (x.end ≡ End.Refused → ⊥) × AllZip (IsNotedIn result.dispatch.history) x.notes.receipts x.notes.copies) stints.items }
-    ensures receipted { result.fault ≡ None → AreReceipted plan.places.items (length plan.opening.history) (drop (length plan.opening.history) result.dispatch.history) (map (λ v. v.items) result.receipts.items) }
-    ensures quiet { result.fault ≡ None → list_all is_quiet (drop (length plan.opening.history) result.dispatch.history) ≡ true }
+    ensures workers { result.workers.items ≡ map (λ y. y.seat) stints.items }
+    ensures count { vec_len result.receipts ≡ vec_len stints }
+    ensures total { sum_by (λ v. vec_len v) result.receipts.items ≡ receipts_in stints.items }
+    ensures sound { result.fault ≡ None → All (IsSound result.dispatch.history) stints.items }
+    ensures receipted { result.fault ≡ None → AreReceiptedSince plan.opening result.dispatch plan.places.items result.receipts.items }
+    ensures quiet { result.fault ≡ None → list_all is_quiet (since plan.opening result.dispatch) ≡ true }
     ensures thread { result.fault ≡ Some RunFault.Thread → list_any is_stop result.dispatch.history ≡ true }
     ensures memory { result.fault ≡ Some RunFault.Memory → list_any is_stop result.dispatch.history ≡ true }
     ensures goes_on { (result.fault ≡ Some RunFault.Receipts → ⊥) → IsOver plan.opening result.dispatch }
@@ -321,8 +323,8 @@ fn serve_leases<L: Opened + Send + Sync, T: Transport, R: Threads + Wait + Sync>
     requires stints_room { vec_len seats ≤ vec_capacity stints }
     ensures runs { RunsOn dispatch result.dispatch }
     ensures count { vec_len result.stints ≡ vec_len seats }
-    ensures total { made result.dispatch.history ≡ made dispatch.history + sum_by (λ x. length x.notes.receipts) result.stints.items }
-    ensures each { AllZip (λ w x. IsServed (record { machine = w.machine; slot = w.slot; calls = (T.state w.transport).calls }) x.end (record { machine = x.seat.machine; slot = x.seat.slot; calls = (T.state x.seat.transport).calls }) x.notes) seats.items result.stints.items }
+    ensures total { made result.dispatch.history ≡ made dispatch.history + receipts_in result.stints.items }
+    ensures each { HaveServed T.state seats.items result.stints.items }
 {
     let (mut book, mut rest) = blank.open::<L>();
     book.add(&mut rest, count_made(dispatch.history()) as u64);
@@ -391,23 +393,23 @@ fn run_in<L: Opened + Send + Sync, T: Transport, R: Threads + Wait + Sync>(
     requires name { blank.name ≡ L.name }
     requires parts { blank.parts ≡ L.parts }
     requires one_more { blank.parts ≡ vec_len seats + 1 }
-    requires apart { AreApart plan.places.items }
     requires begun { L.opening ≡ dispatch }
     requires opening { plan.opening ≡ dispatch }
     requires choices { AreUnknown (length plan.places.items) plan.tables.choices.items }
-    requires met { plan.tables.met.items ≡ replicate (length plan.places.items) 0 }
-    requires running { (vec_len room.running ≡ 0) × (vec_len seats ≤ vec_capacity room.running) }
-    requires stints { (vec_len room.stints ≡ 0) × (vec_len seats ≤ vec_capacity room.stints) }
-    requires workers { (vec_len room.back.workers ≡ 0) × (vec_len seats ≤ vec_capacity room.back.workers) }
-    requires receipts { (vec_len room.back.receipts ≡ 0) × (vec_len seats ≤ vec_capacity room.back.receipts) }
+    requires running { vec_len seats ≤ vec_capacity room.running }
+    requires stints { vec_len seats ≤ vec_capacity room.stints }
+    requires workers { vec_len seats ≤ vec_capacity room.back.workers }
+    requires receipts { vec_len seats ≤ vec_capacity room.back.receipts }
+    ensures places { places_served result.workers.items ≡ places_served seats.items }
+    ensures count { vec_len result.receipts ≡ vec_len seats }
     ensures total { made result.dispatch.history ≡ made dispatch.history + sum_by (λ v. vec_len v) result.receipts.items }
     ensures runs { RunsOn dispatch result.dispatch }
     ensures goes_on { (result.fault ≡ Some RunFault.Receipts → ⊥) → IsOver dispatch result.dispatch }
-    ensures receipted { result.fault ≡ None → AreReceipted plan.places.items (length dispatch.history) (drop (length dispatch.history) result.dispatch.history) (map (λ v. v.items) result.receipts.items) }
-    ensures quiet { result.fault ≡ None → list_all is_quiet (drop (length dispatch.history) result.dispatch.history) ≡ true }
+    ensures receipted { result.fault ≡ None → AreReceiptedSince dispatch result.dispatch plan.places.items result.receipts.items }
+    ensures quiet { result.fault ≡ None → list_all is_quiet (since dispatch result.dispatch) ≡ true }
     ensures thread { result.fault ≡ Some RunFault.Thread → list_any is_stop result.dispatch.history ≡ true }
     ensures memory { result.fault ≡ Some RunFault.Memory → list_any is_stop result.dispatch.history ≡ true }
-    ensures calls { result.fault ≡ None → AllZip (λ w x. IsServedIn result.dispatch.history (record { machine = w.machine; slot = w.slot; calls = (T.state w.transport).calls }) (record { machine = x.0.machine; slot = x.0.slot; calls = (T.state x.0.transport).calls }) x.1.items) seats.items (zip result.workers.items result.receipts.items) }
+    ensures calls { result.fault ≡ None → AreServedIn T.state result.dispatch.history seats.items result.workers.items result.receipts.items }
 {
     let Room {
         running,
@@ -437,22 +439,22 @@ fn run_named<L: Opened + Send + Sync, T: Transport, R: Threads + Wait + Sync>(
     requires name { blank.name ≡ L.name }
     requires parts { blank.parts ≡ L.parts }
     requires one_more { blank.parts ≡ vec_len seats + 1 }
-    requires apart { AreApart plan.places.items }
     requires begun { L.opening ≡ dispatch }
     requires opening { plan.opening ≡ dispatch }
     requires choices { AreUnknown (length plan.places.items) plan.tables.choices.items }
-    requires met { plan.tables.met.items ≡ replicate (length plan.places.items) 0 }
     ensures why { IfErr result (λ r. r.why ≡ RunRefusal.Memory) }
     ensures dispatch { IfErr result (λ r. r.dispatch ≡ dispatch) }
     ensures workers { IfErr result (λ r. r.workers ≡ seats) }
+    ensures places { IfOk result (λ e. places_served e.workers.items ≡ places_served seats.items) }
+    ensures count { IfOk result (λ e. vec_len e.receipts ≡ vec_len seats) }
     ensures total { IfOk result (λ e. made e.dispatch.history ≡ made dispatch.history + sum_by (λ v. vec_len v) e.receipts.items) }
     ensures runs { IfOk result (λ e. RunsOn dispatch e.dispatch) }
     ensures goes_on { IfOk result (λ e. (e.fault ≡ Some RunFault.Receipts → ⊥) → IsOver dispatch e.dispatch) }
-    ensures receipted { IfOk result (λ e. e.fault ≡ None → AreReceipted plan.places.items (length dispatch.history) (drop (length dispatch.history) e.dispatch.history) (map (λ v. v.items) e.receipts.items)) }
-    ensures quiet { IfOk result (λ e. e.fault ≡ None → list_all is_quiet (drop (length dispatch.history) e.dispatch.history) ≡ true) }
+    ensures receipted { IfOk result (λ e. e.fault ≡ None → AreReceiptedSince dispatch e.dispatch plan.places.items e.receipts.items) }
+    ensures quiet { IfOk result (λ e. e.fault ≡ None → list_all is_quiet (since dispatch e.dispatch) ≡ true) }
     ensures thread { IfOk result (λ e. e.fault ≡ Some RunFault.Thread → list_any is_stop e.dispatch.history ≡ true) }
     ensures memory { IfOk result (λ e. e.fault ≡ Some RunFault.Memory → list_any is_stop e.dispatch.history ≡ true) }
-    ensures calls { IfOk result (λ e. e.fault ≡ None → AllZip (λ w x. IsServedIn e.dispatch.history (record { machine = w.machine; slot = w.slot; calls = (T.state w.transport).calls }) (record { machine = x.0.machine; slot = x.0.slot; calls = (T.state x.0.transport).calls }) x.1.items) seats.items (zip e.workers.items e.receipts.items)) }
+    ensures calls { IfOk result (λ e. e.fault ≡ None → AreServedIn T.state e.dispatch.history seats.items e.workers.items e.receipts.items) }
 {
     let Ok(room) = make_room::<L, T>(alloc, seats.len()) else {
         drop(manned);
@@ -471,17 +473,19 @@ pub fn run_with<T: Transport, R: Threads + Wait + Sync>(
 ) -> Result<Ran<T>, NotRun<T>>
     ensures dispatch { IfErr result (λ r. r.dispatch ≡ dispatch) }
     ensures workers { IfErr result (λ r. r.workers ≡ workers) }
-    ensures refused { IfErr result (λ r. IsRunRefused dispatch.inputs (map (λ w. (w.machine, w.slot)) workers.items) r.why) }
-    ensures manned { IfOk result (λ e. AreManned dispatch.inputs (map (λ w. (w.machine, w.slot)) workers.items)) }
+    ensures refused { IfErr result (λ r. IsRunRefused dispatch.inputs (places_served workers.items) r.why) }
+    ensures manned { IfOk result (λ e. AreManned dispatch.inputs (places_served workers.items)) }
     ensures few { IfOk result (λ e. vec_len workers ≤ 1024) }
+    ensures places { IfOk result (λ e. places_served e.workers.items ≡ places_served workers.items) }
+    ensures count { IfOk result (λ e. vec_len e.receipts ≡ vec_len workers) }
     ensures total { IfOk result (λ e. made e.dispatch.history ≡ made dispatch.history + sum_by (λ v. vec_len v) e.receipts.items) }
     ensures runs { IfOk result (λ e. RunsOn dispatch e.dispatch) }
     ensures goes_on { IfOk result (λ e. (e.fault ≡ Some RunFault.Receipts → ⊥) → IsOver dispatch e.dispatch) }
-    ensures receipted { IfOk result (λ e. e.fault ≡ None → AreReceipted (map (λ w. (w.machine, w.slot)) workers.items) (length dispatch.history) (drop (length dispatch.history) e.dispatch.history) (map (λ v. v.items) e.receipts.items)) }
-    ensures quiet { IfOk result (λ e. e.fault ≡ None → list_all is_quiet (drop (length dispatch.history) e.dispatch.history) ≡ true) }
+    ensures receipted { IfOk result (λ e. e.fault ≡ None → AreReceiptedSince dispatch e.dispatch (places_served workers.items) e.receipts.items) }
+    ensures quiet { IfOk result (λ e. e.fault ≡ None → list_all is_quiet (since dispatch e.dispatch) ≡ true) }
     ensures thread { IfOk result (λ e. e.fault ≡ Some RunFault.Thread → list_any is_stop e.dispatch.history ≡ true) }
     ensures memory { IfOk result (λ e. e.fault ≡ Some RunFault.Memory → list_any is_stop e.dispatch.history ≡ true) }
-    ensures calls { IfOk result (λ e. e.fault ≡ None → AllZip (λ w x. IsServedIn e.dispatch.history (record { machine = w.machine; slot = w.slot; calls = (T.state w.transport).calls }) (record { machine = x.0.machine; slot = x.0.slot; calls = (T.state x.0.transport).calls }) x.1.items) workers.items (zip e.workers.items e.receipts.items)) }
+    ensures calls { IfOk result (λ e. e.fault ≡ None → AreServedIn T.state e.dispatch.history workers.items e.workers.items e.receipts.items) }
 {
     let alloc = *workers.allocator();
     match prepare(alloc, &dispatch, workers.as_slice()) {
@@ -504,7 +508,10 @@ pub fn run_with<T: Transport, R: Threads + Wait + Sync>(
 ///
 /// It may end with a fault: `Thread` (1) where a thread wasn't started, `Memory` (2) where memory was
 /// refused for choices or for receipts, `Receipts` (3) where the receipts aren't the entries that
-/// workers made. After the first two the run was stopped. No lease is to be live at the start.
+/// workers made. After the first two the run was stopped. However it ends, the workers come back on the
+/// places and in the order in which they were handed in, each with a list of receipts; each choice since
+/// the opening is the pump's step of its place in the history, and no machine was drained or enabled.
+/// No lease is to be live at the start.
 pub fn run<R: Threads + Wait + Sync>(
     rt: &R,
     dispatch: Dispatch,
@@ -512,17 +519,19 @@ pub fn run<R: Threads + Wait + Sync>(
 ) -> Result<RunEnd, Refused>
     ensures dispatch { IfErr result (λ r. r.dispatch ≡ dispatch) }
     ensures workers { IfErr result (λ r. r.workers ≡ workers) }
-    ensures refused { IfErr result (λ r. IsRunRefused dispatch.inputs (map (λ w. (w.machine, w.slot)) workers.items) r.why) }
-    ensures manned { IfOk result (λ e. AreManned dispatch.inputs (map (λ w. (w.machine, w.slot)) workers.items)) }
+    ensures refused { IfErr result (λ r. IsRunRefused dispatch.inputs (places_served workers.items) r.why) }
+    ensures manned { IfOk result (λ e. AreManned dispatch.inputs (places_served workers.items)) }
     ensures few { IfOk result (λ e. vec_len workers ≤ 1024) }
+    ensures places { IfOk result (λ e. places_served e.workers.items ≡ places_served workers.items) }
+    ensures count { IfOk result (λ e. vec_len e.receipts ≡ vec_len workers) }
     ensures total { IfOk result (λ e. made e.dispatch.history ≡ made dispatch.history + sum_by (λ v. vec_len v) e.receipts.items) }
     ensures runs { IfOk result (λ e. RunsOn dispatch e.dispatch) }
     ensures goes_on { IfOk result (λ e. (e.fault ≡ Some RunFault.Receipts → ⊥) → IsOver dispatch e.dispatch) }
-    ensures receipted { IfOk result (λ e. e.fault ≡ None → AreReceipted (map (λ w. (w.machine, w.slot)) workers.items) (length dispatch.history) (drop (length dispatch.history) e.dispatch.history) (map (λ v. v.items) e.receipts.items)) }
-    ensures quiet { IfOk result (λ e. e.fault ≡ None → list_all is_quiet (drop (length dispatch.history) e.dispatch.history) ≡ true) }
+    ensures receipted { IfOk result (λ e. e.fault ≡ None → AreReceiptedSince dispatch e.dispatch (places_served workers.items) e.receipts.items) }
+    ensures quiet { IfOk result (λ e. e.fault ≡ None → list_all is_quiet (since dispatch e.dispatch) ≡ true) }
     ensures thread { IfOk result (λ e. e.fault ≡ Some RunFault.Thread → list_any is_stop e.dispatch.history ≡ true) }
     ensures memory { IfOk result (λ e. e.fault ≡ Some RunFault.Memory → list_any is_stop e.dispatch.history ≡ true) }
-    ensures calls { IfOk result (λ e. e.fault ≡ None → AllZip (λ w x. IsServedIn e.dispatch.history (record { machine = w.machine; slot = w.slot; calls = (state w.transport).calls }) (record { machine = x.0.machine; slot = x.0.slot; calls = (state x.0.transport).calls }) x.1.items) workers.items (zip e.workers.items e.receipts.items)) }
+    ensures calls { IfOk result (λ e. e.fault ≡ None → AreServedIn state e.dispatch.history workers.items e.workers.items e.receipts.items) }
 {
     run_with(rt, dispatch, workers)
 }

@@ -2,7 +2,8 @@
 
 ghost use Rattle.std.specs.Prelude.{◌≡◌, ◌+◌, ◌<◌, ◌≤◌, [], ℕ, List, length, vec_len, vec_capacity, sum_by, MatchResult};
 ghost use Rattle.std.specs.List.{AllZip};
-ghost use Rattle.nd_workers.specs.Served.{Seated, IsServed};
+ghost use Rattle.nd_workers.specs.AtWork.{IsAtWork};
+ghost use Rattle.nd_workers.specs.Served.{seat_of, HasServed, HaveServed, receipts_in};
 
 use crate::hand::Hand;
 use crate::leasing::Shared;
@@ -25,9 +26,9 @@ pub(crate) struct Serves<T> {
 }
 
 impl<L: Opened, T: Transport> Promise<Done<L, T>> for Serves<T> {
-    ghost use Rattle.nd_workers.specs.Served.{Seated, IsServed};
+    ghost use Rattle.nd_workers.specs.Served.{seat_of, IsServed};
 
-    ghost kept_by = { λ p d. IsServed (record { machine = p.seat.value.machine; slot = p.seat.value.slot; calls = (T.state p.seat.value.transport).calls }) d.end (record { machine = d.seat.machine; slot = d.seat.slot; calls = (T.state d.seat.transport).calls }) d.hand.notes };
+    ghost kept_by = { λ p d. IsServed (seat_of T.state p.seat.value) d.end (seat_of T.state d.seat) d.hand.notes };
 }
 
 /// The thread of a worker, or what the worker handed back where it has none.
@@ -57,7 +58,7 @@ fn start<'s, E, L: Opened + Send + Sync + 's, T: Transport + 's, R: Wait + Sync>
 ) -> Running<L, T>
     requires receipts { hand.notes.receipts ≡ [] }
     requires copies { hand.notes.copies ≡ [] }
-    ensures { MatchResult result (λ h. h.promise.seat.value ≡ seat) (λ d. IsServed (record { machine = seat.machine; slot = seat.slot; calls = (T.state seat.transport).calls }) d.end (record { machine = d.seat.machine; slot = d.seat.slot; calls = (T.state d.seat.transport).calls }) d.hand.notes) }
+    ensures { IsAtWork T.state seat result }
 {
     if stopped {
         return Err(Done {
@@ -117,7 +118,7 @@ fn start_all<'s, E, L: Opened + Send + Sync + 's, T: Transport + 's, R: Wait + S
     ensures parts { rest.new.parts ≡ 1 }
     ensures amount { rest.new.amount ≡ rest.old.amount }
     ensures count { vec_len running.new ≡ vec_len seats }
-    ensures each { AllZip (λ w r. MatchResult r (λ h. h.promise.seat.value ≡ w) (λ d. IsServed (record { machine = w.machine; slot = w.slot; calls = (T.state w.transport).calls }) d.end (record { machine = d.seat.machine; slot = d.seat.slot; calls = (T.state d.seat.transport).calls }) d.hand.notes)) seats.items running.new.items }
+    ensures each { AllZip (IsAtWork T.state) seats.items running.new.items }
 {
     let mut stopped = false;
     'starting: for seat in seats {
@@ -151,7 +152,7 @@ fn join<L: Opened, T: Transport, R: Threads>(
 ) -> Stint<T>
     ensures parts { all.new.parts ≡ all.old.parts + 1 }
     ensures amount { all.new.amount ≡ all.old.amount + length result.notes.receipts }
-    ensures served { (w : Seated) → MatchResult running (λ h. record { machine = h.promise.seat.value.machine; slot = h.promise.seat.value.slot; calls = (T.state h.promise.seat.value.transport).calls } ≡ w) (λ d. IsServed w d.end (record { machine = d.seat.machine; slot = d.seat.slot; calls = (T.state d.seat.transport).calls }) d.hand.notes) → IsServed w result.end (record { machine = result.seat.machine; slot = result.seat.slot; calls = (T.state result.seat.transport).calls }) result.notes }
+    ensures served { (w : _) → IsAtWork T.state w running → HasServed T.state (seat_of T.state w) result }
 {
     match running {
         Ok(handle) => take_in(handle.join(rt), all),
@@ -171,8 +172,8 @@ fn join_all<L: Opened, T: Transport, R: Threads>(
     requires room { vec_len running ≤ vec_capacity stints.old }
     ensures parts { all.new.parts ≡ all.old.parts + vec_len running }
     ensures count { vec_len stints.new ≡ vec_len running }
-    ensures amount { all.new.amount ≡ all.old.amount + sum_by (λ x. length x.notes.receipts) stints.new.items }
-    ensures each { AllZip (λ r x. (w : Seated) → MatchResult r (λ h. record { machine = h.promise.seat.value.machine; slot = h.promise.seat.value.slot; calls = (T.state h.promise.seat.value.transport).calls } ≡ w) (λ d. IsServed w d.end (record { machine = d.seat.machine; slot = d.seat.slot; calls = (T.state d.seat.transport).calls }) d.hand.notes) → IsServed w x.end (record { machine = x.seat.machine; slot = x.seat.slot; calls = (T.state x.seat.transport).calls }) x.notes) running.items stints.new.items }
+    ensures amount { all.new.amount ≡ all.old.amount + receipts_in stints.new.items }
+    ensures each { AllZip (λ r x. (w : _) → IsAtWork T.state w r → HasServed T.state (seat_of T.state w) x) running.items stints.new.items }
 {
     'joining: for next in running {
         let stint = join(rt, next, all);
@@ -198,8 +199,8 @@ fn serve_all<'s, E, L: Opened + Send + Sync + 's, T: Transport + 's, R: Threads 
 ) -> Ended<L, T>
     ensures parts { result.all.parts ≡ vec_len ready.seats + 1 }
     ensures count { vec_len result.stints ≡ vec_len ready.seats }
-    ensures amount { result.all.amount ≡ ready.rest.amount + sum_by (λ x. length x.notes.receipts) result.stints.items }
-    ensures each { AllZip (λ w x. IsServed (record { machine = w.machine; slot = w.slot; calls = (T.state w.transport).calls }) x.end (record { machine = x.seat.machine; slot = x.seat.slot; calls = (T.state x.seat.transport).calls }) x.notes) ready.seats.items result.stints.items }
+    ensures amount { result.all.amount ≡ ready.rest.amount + receipts_in result.stints.items }
+    ensures each { HaveServed T.state ready.seats.items result.stints.items }
 {
     let Ready {
         seats,
@@ -221,14 +222,14 @@ pub(crate) fn in_scope<L: Opened + Send + Sync, T: Transport, R: Threads + Wait 
 ) -> Ended<L, T>
     ensures parts { result.all.parts ≡ vec_len ready.seats + 1 }
     ensures count { vec_len result.stints ≡ vec_len ready.seats }
-    ensures amount { result.all.amount ≡ ready.rest.amount + sum_by (λ x. length x.notes.receipts) result.stints.items }
-    ensures each { AllZip (λ w x. IsServed (record { machine = w.machine; slot = w.slot; calls = (T.state w.transport).calls }) x.end (record { machine = x.seat.machine; slot = x.seat.slot; calls = (T.state x.seat.transport).calls }) x.notes) ready.seats.items result.stints.items }
+    ensures amount { result.all.amount ≡ ready.rest.amount + receipts_in result.stints.items }
+    ensures each { HaveServed T.state ready.seats.items result.stints.items }
 {
     thread::scope(
         thread::scope_env(),
         rt,
         |scope| -> Ended<L, T>
-            ensures { (result.all.parts ≡ vec_len ready.seats + 1) × (vec_len result.stints ≡ vec_len ready.seats) × (result.all.amount ≡ ready.rest.amount + sum_by (λ x. length x.notes.receipts) result.stints.items) × AllZip (λ w x. IsServed (record { machine = w.machine; slot = w.slot; calls = (T.state w.transport).calls }) x.end (record { machine = x.seat.machine; slot = x.seat.slot; calls = (T.state x.seat.transport).calls }) x.notes) ready.seats.items result.stints.items }
+            ensures { (result.all.parts ≡ vec_len ready.seats + 1) × (vec_len result.stints ≡ vec_len ready.seats) × (result.all.amount ≡ ready.rest.amount + receipts_in result.stints.items) × HaveServed T.state ready.seats.items result.stints.items }
         { serve_all(scope, rt, alloc, shared, ready) },
     )
 }

@@ -1,14 +1,11 @@
-use Rattle.std.proofs.Common.{◌≡◌, ◌+◌, sym, subst, ap, ◌∙◌}
-use Rattle.std.specs.List.{AllZip}
+use Rattle.std.proofs.Common.{◌+◌, sym, subst, ap, ◌∙◌}
 use Rattle.nd_ledger.specs.Worlds.{World}
 use Rattle.nd_receipts.specs.Made.{made}
-use Rattle.nd_receipts.specs.Noted.{IsNotedIn}
-use Rattle.nd_workers.specs.declared.threads.Stint.{Stint}
-use Rattle.nd_workers.specs.declared.working.End.TheVariants.{Refused}
 use Rattle.nd_workers.specs.declared.seat.Seat.{Seat}
 use Rattle.nd_workers.specs.Runs.{IsServedIn}
-use Rattle.nd_workers.specs.Served.{Seated}
+use Rattle.nd_workers.specs.Served.{Seated, seat_of, places_served, IsSound}
 use Rattle.nd_workers.proofs.Compared.{served_in}
+use Rattle.nd_workers.proofs.Stints.{places_kept}
 use Rattle.nd_workers.proofs.Zips.{zip_known_via}
 use Rattle.nd_workers.proofs.running.run_in.Goals as goal
 
@@ -23,8 +20,8 @@ returns-clause-quiet g c = rw (← c.requires.opening) c.settle.ensures.quiet
 
 pub returns-clause-calls : goal.returns-clause-calls
 returns-clause-calls g c = λ none.
-    let of : Seat g.row.T.Denot → Seated = λ s. record { machine = s.machine; slot = s.slot; calls = (g.T.Transport.state s.transport).calls } in
-    zip_known_via {S = λ (y : Stint g.row.T.Denot). (y.end ≡ Refused → ⊥) × AllZip (IsNotedIn c.settle.result.dispatch.history) y.notes.receipts y.notes.copies} _ _ _ c.serve_leases-served.ensures.each (c.settle.ensures.sound none) c.settle.ensures.each
+    let of : Seat g.row.T.Denot → Seated = seat_of g.T.Transport.state in
+    zip_known_via {S = IsSound c.settle.result.dispatch.history} _ _ _ c.serve_leases-served.ensures.each (c.settle.ensures.sound none) c.settle.ensures.each
     (λ w y z p s q. subst (λ (x : Seat g.row.T.Denot). IsServedIn c.settle.result.dispatch.history (of w) (of x) z.1.items) (sym q.0) (served_in c.settle.result.dispatch.history (of w) (of y.seat) y.end y.notes z.1.items s.0 s.1 p q.1))
 
 pub returns-clause-total : goal.returns-clause-total
@@ -33,3 +30,9 @@ returns-clause-total g c =
 
 pub returns-clause-runs : goal.returns-clause-runs
 returns-clause-runs g c = rw c.settle.ensures.dispatch c.serve_leases-served.ensures.runs
+
+pub returns-clause-places : goal.returns-clause-places
+returns-clause-places g c = ap places_served c.settle.ensures.workers ∙ places_kept g.T.Transport.state _ _ c.serve_leases-served.ensures.each
+
+pub returns-clause-count : goal.returns-clause-count
+returns-clause-count g c = c.settle.ensures.count ∙ c.serve_leases-served.ensures.count

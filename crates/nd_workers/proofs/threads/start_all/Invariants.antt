@@ -1,8 +1,7 @@
 use Rattle.std.proofs.Common.{◌≡◌, ◌+◌, ◌≤◌, vec_len, vec_capacity}
-use Rattle.std.specs.Prelude.{MatchResult}
 use Rattle.std.specs.List.{AllZip}
 use Rattle.std.specs.Vec.Iter.{into_iter_len}
-use Rattle.nd_workers.specs.Served.{IsServed}
+use Rattle.nd_workers.specs.AtWork.{IsAtWork}
 use Rattle.nd_workers.proofs.threads.start_all.Given as goal
 
 abbrev pub invariant-starting : goal.invariant-starting
@@ -11,4 +10,4 @@ invariant-starting g l =
     × (l.rest.amount ≡ l.initial.rest.amount)
     × (vec_len l.running + into_iter_len l.seat-iterator ≡ vec_len l.fn.seats)
     × (vec_len l.running + into_iter_len l.seat-iterator ≤ vec_capacity l.running)
-    × AllZip (λ w r. MatchResult r (λ h. h.promise.seat.value ≡ w) (λ d. IsServed (record { machine = w.machine; slot = w.slot; calls = (g.T.Transport.state w.transport).calls }) d.end (record { machine = d.seat.machine; slot = d.seat.slot; calls = (g.T.Transport.state d.seat.transport).calls }) d.hand.notes)) l.yielded l.running.items
+    × AllZip (IsAtWork g.T.Transport.state) l.yielded l.running.items
