@@ -1,2 +1,4 @@
+pub mod Endings
 pub mod Giving
+pub mod Manned
 pub mod Seated

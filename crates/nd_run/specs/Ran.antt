@@ -1,14 +1,17 @@
--- A run, by what is written of it.
+-- A run, by what is written of it. The contract of `run_engine` cites `RunsTo` and `IsRunFault`, and with them all that stands
+-- before these two; what stands behind them serves the contracts of the functions that `run_engine` is made of.
 use Rattle.std.specs.Prelude.{◌≡◌, ◌⊎◌, ℕ, ◌<◌, Bool, true, List, length, drop, Option, Some, None, reverse}
 use Rattle.std.specs.List.{list_any, list_all}
+use Rattle.nd_hook.specs.Watched.{Watched}
 use Rattle.nd_history.specs.History.{is_stop}
 use Rattle.nd_history.specs.Legal.{IsLegal}
 use Rattle.nd_ledger.specs.Worlds.{World}
 use Rattle.nd_receipts.specs.Made.{is_quiet}
 use Rattle.nd_workers.specs.declared.run_end.RunFault.{RunFault}
+use Rattle.nd_workers.specs.declared.run_end.RunFault.TheVariants.{Thread as NoThread, Memory as NoMemory, Receipts as OtherReceipts}
 use Rattle.nd_workers.specs.declared.run_end.RunRefusal.{RunRefusal}
-use Rattle.nd_workers.specs.declared.run_end.RunRefusal.TheVariants.{Slots, TooManySlots as TooManyWorkers, Memory as NoMemory}
-use Rattle.nd_workers.specs.Runs.{AreManned, IsOver}
+use Rattle.nd_workers.specs.declared.run_end.RunRefusal.TheVariants.{Slots, TooManySlots as TooManyWorkers, Memory as NoRoom}
+use Rattle.nd_workers.specs.Runs.{IsOver}
 use Rattle.nd_cli.specs.declared.fault.CliFault.{CliFault}
 use Rattle.nd_cli.specs.declared.fault.CliFault.TheVariants.{Derivation, Drvs, Builders, Info, Script, Stand, History, TooLarge, TooManySlots, Read, Write, Memory, Thread, Receipts}
 use Rattle.nd_run.specs.Ended.{WritesEnd, WritesEndPart, IsStatusOf}
@@ -17,54 +20,63 @@ use Rattle.nd_run.specs.Ended.{WritesEnd, WritesEndPart, IsStatusOf}
 abbrev pub IsLegalWorld : World → Type 0
 IsLegalWorld w = IsLegal w.inputs (reverse w.history)
 
--- the run went on from this dispatch until it was over, without a stop and without a lease that no worker served, and all of
--- that was written
-pub record RunsTo (before : World) (report : Bool) (status : ℕ) (old new : Option (List ℕ)) : Type 0 where
-  pub after : World
+-- the run went on from `before` until it was over, without a stop and without a lease that no worker served
+pub record IsDone (before after : World) : Type 0 where
   pub legal : IsLegalWorld after
   pub over : IsOver before after
   pub quiet : list_all is_quiet (drop (length before.history) after.history) ≡ true
-  pub writes : WritesEnd after report old new
-  pub status_is : IsStatusOf after status
 
--- the run was stopped, and all of what came back was written
-pub record WritesStopped (before : World) (report : Bool) (old new : Option (List ℕ)) : Type 0 where
-  pub after : World
+-- the run went on from `before` until it was over, and was stopped
+pub record IsStopped (before after : World) : Type 0 where
   pub legal : IsLegalWorld after
   pub over : IsOver before after
   pub stopped : list_any is_stop after.history ≡ true
+
+-- what came back of a run of `before`, by the fault that the run ended with; with other receipts than the entries that workers
+-- made, no more is known than that it is legal
+abbrev pub CameBack : Option RunFault → World → World → Type 0
+CameBack None before after = IsDone before after
+CameBack (Some NoThread) before after = IsStopped before after
+CameBack (Some NoMemory) before after = IsStopped before after
+CameBack (Some OtherReceipts) before after = IsLegalWorld after
+
+-- the run ended without a fault; all of what came back was written, and this is its status
+pub record RunsTo (before : World) (report : Bool) (status : ℕ) (old new : Option (List ℕ)) : Type 0 where
+  pub after : World
+  pub done : IsDone before after
+  pub writes : WritesEnd after report old new
+  pub status_is : IsStatusOf after status
+
+-- the run ended with this fault, and all of what came back was written
+pub record WritesFaulty (before : World) (fault : RunFault) (report : Bool) (old new : Option (List ℕ)) : Type 0 where
+  pub after : World
+  pub back : CameBack (Some fault) before after
   pub writes : WritesEnd after report old new
 
--- what came back was written: a legal history, and nothing else is known of it
-pub record WritesAny (report : Bool) (old new : Option (List ℕ)) : Type 0 where
+-- the run ended with a fault or without one, and a part of what came back was written, from its beginning
+pub record WritesTorn (before : World) (report : Bool) (old new : Option (List ℕ)) : Type 0 where
+  pub fault : Option RunFault
   pub after : World
-  pub legal : IsLegalWorld after
-  pub writes : WritesEnd after report old new
-
--- the writer refused: it is marked, and a part of what came back, from its beginning, is out
-pub record WritesTorn (report marked : Bool) (old new : Option (List ℕ)) : Type 0 where
-  pub mark : marked ≡ true
-  pub after : World
-  pub legal : IsLegalWorld after
+  pub back : CameBack fault before after
   pub part : WritesEndPart after report old new
 
--- Why there is no status: the writer refused; or the run ended with a fault, and what came back was written before. Where the run
--- was refused the writer is as it was: too many slots, want of memory, or a slot without a worker.
-abbrev pub IsRunFault : World → List (ℕ × ℕ) → Bool → Bool → Type 0 → Option (List ℕ) → Option (List ℕ) → CliFault → Type 0
-IsRunFault before places report marked untouched old new (Derivation e) = ⊥
-IsRunFault before places report marked untouched old new (Drvs e) = ⊥
-IsRunFault before places report marked untouched old new (Builders e) = ⊥
-IsRunFault before places report marked untouched old new (Info e) = ⊥
-IsRunFault before places report marked untouched old new (Script e) = ⊥
-IsRunFault before places report marked untouched old new (Stand e) = ⊥
-IsRunFault before places report marked untouched old new (History e) = ⊥
-IsRunFault before places report marked untouched old new (TooLarge place) = ⊥
-IsRunFault before places report marked untouched old new TooManySlots = AreManned before.inputs places × (1024 < length places) × untouched
-IsRunFault before places report marked untouched old new Read = ⊥
-IsRunFault before places report marked untouched old new Write = WritesTorn report marked old new
-IsRunFault before places report marked untouched old new Memory = untouched ⊎ WritesStopped before report old new
-IsRunFault before places report marked untouched old new Thread = ((AreManned before.inputs places → ⊥) × untouched) ⊎ WritesStopped before report old new
-IsRunFault before places report marked untouched old new Receipts = WritesAny report old new
+-- Why there is no status, of a run by so many workers: the writer refused; or the run ended with a fault, and what came back was
+-- written before; or there was no run, for want of memory or for too many slots, and the writer is as it was.
+abbrev pub IsRunFault : {W : Type 0} → World → ℕ → Bool → (W → Option (List ℕ)) → Watched W → Watched W → CliFault → Type 0
+IsRunFault before workers report text old new (Derivation e) = ⊥
+IsRunFault before workers report text old new (Drvs e) = ⊥
+IsRunFault before workers report text old new (Builders e) = ⊥
+IsRunFault before workers report text old new (Info e) = ⊥
+IsRunFault before workers report text old new (Script e) = ⊥
+IsRunFault before workers report text old new (Stand e) = ⊥
+IsRunFault before workers report text old new (History e) = ⊥
+IsRunFault before workers report text old new (TooLarge place) = ⊥
+IsRunFault before workers report text old new TooManySlots = (1024 < workers) × (new ≡ old)
+IsRunFault before workers report text old new Read = ⊥
+IsRunFault before workers report text old new Write = WritesTorn before report (text old.device) (text new.device)
+IsRunFault before workers report text old new Memory = (new ≡ old) ⊎ WritesFaulty before NoMemory report (text old.device) (text new.device)
+IsRunFault before workers report text old new Thread = WritesFaulty before NoThread report (text old.device) (text new.device)
+IsRunFault before workers report text old new Receipts = WritesFaulty before OtherReceipts report (text old.device) (text new.device)
 
 -- a run without a fault: what came back was written, and this is its status
 pub record EndsIn (after : World) (fault : Option RunFault) (report : Bool) (status : ℕ) (old new : Option (List ℕ)) : Type 0 where
@@ -77,30 +89,25 @@ pub record EndsWith (after : World) (fault : Option RunFault) (report : Bool) (w
   pub some : fault ≡ Some what
   pub writes : WritesEnd after report old new
 
--- the writer refused, and is marked
-pub record IsTorn (after : World) (report marked : Bool) (old new : Option (List ℕ)) : Type 0 where
-  pub mark : marked ≡ true
-  pub part : WritesEndPart after report old new
-
 -- why what came back has no status
-abbrev pub IsEndFault : World → Option RunFault → Bool → Bool → Option (List ℕ) → Option (List ℕ) → CliFault → Type 0
-IsEndFault after fault report marked old new (Derivation e) = ⊥
-IsEndFault after fault report marked old new (Drvs e) = ⊥
-IsEndFault after fault report marked old new (Builders e) = ⊥
-IsEndFault after fault report marked old new (Info e) = ⊥
-IsEndFault after fault report marked old new (Script e) = ⊥
-IsEndFault after fault report marked old new (Stand e) = ⊥
-IsEndFault after fault report marked old new (History e) = ⊥
-IsEndFault after fault report marked old new (TooLarge place) = ⊥
-IsEndFault after fault report marked old new TooManySlots = ⊥
-IsEndFault after fault report marked old new Read = ⊥
-IsEndFault after fault report marked old new Write = IsTorn after report marked old new
-IsEndFault after fault report marked old new Memory = EndsWith after fault report RunFault.Memory old new
-IsEndFault after fault report marked old new Thread = EndsWith after fault report RunFault.Thread old new
-IsEndFault after fault report marked old new Receipts = EndsWith after fault report RunFault.Receipts old new
+abbrev pub IsEndFault : World → Option RunFault → Bool → Option (List ℕ) → Option (List ℕ) → CliFault → Type 0
+IsEndFault after fault report old new (Derivation e) = ⊥
+IsEndFault after fault report old new (Drvs e) = ⊥
+IsEndFault after fault report old new (Builders e) = ⊥
+IsEndFault after fault report old new (Info e) = ⊥
+IsEndFault after fault report old new (Script e) = ⊥
+IsEndFault after fault report old new (Stand e) = ⊥
+IsEndFault after fault report old new (History e) = ⊥
+IsEndFault after fault report old new (TooLarge place) = ⊥
+IsEndFault after fault report old new TooManySlots = ⊥
+IsEndFault after fault report old new Read = ⊥
+IsEndFault after fault report old new Write = WritesEndPart after report old new
+IsEndFault after fault report old new Memory = EndsWith after fault report NoMemory old new
+IsEndFault after fault report old new Thread = EndsWith after fault report NoThread old new
+IsEndFault after fault report old new Receipts = EndsWith after fault report OtherReceipts old new
 
--- what a refused run is told as
+-- what a refused run is told as, where there was one worker for each slot
 abbrev pub IsRefusedAs : RunRefusal → CliFault → Type 0
-IsRefusedAs Slots e = e ≡ CliFault.Thread
+IsRefusedAs Slots e = ⊥
 IsRefusedAs TooManyWorkers e = e ≡ CliFault.TooManySlots
-IsRefusedAs NoMemory e = e ≡ CliFault.Memory
+IsRefusedAs NoRoom e = e ≡ CliFault.Memory

@@ -1,8 +1,8 @@
 //! A run, and what is written of it.
 
-ghost use Rattle.std.specs.Prelude.{◌≡◌, [], false, reverse, map, IfOk, IfErr};
-ghost use Rattle.nd_history.specs.History.{live};
+ghost use Rattle.std.specs.Prelude.{◌≡◌, ◌↔◌, false, reverse, map, vec_len, is_err, IfOk, IfErr, IsTrue};
 ghost use Rattle.nd_history.specs.Legal.{IsLegal};
+ghost use Rattle.nd_workers.specs.Runs.{AreManned};
 ghost use Rattle.nd_run.specs.Ran.{RunsTo, IsRunFault, EndsIn, IsEndFault, IsRefusedAs};
 
 use crate::ending::{status_or_fault, write_end};
@@ -21,7 +21,8 @@ use std::thread::Threads;
 /// `TooManySlots`: there are more than 1,024 workers, and nothing is written. `Write`: the writer
 /// refused, and is marked; a part of the text, from its beginning, is out. `Thread`, `Memory` and
 /// `Receipts`: the run ended with that fault, and what came back is written before. `Memory` also where
-/// there was none to begin with, and `Thread` where a slot has no worker; then nothing is written.
+/// there was none to begin with; then nothing is written.
+#[tactic(auto, using(crate::proofs::Endings::never_slots, crate::proofs::Endings::runs_to, crate::proofs::Endings::came_back))]
 pub fn run_engine<R: Threads + Wait + Sync, W: Write>(
     rt: &R,
     dispatch: Dispatch,
@@ -29,10 +30,11 @@ pub fn run_engine<R: Threads + Wait + Sync, W: Write>(
     report: bool,
     output: &mut Told<W>,
 ) -> Result<u8, CliFault>
-    requires idle { live (reverse dispatch.history) ≡ [] }
+    requires manned { AreManned dispatch.inputs (map (λ w. (w.machine, w.slot)) workers.items) }
     requires writer { output.old.is_marked ≡ false }
     ensures answer { IfOk result (λ status. RunsTo dispatch report status (W.contents output.old.device) (W.contents output.new.device)) }
-    ensures fault { IfErr result (IsRunFault dispatch (map (λ w. (w.machine, w.slot)) workers.items) report output.new.is_marked (output.new ≡ output.old) (W.contents output.old.device) (W.contents output.new.device)) }
+    ensures fault { IfErr result (IsRunFault dispatch (vec_len workers) report W.contents output.old output.new) }
+    ensures mark { IsTrue output.new.is_marked ↔ (result ≡ Err CliFault.Write) }
 {
     match run(rt, dispatch, workers) {
         Ok(end) => {
@@ -55,9 +57,11 @@ fn write_and_answer<W: Write>(
     report: bool,
     output: &mut Told<W>,
 ) -> Result<u8, CliFault>
+    requires { output.old.is_marked ≡ false }
     ensures legal { IsLegal dispatch.now.inputs (reverse dispatch.now.history) }
     ensures answer { IfOk result (λ status. EndsIn dispatch.now fault report status (W.contents output.old.device) (W.contents output.new.device)) }
-    ensures fault { IfErr result (IsEndFault dispatch.now fault report output.new.is_marked (W.contents output.old.device) (W.contents output.new.device)) }
+    ensures fault { IfErr result (IsEndFault dispatch.now fault report (W.contents output.old.device) (W.contents output.new.device)) }
+    ensures mark { IsTrue output.new.is_marked ↔ (result ≡ Err CliFault.Write) }
 {
     match write_end(dispatch, report, output) {
         Ok(()) => status_or_fault(dispatch, fault),
@@ -65,13 +69,13 @@ fn write_and_answer<W: Write>(
     }
 }
 
-/// The fault of a refused run. The program makes a stand-in for each slot, so that `Slots` never comes
-/// from it.
+/// The fault of a refused run, whose workers were one for each slot.
 fn refusal(why: RunRefusal) -> CliFault
+    requires { why ≡ RunRefusal.Slots → ⊥ }
     ensures { IsRefusedAs why result }
 {
     match why {
-        RunRefusal::Slots => CliFault::Thread,
+        RunRefusal::Slots => unreachable!(),
         RunRefusal::TooManySlots => CliFault::TooManySlots,
         RunRefusal::Memory => CliFault::Memory,
     }

@@ -1,5 +1,5 @@
-//! The command `run`: what it is given, the places of its park, and what it writes of a run with
-//! stand-ins on threads.
+//! The command `run`: what it is given, the places of its park with a stand-in on each, and what it
+//! writes of a run with them on threads.
 #![tactic(auto)]
 
 mod ending;
@@ -9,4 +9,4 @@ pub mod seating;
 
 pub use engine::run_engine;
 pub use given::{RunInputs, run_inputs};
-pub use seating::places;
+pub use seating::{places, stand_ins};

@@ -1,5 +1,9 @@
 //! What each command does with its words.
 
+ghost use Rattle.std.specs.Prelude.{◌≡◌, IfOk, codes};
+ghost use Rattle.clap.specs.Matches.{found_of, one_text};
+ghost use Rattle.nix_dispatch.specs.Options.{AreOptionsIn, IsNumberIn, IsFlagIn, text_in};
+
 use crate::files::{file_or_nothing, read_file, text_or_file};
 use crate::stand_ins::run_stand_ins;
 use crate::words;
@@ -15,6 +19,9 @@ use std::io::{self, BufWriter};
 use std::rt::Files;
 use std::sync::Wait;
 use std::thread::Threads;
+
+/// The exit status where the command line isn't understood.
+const USAGE: u8 = 2;
 
 /// Runs the command that the words name, and answers the exit status. Help that is asked for goes
 /// to standard output with status 0, a word that isn't understood to standard error with status 2.
@@ -36,19 +43,36 @@ pub(crate) fn run<'a, R: Files + Input + Print + Eprint + AllocGlobal + Threads 
             return error.exit_code() as u8;
         }
     };
-    let answer = match matches.subcommand() {
-        Some(("path", options)) => path(rt, alloc, options),
-        Some(("sim", options)) => sim(rt, alloc, options),
-        Some(("audit", options)) => audit(rt, alloc, options),
-        Some(("run", options)) => run_stand_ins(rt, alloc, options),
-        Some((_, options)) => ask(rt, alloc, options),
-        None => Ok(0),
-    };
+    let answer = answer_to(rt, alloc, &matches);
     drop(matches);
     match answer {
-        Ok(status) => status,
-        Err(fault) => told(rt, &fault),
+        Some(Ok(status)) => status,
+        Some(Err(fault)) => told(rt, &fault),
+        None => not_understood(rt, "the command line names no command"),
     }
+}
+
+/// What the command that was named answers, and `None` where none of the commands was.
+fn answer_to<R: Files + Input + Print + AllocGlobal + Threads + Wait + Sync>(
+    rt: &R,
+    alloc: Global,
+    matches: &ArgMatches,
+) -> Option<Result<u8, CliFault>> {
+    match matches.subcommand() {
+        Some(("path", options)) => Some(path(rt, alloc, options)),
+        Some(("ask", options)) => Some(ask(rt, alloc, options)),
+        Some(("sim", options)) => Some(sim(rt, alloc, options)),
+        Some(("audit", options)) => Some(audit(rt, alloc, options)),
+        Some(("run", options)) => Some(run_stand_ins(rt, alloc, options)),
+        _ => None,
+    }
+}
+
+/// Says in one line on standard error why the command line isn't understood, and answers the exit
+/// status for that.
+pub(crate) fn not_understood<R: Eprint>(rt: &R, why: &str) -> u8 {
+    let _ = eprintln!(rt; "error: {why}");
+    USAGE
 }
 
 /// Says a fault in one line on standard error, and answers its exit status.
@@ -165,7 +189,9 @@ pub(crate) fn park_options<R: Files>(
     rt: &R,
     alloc: Global,
     options: &ArgMatches,
-) -> Result<ParkOptions, CliFault> {
+) -> Result<ParkOptions, CliFault>
+    ensures { IfOk result (λ park. AreOptionsIn options.now park) }
+{
     let builders = text_or_file(rt, alloc, options.get_str("builders").unwrap_or(""))?;
     let info = file_or_nothing(rt, alloc, options.get_str("info"))?;
     Ok(ParkOptions {
@@ -173,13 +199,30 @@ pub(crate) fn park_options<R: Files>(
         system: text_of(alloc, options, "system")?,
         extra: text_of(alloc, options, "extra")?,
         features: text_of(alloc, options, "features")?,
-        jobs: options.get_one::<u16>("jobs").unwrap_or(1),
-        keep_going: options.get_flag("keep-going"),
-        check_paths: options.get_flag("check-paths"),
+        jobs: jobs_of(options),
+        keep_going: flag_of(options, "keep-going"),
+        check_paths: flag_of(options, "check-paths"),
         info,
     })
 }
 
-fn text_of(alloc: Global, options: &ArgMatches, name: &str) -> Result<ByteString, CliFault> {
+/// The text of the option of this name, and no bytes without it.
+fn text_of(alloc: Global, options: &ArgMatches, name: &str) -> Result<ByteString, CliFault>
+    ensures { IfOk result (λ text. text ≡ text_in options.now name.now) }
+{
     Ok(ByteString::from_slice(alloc, options.get_str(name).unwrap_or("").as_bytes())?)
+}
+
+/// The local jobs, which are 1 without the option.
+fn jobs_of(options: &ArgMatches) -> u16
+    ensures { IsNumberIn (one_text (found_of options.now) (codes "jobs")) result }
+{
+    options.get_one::<u16>("jobs").unwrap_or(1)
+}
+
+/// Whether the flag of this name was given.
+fn flag_of(options: &ArgMatches, name: &str) -> bool
+    ensures { IsFlagIn (one_text (found_of options.now) name.now) result }
+{
+    options.get_flag(name)
 }

@@ -1,5 +1,8 @@
 //! The files that the command line names.
 
+ghost use Rattle.std.specs.Prelude.{◌≡◌, [], None, IfOk};
+ghost use Rattle.nix_dispatch.specs.Options.{StandsFor};
+
 use nd_bytes::ByteString;
 use nd_cli::{CliFault, read_input};
 use nd_hook::Told;
@@ -13,7 +16,9 @@ pub(crate) fn text_or_file<R: Files>(
     rt: &R,
     alloc: Global,
     value: &str,
-) -> Result<ByteString, CliFault> {
+) -> Result<ByteString, CliFault>
+    ensures { IfOk result (StandsFor value.now) }
+{
     match value.strip_prefix('@') {
         Some(name) => read_file(rt, alloc, name),
         None => Ok(ByteString::from_slice(alloc, value.as_bytes())?),
@@ -25,7 +30,9 @@ pub(crate) fn file_or_nothing<R: Files>(
     rt: &R,
     alloc: Global,
     name: Option<&str>,
-) -> Result<ByteString, CliFault> {
+) -> Result<ByteString, CliFault>
+    ensures { name.entry ≡ None → IfOk result (λ bytes. bytes ≡ []) }
+{
     match name {
         Some(name) => read_file(rt, alloc, name),
         None => Ok(ByteString::new(Vec::new(alloc))),

@@ -17,9 +17,6 @@ use std::sync::Wait;
 use std::thread::Threads;
 use std::{env, io};
 
-/// The exit status where the command line isn't understood.
-const USAGE: u8 = 2;
-
 fn main(rt: HostRuntime) -> ExitCode {
     ExitCode::from(program(&rt))
 }
@@ -45,6 +42,5 @@ fn words_refused<R: Eprint>(rt: &R, error: &io::Error) -> u8 {
     if error.kind() == io::ErrorKind::OutOfMemory {
         return commands::told(rt, &CliFault::Memory);
     }
-    let _ = eprintln!(rt; "error: a word of the command line can't be read as UTF-8");
-    USAGE
+    commands::not_understood(rt, "a word of the command line can't be read as UTF-8")
 }

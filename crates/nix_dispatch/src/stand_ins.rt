@@ -1,6 +1,7 @@
 //! The command `run`: a stand-in for each slot of the park.
 
-ghost use Rattle.std.specs.Prelude.{◌≡◌, [], IfOk};
+ghost use Rattle.std.specs.Prelude.{map};
+ghost use Rattle.nd_workers.specs.Runs.{AreManned};
 
 use crate::commands::park_options;
 use crate::files::file_or_nothing;
@@ -8,10 +9,9 @@ use clap::ArgMatches;
 use nd_cli::CliFault;
 use nd_hook::Told;
 use nd_ledger::Dispatch;
-use nd_run::{RunInputs, places, run_engine, run_inputs};
-use nd_script::Rule;
+use nd_run::{RunInputs, run_engine, run_inputs, stand_ins};
 use nd_workers::{Seat, StandIn, Transport, Worker};
-use std::alloc::{AllocError, Global};
+use std::alloc::Global;
 use std::io::{self, BufWriter};
 use std::rt::Files;
 use std::sync::Wait;
@@ -44,9 +44,7 @@ fn inputs<R: Files + Input + Threads + Sync>(
     rt: &R,
     alloc: Global,
     options: &ArgMatches,
-) -> Result<RunInputs, CliFault>
-    ensures { IfOk result (λ given. given.dispatch.history ≡ []) }
-{
+) -> Result<RunInputs, CliFault> {
     let park = match park_options(rt, alloc, options) {
         Ok(park) => park,
         Err(fault) => return Err(fault),
@@ -65,47 +63,6 @@ fn inputs<R: Files + Input + Threads + Sync>(
     given
 }
 
-/// A stand-in for each place of the park.
-fn stand_ins(
-    alloc: Global,
-    dispatch: &Dispatch,
-    rules: &[Rule],
-) -> Result<Vec<Seat<Box<StandIn>>>, CliFault> {
-    let places = places(alloc, dispatch)?;
-    match seats(alloc, places, rules) {
-        Ok(seats) => Ok(seats),
-        Err(_) => Err(CliFault::Memory),
-    }
-}
-
-/// A stand-in with these rules on each of these places.
-fn seats(
-    alloc: Global,
-    places: Vec<(u32, u32)>,
-    rules: &[Rule],
-) -> Result<Vec<Seat<Box<StandIn>>>, AllocError> {
-    let mut seats = Vec::new(alloc);
-    for (machine, slot) in places {
-        let transport = Box::new(alloc, StandIn::new(machine, copies(alloc, rules)?))?;
-        let seat = Seat {
-            machine,
-            slot,
-            transport,
-        };
-        seats.push(seat)?;
-    }
-    Ok(seats)
-}
-
-/// A copy of these rules.
-fn copies(alloc: Global, rules: &[Rule]) -> Result<Vec<Rule>, AllocError> {
-    let mut copies = Vec::new(alloc);
-    for rule in rules {
-        copies.push(rule.try_clone()?)?;
-    }
-    Ok(copies)
-}
-
 /// A run by these stand-ins.
 fn run_seated<R: Print + AllocGlobal + Threads + Wait + Sync>(
     rt: &R,
@@ -114,7 +71,7 @@ fn run_seated<R: Print + AllocGlobal + Threads + Wait + Sync>(
     seats: Vec<Seat<Box<StandIn>>>,
     report: bool,
 ) -> Result<u8, CliFault>
-    requires { dispatch.history ≡ [] }
+    requires { AreManned dispatch.inputs (map (λ w. (w.machine, w.slot)) seats.items) }
 {
     let mut workers = Vec::new(alloc);
     for seat in seats {
