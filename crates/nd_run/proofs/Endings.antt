@@ -12,6 +12,7 @@ use Rattle.nd_workers.specs.declared.run_end.RunFault.TheVariants.{Thread as NoT
 use Rattle.nd_workers.specs.declared.run_end.RunRefusal.{RunRefusal}
 use Rattle.nd_workers.specs.declared.run_end.RunRefusal.TheVariants.{Slots, TooManySlots as TooManyWorkers, Memory as NoRoom}
 use Rattle.nd_workers.specs.Runs.{AreManned, IsRunRefused, IsOver}
+use Rattle.nd_workers.specs.Steps.{RunsOn}
 use Rattle.nd_cli.specs.declared.fault.CliFault.{CliFault}
 use Rattle.nd_cli.specs.declared.fault.CliFault.TheVariants.{Derivation, Drvs, Builders, Info, Script, Stand, History, TooLarge, TooManySlots, Read, Write, Memory, Thread, Receipts}
 use Rattle.nd_run.specs.Ran.{IsLegalWorld, IsDone, IsStopped, CameBack, RunsTo, IsRunFault, EndsIn, IsEndFault, IsRefusedAs}
@@ -23,13 +24,13 @@ never_slots i places TooManyWorkers refused manned is = cc
 never_slots i places NoRoom refused manned is = cc
 
 -- what `run` says of what came back, by the fault that it ended with
-pub came_back : (before after : World) (fault : Option RunFault) → IsLegalWorld after → ((fault ≡ Some OtherReceipts → ⊥) → IsOver before after)
+pub came_back : (before after : World) (fault : Option RunFault) → IsLegalWorld after → RunsOn before after → ((fault ≡ Some OtherReceipts → ⊥) → IsOver before after)
     → (fault ≡ None → list_all is_quiet (drop (length before.history) after.history) ≡ true) → (fault ≡ Some NoThread → list_any is_stop after.history ≡ true)
     → (fault ≡ Some NoMemory → list_any is_stop after.history ≡ true) → CameBack fault before after
-came_back before after None legal over quiet thread memory = record { legal = legal; over = over (λ is. cc); quiet = quiet refl }
-came_back before after (Some NoThread) legal over quiet thread memory = record { legal = legal; over = over (λ is. cc); stopped = thread refl }
-came_back before after (Some NoMemory) legal over quiet thread memory = record { legal = legal; over = over (λ is. cc); stopped = memory refl }
-came_back before after (Some OtherReceipts) legal over quiet thread memory = legal
+came_back before after None legal runs over quiet thread memory = record { legal = legal; over = over (λ is. cc); quiet = quiet refl }
+came_back before after (Some NoThread) legal runs over quiet thread memory = record { legal = legal; over = over (λ is. cc); stopped = thread refl }
+came_back before after (Some NoMemory) legal runs over quiet thread memory = record { legal = legal; over = over (λ is. cc); stopped = memory refl }
+came_back before after (Some OtherReceipts) legal runs over quiet thread memory = record { legal = legal; runs = runs }
 
 -- a status is that of a run without a fault
 pub runs_to : (before after : World) (fault : Option RunFault) (report : Bool) (status : ℕ) (old new : Option (List ℕ)) → CameBack fault before after → EndsIn after fault report status old new

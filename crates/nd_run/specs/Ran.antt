@@ -12,6 +12,7 @@ use Rattle.nd_workers.specs.declared.run_end.RunFault.TheVariants.{Thread as NoT
 use Rattle.nd_workers.specs.declared.run_end.RunRefusal.{RunRefusal}
 use Rattle.nd_workers.specs.declared.run_end.RunRefusal.TheVariants.{Slots, TooManySlots as TooManyWorkers, Memory as NoRoom}
 use Rattle.nd_workers.specs.Runs.{IsOver}
+use Rattle.nd_workers.specs.Steps.{RunsOn}
 use Rattle.nd_cli.specs.declared.fault.CliFault.{CliFault}
 use Rattle.nd_cli.specs.declared.fault.CliFault.TheVariants.{Derivation, Drvs, Builders, Info, Script, Stand, History, TooLarge, TooManySlots, Read, Write, Memory, Thread, Receipts}
 use Rattle.nd_run.specs.Ended.{WritesEnd, WritesEndPart, IsStatusOf}
@@ -32,13 +33,18 @@ pub record IsStopped (before after : World) : Type 0 where
   pub over : IsOver before after
   pub stopped : list_any is_stop after.history ≡ true
 
--- what came back of a run of `before`, by the fault that the run ended with; with other receipts than the entries that workers
--- made, no more is known than that it is legal
+-- the receipts weren't the entries that workers made: the run went on from `before` by what a run may add, over its inputs, and no
+-- more is known
+pub record IsUnreceipted (before after : World) : Type 0 where
+  pub legal : IsLegalWorld after
+  pub runs : RunsOn before after
+
+-- what came back of a run of `before`, by the fault that the run ended with
 abbrev pub CameBack : Option RunFault → World → World → Type 0
 CameBack None before after = IsDone before after
 CameBack (Some NoThread) before after = IsStopped before after
 CameBack (Some NoMemory) before after = IsStopped before after
-CameBack (Some OtherReceipts) before after = IsLegalWorld after
+CameBack (Some OtherReceipts) before after = IsUnreceipted before after
 
 -- the run ended without a fault; all of what came back was written, and this is its status
 pub record RunsTo (before : World) (report : Bool) (status : ℕ) (old new : Option (List ℕ)) : Type 0 where
