@@ -32,11 +32,24 @@ impl Read for FailingReader<'_> {
     }
 }
 
-/// A writer that takes at most 7 bytes at a time and fails at a write with a given number.
+/// A writer that takes at most 7 bytes at a time and fails at a write with a given number. It holds
+/// back what it took until it is flushed, and may refuse that.
 #[derive(Drop)]
 struct FailingWriter {
     written: Vec<u8>,
     good: usize,
+    passed: usize,
+    refuses_flush: bool,
+}
+
+/// A writer that holds nothing, grants this number of writes, and refuses to be flushed or not.
+fn failing_writer(alloc: Global, good: usize, refuses_flush: bool) -> FailingWriter {
+    FailingWriter {
+        written: Vec::new(alloc),
+        good,
+        passed: 0,
+        refuses_flush,
+    }
 }
 
 impl Write for FailingWriter {
@@ -51,6 +64,10 @@ impl Write for FailingWriter {
     }
 
     fn flush(&mut self) -> io::Result<()> {
+        if self.refuses_flush {
+            return Err(io::Error::from(io::ErrorKind::Other));
+        }
+        self.passed = self.written.len();
         Ok(())
     }
 }
@@ -117,13 +134,14 @@ fn failing_readers(rt: HostRuntime) {
 /// The replies that are to be written.
 const REPLIES: &[u8] = b"# accept\nssh://m\n";
 
-/// Whether this much of the replies is right for this answer, where this many writes are good.
-fn is_part(answer: Result<u8, CliFault>, written: &[u8], good: usize) -> bool {
-    if !REPLIES.starts_with(written) {
+/// Whether this much of the replies is right for this answer, where this many writes are good, and
+/// was passed on where all is well.
+fn is_part(answer: Result<u8, CliFault>, writer: &FailingWriter, good: usize) -> bool {
+    if !REPLIES.starts_with(writer.written.as_slice()) {
         return false;
     }
     match answer {
-        Ok(status) => status == 0 && written.len() == REPLIES.len() && good >= 3,
+        Ok(status) => status == 0 && writer.passed == REPLIES.len() && good >= 3,
         Err(fault) => matches!(fault, CliFault::Write) && good < 6,
     }
 }
@@ -133,18 +151,54 @@ fn ask_writes<R: Threads + Sync>(rt: &R, alloc: Global, good: usize) -> bool {
     let Ok(options) = options(alloc, builders(b"m")) else {
         return false;
     };
-    let mut output = Told::new(FailingWriter {
-        written: Vec::new(alloc),
-        good,
-    });
+    let mut output = Told::new(failing_writer(alloc, good, false));
     let answer = ask_engine(rt, alloc, &options, &mut Told::new(N0_LINE), &mut output);
-    is_part(answer, output.into_inner().written.as_slice(), good)
+    is_part(answer, &output.into_inner(), good)
 }
 
 #[test]
 fn failing_writers(rt: HostRuntime) {
     for good in 0..6usize {
         assert!(rt; ask_writes(&rt, rt.alloc(), good));
+    }
+}
+
+/// Whether a command passed on all that it wrote, and its status is 0, or where the writer refused to
+/// be flushed answers that it failed; and it wrote something.
+fn is_flushed(answer: Result<u8, CliFault>, writer: &FailingWriter) -> bool {
+    if writer.written.is_empty() {
+        return false;
+    }
+    match answer {
+        Ok(status) => {
+            status == 0 && !writer.refuses_flush && writer.passed == writer.written.len()
+        }
+        Err(fault) => matches!(fault, CliFault::Write) && writer.refuses_flush,
+    }
+}
+
+/// Whether `ask` is flushed, with a writer that refuses that or doesn't. Want of memory is a no.
+fn ask_is_flushed<R: Threads + Sync>(rt: &R, alloc: Global, refuses_flush: bool) -> bool {
+    let Ok(options) = options(alloc, builders(b"m")) else {
+        return false;
+    };
+    let mut output = Told::new(failing_writer(alloc, 99, refuses_flush));
+    let answer = ask_engine(rt, alloc, &options, &mut Told::new(N0_LINE), &mut output);
+    is_flushed(answer, &output.into_inner())
+}
+
+/// Whether `path` is.
+fn path_is_flushed(alloc: Global, refuses_flush: bool) -> bool {
+    let mut output = Told::new(failing_writer(alloc, 99, refuses_flush));
+    let answer = path_engine(alloc, b"n0.drv", &mut Told::new(N0_TEXT), &mut output);
+    is_flushed(answer, &output.into_inner())
+}
+
+#[test]
+fn flushed_writers(rt: HostRuntime) {
+    for refuses_flush in [false, true] {
+        assert!(rt; ask_is_flushed(&rt, rt.alloc(), refuses_flush));
+        assert!(rt; path_is_flushed(rt.alloc(), refuses_flush));
     }
 }
 

@@ -1,9 +1,10 @@
 //! The worked examples of replies, bundles and paths.
 
 use crate::asking::{
-    Park, Want, asks, asks_of, builders, builders_alone, joined, path_answers, path_of,
+    Park, Want, asks, asks_of, builders, builders_alone, is_printed, joined, path_answers, path_of,
 };
 use crate::bundles::{END, JSON, JSON_END, N0, N0_LINE, N0_ON, N0_TEXT, N1_ON, NEEDS_N0, NEEDS_N1};
+use nd_cli::{CliFault, Place};
 use std::alloc::Global;
 use std::thread::Threads;
 
@@ -180,3 +181,36 @@ const BAD_ATTRIBUTES: &[&[u8]] = &[
     b"{\\\"preferLocalBuild\\\":1}",
     b"{\\\"requiredSystemFeatures\\\":\\\"kvm\\\"}",
 ];
+
+/// Whether a fault has this status and this line. Want of memory is a no.
+fn is_line(alloc: Global, fault: CliFault, status: u8, line: &str) -> bool {
+    let is_one = fault.status() == status && is_printed(alloc, &fault, line);
+    drop(fault);
+    is_one
+}
+
+#[test]
+fn lines_of_faults(rt: HostRuntime) {
+    let alloc = rt.alloc();
+    let large = "nix-dispatch: script: TooLarge";
+    assert!(rt; is_line(alloc, CliFault::TooLarge(Place::Script), 3, large));
+    assert!(rt; is_line(alloc, CliFault::Read, 5, "nix-dispatch: read failed"));
+    assert!(rt; is_line(alloc, CliFault::Write, 5, "nix-dispatch: write failed"));
+    assert!(rt; is_line(alloc, CliFault::Memory, 5, "nix-dispatch: out of memory"));
+    assert!(rt;
+        is_line(
+            alloc,
+            CliFault::Thread,
+            5,
+            "nix-dispatch: thread not started"
+        )
+    );
+    assert!(rt;
+        is_line(
+            alloc,
+            CliFault::Receipts,
+            5,
+            "nix-dispatch: receipts differ"
+        )
+    );
+}
