@@ -183,6 +183,38 @@ impl io::Read for Dripping {
     }
 }
 
+/// A writer that tells whether it was flushed, and may refuse that.
+#[derive(Drop)]
+struct Flushed {
+    was_flushed: bool,
+    refuses: bool,
+}
+
+impl io::Write for Flushed {
+    fn write(&mut self, buf: &[u8]) -> io::Result<usize> {
+        Ok(buf.len())
+    }
+
+    fn flush(&mut self) -> io::Result<()> {
+        self.was_flushed = true;
+        if self.refuses {
+            return Err(io::Error::from(AllocError));
+        }
+        Ok(())
+    }
+}
+
+/// Whether a flush is the device's: it is asked, its refusal is answered, and the mark is set then.
+fn is_flush_told(refuses: bool) -> bool {
+    let mut out = Told::new(Flushed {
+        was_flushed: false,
+        refuses,
+    });
+    let answer = out.flush();
+    let marked = out.marked();
+    answer.is_err() == refuses && marked == refuses && out.into_inner().was_flushed
+}
+
 /// A writer that takes at most `most` bytes at a call, and after `left` calls refuses.
 fn short_writer(alloc: Global, most: usize, left: usize) -> Told<Short> {
     Told::new(Short {
@@ -252,6 +284,8 @@ fn refusing_devices(rt: HostRuntime) {
     assert!(rt; is_short(alloc, 100, 0, false));
     assert!(rt; is_short(alloc, 0, 9, false));
     assert!(rt; is_marked_by_more(short_writer(alloc, 0, 9)));
+    assert!(rt; is_flush_told(false));
+    assert!(rt; is_flush_told(true));
     assert!(rt; is_dripped(alloc, 9, 3, Ok(4)));
     assert!(rt; is_dripped(alloc, 9, 8, Ok(9)));
     assert!(rt; is_dripped(alloc, 9, 9, Err(TakeError::Fault)));
