@@ -1,5 +1,5 @@
 -- How a run ended, from the clauses of `run`, and what is known of it once it was written of.
-use Rattle.std.proofs.Common.{◌≡◌, ℕ, ◌<◌, Bool, true, List, length, map, drop, Option, Some, None, reverse, refl, subst, sym, ◌∙◌, inl, inr, arith}
+use Rattle.std.proofs.Common.{◌≡◌, ℕ, ◌<◌, Bool, true, List, length, map, drop, Option, Some, None, refl, subst, sym, ◌∙◌, inl, inr, arith}
 use Rattle.std.specs.List.{list_any, list_all}
 use Rattle.std.proofs.lemmas.List.{length-map}
 use Rattle.nd_hook.specs.Watched.{Watched}
@@ -15,7 +15,7 @@ use Rattle.nd_workers.specs.Runs.{AreManned, IsRunRefused, IsOver}
 use Rattle.nd_workers.specs.Steps.{RunsOn}
 use Rattle.nd_cli.specs.declared.fault.CliFault.{CliFault}
 use Rattle.nd_cli.specs.declared.fault.CliFault.TheVariants.{Derivation, Drvs, Builders, Info, Script, Stand, History, TooLarge, TooManySlots, Read, Write, Memory, Thread, Receipts}
-use Rattle.nd_run.specs.Ran.{IsLegalWorld, IsDone, IsStopped, CameBack, RunsTo, IsRunFault, EndsIn, IsEndFault, IsRefusedAs}
+use Rattle.nd_run.specs.Ran.{IsLegalWorld, CameBack, RunsTo, IsRunFault, EndsIn, IsEndFault, IsRefusedAs}
 
 -- one worker for each slot is never refused as not that
 pub never_slots : (i : Premises) (places : List (ℕ × ℕ)) (why : RunRefusal) → IsRunRefused i places why → AreManned i places → why ≡ Slots → ⊥

@@ -1,4 +1,5 @@
--- What is written at the end of a run: the history of the dispatch that came back, and where it was asked for the report.
+-- What is written at the end of a run: the history of the dispatch that came back, and where it was asked for the report. The
+-- contract of `run_engine` cites it by way of `RunsTo` and `IsRunFault`, but for `told_as` and `IsToldOf`, which serve proofs.
 use Rattle.std.specs.Prelude.{◌≡◌, ◌⊎◌, ℕ, ◌+◌, Bool, true, false, List, Option, Some, None, reverse, nat_lt, if◌then◌else◌}
 use Rattle.std.specs.Io.KnownBytes.{Appends, Keeps}
 use Rattle.nd_hook.specs.Written.{WritesPart}

@@ -1,6 +1,6 @@
 //! A run, and what is written of it.
 
-ghost use Rattle.std.specs.Prelude.{◌≡◌, ◌↔◌, false, reverse, map, vec_len, is_err, IfOk, IfErr, IsTrue};
+ghost use Rattle.std.specs.Prelude.{◌≡◌, ◌↔◌, false, reverse, map, vec_len, IfOk, IfErr, IsTrue};
 ghost use Rattle.nd_history.specs.Legal.{IsLegal};
 ghost use Rattle.nd_workers.specs.Runs.{AreManned};
 ghost use Rattle.nd_run.specs.Ran.{RunsTo, IsRunFault, EndsIn, IsEndFault, IsRefusedAs};
