@@ -7,7 +7,8 @@ use Rattle.nd_machines.specs.FeatureSets.{listed}
 use Rattle.nd_eligible.specs.Settings.{Settings}
 use Rattle.nd_graph.specs.Graphs.{Nodes}
 use Rattle.nd_graph.specs.Bundles.{IsBundle, IsFirstFault}
-use Rattle.nd_closure.specs.Info.{AreListed, IsRefused, lines_of}
+use Rattle.nd_bytes.specs.Lines.{lines_of}
+use Rattle.nd_closure.specs.Info.{AreListed, IsRefused}
 use Rattle.nd_cli.specs.Inputs.{limit}
 use Rattle.nd_cli.specs.declared.options.ParkOptions.{ParkOptions}
 use Rattle.nd_cli.specs.declared.fault.Place.{Place}
