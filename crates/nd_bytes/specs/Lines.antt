@@ -1,4 +1,5 @@
 -- The lines of a text: newlines separate them, and one may end the last.
+-- Public clauses cite this.
 use Rattle.std.specs.Prelude.{ℕ, ◌==◌, List, [], ◌∷◌}
 use Rattle.std.specs.List.{slice_split}
 

@@ -1,5 +1,6 @@
 -- The info text: what it lists, and its first bad line.
 -- The form is this project's own: lines separated by newlines, each a store path and its references separated by single spaces.
+-- Public clauses cite this.
 use Rattle.std.specs.Prelude.{◌≡◌, ◌==◌, ℕ, ◌-◌, ◌<◌, ◌≤◌, false, List, [], ◌∷◌, length, take, slice_index_or}
 use Rattle.std.specs.List.{slice_split, All}
 use Rattle.nd_bytes.specs.Lines.{lines_of}

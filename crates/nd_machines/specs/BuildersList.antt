@@ -1,5 +1,6 @@
 -- A builders list as a function of its whole text (Nix Reference Manual, setting `builders`): the machines, or the first refusal.
 -- That comments are cut off before entries are, the numbers of entries, the refusals and their order are this project's own choice.
+-- Public clauses cite this.
 use Rattle.std.specs.Prelude.{ℕ, ◌==◌, nat_lt, List, [], ◌∷◌, map, Option, None, Some, Result, Ok, Err, if◌then◌else◌}
 use Rattle.std.specs.List.{slice_split, flat_map, enumerate_from}
 use Rattle.nd_bytes.specs.Cut.{until}

@@ -1,4 +1,5 @@
 -- Texts of lines that say one thing each: what a line says, what all of them say, and the first bad one.
+-- Public clauses cite this.
 use Rattle.std.specs.Prelude.{◌≡◌, ℕ, ◌-◌, ◌<◌, ◌≤◌, List, [], ◌∷◌, length, take, slice_index_or, Option, Some}
 use Rattle.std.specs.List.{AllZip}
 use Rattle.nd_bytes.specs.Lines.{lines_of}
