@@ -1,6 +1,7 @@
 -- Derivation texts: the spelling of a derivation, and the orders in which its lists stand. The form is
 -- the ATerm format of store derivations (Nix Reference Manual, 'Derivation "ATerm" file format'; Dolstra
 -- 2006, section 5.4). That no other order is taken is this project's own choice: Nix writes this one.
+-- Public clauses cite this.
 use Rattle.std.specs.Prelude.{◌≡◌, ℕ, ◌++◌, ◌&&◌, Bool, true, List, [], ◌∷◌, codes}
 use Rattle.std.specs.List.{list_all}
 use Rattle.std.specs.Ordering.{is_lt}

@@ -1,4 +1,5 @@
 -- That derivations are read in one way: a text that begins with the text of one begins with no other's.
+-- No public clause cites this: it serves private clauses and proofs alone.
 use Rattle.std.specs.Prelude.{◌≡◌, ℕ, List, [], refl}
 use Rattle.std.proofs.Common.{sym, ◌∙◌}
 use Rattle.nd_aterm.specs.declared.records.Parts.{Parts}

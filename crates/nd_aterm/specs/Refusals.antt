@@ -1,4 +1,5 @@
 -- What the refusals of derivation texts say.
+-- Public clauses cite this, but `Refuses` serves private clauses alone.
 use Rattle.std.specs.Prelude.{ℕ, List, codes}
 use Rattle.nd_aterm.specs.declared.fault.AtermError.{AtermError}
 use Rattle.nd_aterm.specs.declared.fault.AtermError.TheVariants.{TooLong, NotDerivation, Order, Memory}

@@ -1,4 +1,5 @@
 -- The two sections of a derivation text behind its first word, each as a reader takes it.
+-- No public clause cites this: it serves private clauses alone.
 use Rattle.std.specs.Prelude.{ℕ, List, ◌∷◌}
 use Rattle.nd_aterm.specs.declared.records.Parts.{Parts}
 use Rattle.nd_aterm.specs.declared.texts.Paths.{Paths}

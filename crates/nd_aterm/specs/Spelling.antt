@@ -2,6 +2,7 @@
 -- the bytes of `rest` behind it. The form is the ATerm format of store derivations (Nix Reference Manual,
 -- 'Derivation "ATerm" file format'; Dolstra 2006, section 5.4). That a string escapes exactly these five
 -- bytes, also where Nix's writer leaves them as they are, is this project's own choice.
+-- Public clauses cite this, but `IsPlain` serves private clauses alone.
 use Rattle.std.specs.Prelude.{◌≡◌, ℕ, ◌==◌, List, [], ◌∷◌, ◌++◌, if◌then◌else◌, Option, None, Some}
 
 abbrev pub quote : ℕ

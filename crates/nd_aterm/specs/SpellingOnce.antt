@@ -1,4 +1,5 @@
 -- That strings and lists are read in one way: a text that begins with the text of x begins with no other's.
+-- No public clause cites this: it serves private clauses and proofs alone.
 use Rattle.std.specs.Prelude.{◌≡◌, ℕ, ◌==◌, false, List, [], ◌∷◌, ◌++◌, refl, Option, None, Some}
 use Rattle.std.proofs.Common.{ap, sym, ◌∙◌, arith}
 use Rattle.std.proofs.lemmas.Bool.{eqb-false}

@@ -1,4 +1,5 @@
 -- What the calls on derivation texts answer.
+-- Public clauses cite this.
 use Rattle.std.specs.Prelude.{ℕ, ◌<◌, ◌≤◌, List, length}
 use Rattle.nd_aterm.specs.declared.records.Parts.{Parts}
 use Rattle.nd_aterm.specs.declared.derivations.Derivation.{Derivation}

@@ -1,4 +1,5 @@
 -- How byte strings compare: byte by byte, a proper prefix first. The laws stand here for the types that compare by them.
+-- Public clauses cite this.
 use Rattle.std.specs.Prelude.{◌≡◌, ℕ, Bool, true, List, nat_eq}
 use Rattle.std.specs.Cmp.Lexicographic.{pointwise, slice_cmp}
 use Rattle.std.specs.Ordering.{nat_cmp, eq_by_cmp, as_partial_cmp}

@@ -1,4 +1,5 @@
 -- Cutting a text at a byte.
+-- Public clauses cite this.
 use Rattle.std.specs.Prelude.{ℕ, suc, Bool, ◌==◌, List, [], ◌∷◌, length, if◌then◌else◌, Option, None, Some}
 use Rattle.std.specs.List.{slice_split}
 

@@ -1,4 +1,5 @@
 -- Decimal numbers as they stand in texts.
+-- Public clauses cite this.
 use Rattle.std.specs.Prelude.{ℕ, Bool, false, ◌+◌, ◌-◌, ◌*◌, ◌==◌, ◌&&◌, nat_le, List, [], ◌∷◌, length, if◌then◌else◌, Option, None, Some}
 
 -- one of `0` to `9`

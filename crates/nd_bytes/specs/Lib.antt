@@ -1,3 +1,4 @@
 pub mod Cut
 pub mod Compared
 pub mod Decimal
+pub mod Lines

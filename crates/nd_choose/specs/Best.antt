@@ -1,5 +1,6 @@
 -- The best machine for a derivation, among the machines of a list with their taken slots and
 -- whether each is up. A machine is named by its place in the list, from 0.
+-- Public clauses cite this.
 use Rattle.std.specs.Prelude.{◌≡◌, ◌≢◌, ◌⊎◌, ℕ, ◌<◌, Bool, true, false, List, slice_get, slice_index, unwrap_or, Option, None, Some}
 use Rattle.std.specs.Option.{option_map_or}
 use Rattle.nd_machines.specs.Builders.{Builder}

@@ -1,4 +1,5 @@
 -- A free machine with what the choice's order asks of it, and the better of two.
+-- No public clause cites this: it serves private clauses alone.
 use Rattle.std.specs.Prelude.{◌≡◌, ◌⊎◌, ℕ, ◌<◌, Bool, List, Option, None, Some}
 use Rattle.nd_machines.specs.Builders.{Builder}
 use Rattle.nd_choose.specs.Order.{Beats}

@@ -2,6 +2,7 @@
 -- taken slots. Loads per speed are compared by cross products, so no quotient is rounded. Nix's
 -- build-remote takes the least load per speed factor; the exact comparison and the rule for equal
 -- ones are this project's own choice.
+-- Public clauses cite this.
 use Rattle.std.specs.Prelude.{◌≡◌, ◌⊎◌, ℕ, ◌*◌, ◌<◌}
 
 -- `load` slots taken at `speed` are less work per speed than `other_load` at `other_speed`

@@ -8,7 +8,8 @@ use Rattle.nd_eligible.specs.Settings.{Settings}
 use Rattle.nd_graph.specs.Graphs.{Nodes}
 use Rattle.nd_graph.specs.Bundles.{IsBundle, IsFirstFault}
 use Rattle.nd_graph.specs.declared.fault.GraphError.{GraphError}
-use Rattle.nd_closure.specs.Info.{AreListed, IsRefused, lines_of}
+use Rattle.nd_bytes.specs.Lines.{lines_of}
+use Rattle.nd_closure.specs.Info.{AreListed, IsRefused}
 use Rattle.nd_closure.specs.declared.info_error.InfoError.{InfoError}
 use Rattle.nd_cli.specs.Inputs.{limit}
 use Rattle.nd_cli.specs.declared.options.ParkOptions.{ParkOptions}

@@ -8,7 +8,7 @@ use Rattle.nd_closure.specs.Tables.{is_listed}
 use Rattle.nd_closure.specs.Info.{IsLine, AreListed, IsFirstBad, IsRefused, no_entry}
 use Rattle.nd_closure.specs.declared.info_error.InfoError.{InfoError}
 use Rattle.nd_closure.specs.declared.info_error.InfoError.TheVariants.{BadLine, Memory}
-use Rattle.nd_closure.specs.Info.{lines_of}
+use Rattle.nd_bytes.specs.Lines.{lines_of}
 
 line_once : (line : List ℕ) (entry other : List ℕ × List (List ℕ)) → IsLine line entry → IsLine line other → entry ≡ other
 line_once line entry other h k =

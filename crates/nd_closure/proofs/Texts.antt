@@ -1,45 +1,21 @@
 -- Reading an info text line by line.
 use Rattle.std.proofs.Common.{◌≡◌, ◌==◌, ℕ, ◌+◌, ◌-◌, ◌<◌, ◌≤◌, Bool, true, false, List, [], ◌∷◌, ◌++◌, length, take, drop, get_or, Option, Some, None, refl, sym, ap, ◌∙◌, subst, arith, inl, inr, zero, suc, length-append, length-drop, add-one, true≢false, Bor}
-use Rattle.std.specs.List.{slice_split, join_with_byte}
+use Rattle.std.specs.List.{slice_split}
 use Rattle.std.specs.Option.{unwrap_or, option_copied}
 use Rattle.std.specs.Prelude.{not}
 use Rattle.std.proofs.Math.Dec.{eqb-suc-zero}
 use Rattle.std.proofs.Math.Seq.{get_or-append_seam}
 use Rattle.std.proofs.lemmas.Bool.{cases_lt}
 use Rattle.std.proofs.lemmas.List.{get_or_append_left, take-append-le, take_all, take_more}
-use Rattle.std.proofs.lemmas.List.Splits.{length-slice_split, join_with_byte-slice_split}
 use Rattle.nd_bytes.specs.Cut.{pieces, left_over}
-use Rattle.nd_closure.specs.Info.{lines_of, without_empty_end, IsLine, AreListed, IsFirstBad, IsRefused, no_entry}
+use Rattle.nd_bytes.specs.Lines.{lines_of}
+use Rattle.nd_bytes.proofs.TextLines.{lines_more, no_lines}
+use Rattle.nd_closure.specs.Info.{IsLine, AreListed, IsFirstBad, IsRefused, no_entry}
 use Rattle.nd_closure.specs.Tables.{is_listed}
 use Rattle.nd_path.specs.declared.path_error.PathError.{PathError}
 use Rattle.nd_path.specs.declared.path_error.PathError.TheVariants.{Prefix, Digest, Name, Memory}
 use Rattle.nd_closure.specs.Lines.{IsBadFor, refusal_of}
 use Rattle.nd_closure.proofs.Words.{same_path}
-
--- there is always a piece
-some_piece : (bytes : List ℕ) → 0 < length (slice_split (λ b. b == 10) bytes)
-some_piece bytes = omega (arith, length-slice_split (λ b. b == 10) bytes)
-
-before_more : (piece : List ℕ) (pieces : List (List ℕ)) → 0 < length pieces → without_empty_end (piece ∷ pieces) ≡ piece ∷ without_empty_end pieces
-before_more piece [] h = absurd (omega arith)
-before_more piece (next ∷ pieces) h = refl
-
-not_empty_end : (piece : List ℕ) → 0 < length piece → without_empty_end (piece ∷ []) ≡ piece ∷ []
-not_empty_end [] some = absurd (omega arith)
-not_empty_end (b ∷ piece) some = rw (eqb-suc-zero (length piece)) refl
-
--- the lines of a text of some bytes: the first, and those of what is left
-pub lines_more : (left line : List ℕ) (rest : Option (List ℕ)) → 0 < length left → slice_split (λ b. b == 10) left ≡ line ∷ pieces 10 rest
-    → lines_of left ≡ line ∷ lines_of (unwrap_or rest [])
-unfolding lines_of
-lines_more left line None some cut =
-    let whole : line ≡ left = sym (ap (join_with_byte 10) cut) ∙ join_with_byte-slice_split 10 left in
-    ap without_empty_end cut ∙ not_empty_end line (subst (λ (bytes : List ℕ). 0 < length bytes) (sym whole) some)
-lines_more left line (Some rest) some cut = ap without_empty_end cut ∙ before_more line (slice_split (λ b. b == 10) rest) (some_piece rest)
-
-no_lines : lines_of [] ≡ []
-unfolding lines_of
-no_lines = refl
 
 -- the next of the items that are left
 next_at : {X : Type 0} (xs : List X) (n : ℕ) (x : X) (more : List X) (d : X) → drop n xs ≡ x ∷ more → (n < length xs) × (get_or xs n d ≡ x) × (drop (suc n) xs ≡ more)

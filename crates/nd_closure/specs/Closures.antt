@@ -1,6 +1,7 @@
 -- Closures under references.
 -- Source: Dolstra, The Purely Functional Software Deployment Model (2006), section 5.2: the closure of a set of paths is the least
 -- set that holds them and, with a path, its references.
+-- Public clauses cite this, but `AddsOnly` serves private clauses alone.
 use Rattle.std.specs.Prelude.{◌≡◌, ℕ, List, ◌++◌}
 use Rattle.std.specs.List.{Contains}
 use Rattle.nd_closure.specs.Tables.{refs_of}

@@ -1,22 +1,14 @@
 -- The info text: what it lists, and its first bad line.
 -- The form is this project's own: lines separated by newlines, each a store path and its references separated by single spaces.
-use Rattle.std.specs.Prelude.{◌≡◌, ◌==◌, ℕ, ◌-◌, ◌<◌, ◌≤◌, false, List, [], ◌∷◌, length, take, slice_index_or, if◌then◌else◌}
+-- Public clauses cite this.
+use Rattle.std.specs.Prelude.{◌≡◌, ◌==◌, ℕ, ◌-◌, ◌<◌, ◌≤◌, false, List, [], ◌∷◌, length, take, slice_index_or}
 use Rattle.std.specs.List.{slice_split, All}
+use Rattle.nd_bytes.specs.Lines.{lines_of}
 use Rattle.nd_path.specs.Refusals.{IsPath}
 use Rattle.nd_path.specs.PathSets.{IsRising, HasSameMembers}
 use Rattle.nd_closure.specs.Tables.{is_listed}
 use Rattle.nd_closure.specs.declared.info_error.InfoError.{InfoError}
 use Rattle.nd_closure.specs.declared.info_error.InfoError.TheVariants.{BadLine, Memory}
-
--- pieces without the last one where that is empty
-abbrev pub without_empty_end : List (List ℕ) → List (List ℕ)
-without_empty_end [] = []
-without_empty_end (piece ∷ []) = if length piece == 0 then [] else piece ∷ []
-without_empty_end (piece ∷ (next ∷ pieces)) = piece ∷ without_empty_end (next ∷ pieces)
-
--- the lines of a text: newlines separate them, and one may end the last. A text of no bytes has no lines
-unfoldable pub lines_of : List ℕ → List (List ℕ)
-lines_of text = without_empty_end (slice_split (λ b. b == 10) text)
 
 -- the words of a line: what stands between its spaces, an empty word where two spaces meet or one stands at an end
 abbrev pub words_of : List ℕ → List (List ℕ)

@@ -1,4 +1,5 @@
 -- When a line lists nothing.
+-- No public clause cites this: it serves private clauses alone.
 use Rattle.std.specs.Prelude.{ℕ, List}
 use Rattle.nd_path.specs.declared.path_error.PathError.{PathError}
 use Rattle.nd_path.specs.declared.path_error.PathError.TheVariants.{Prefix, Digest, Name, Memory}

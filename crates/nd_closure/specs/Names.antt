@@ -1,4 +1,5 @@
 -- What is printed of a refusal of an info text. The names are this project's own.
+-- Public clauses cite this.
 use Rattle.std.specs.Prelude.{ℕ, List, ◌++◌, codes}
 use Rattle.std.specs.Fmt.{decimal}
 use Rattle.nd_closure.specs.declared.info_error.InfoError.{InfoError}

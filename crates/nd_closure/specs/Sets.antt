@@ -1,4 +1,5 @@
 -- Set difference, and the paths that a machine holds.
+-- Public clauses cite this.
 use Rattle.std.specs.Prelude.{◌≡◌, ℕ, Bool, List, [], length, slice_index_or, ◌⊎◌, ◌≢◌}
 use Rattle.std.specs.List.{list_any, Contains}
 use Rattle.nd_path.specs.StorePath.{path_eq}

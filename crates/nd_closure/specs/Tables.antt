@@ -1,4 +1,5 @@
 -- Tables of references: paths with the references listed for them.
+-- Public clauses cite this.
 use Rattle.std.specs.Prelude.{ℕ, Bool, List, [], ◌∷◌, if◌then◌else◌}
 use Rattle.std.specs.List.{list_any}
 use Rattle.nd_path.specs.StorePath.{path_eq}

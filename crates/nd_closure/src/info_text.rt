@@ -2,7 +2,8 @@
 
 ghost use Rattle.std.specs.Prelude.{◌≡◌, ℕ, List, IfOk, IfErr, MatchResult};
 ghost use Rattle.nd_closure.specs.declared.info_error.InfoError.{InfoError};
-ghost use Rattle.nd_closure.specs.Info.{IsLine, AreListed, IsRefused, lines_of};
+ghost use Rattle.nd_bytes.specs.Lines.{lines_of};
+ghost use Rattle.nd_closure.specs.Info.{IsLine, AreListed, IsRefused};
 ghost use Rattle.nd_closure.specs.Lines.{IsBadFor, refusal_of};
 
 use crate::info_error::InfoError;

@@ -1,5 +1,6 @@
 -- The features that a derivation asks for, as they stand in its environment: the attribute
 -- `requiredSystemFeatures` is a list of words (Nix Reference Manual, "Advanced Attributes").
+-- Public clauses cite this.
 use Rattle.std.specs.Prelude.{ℕ, Bool, not, ◌==◌, ◌||◌, List, length, filter}
 use Rattle.std.specs.List.{slice_split}
 use Rattle.nd_machines.specs.FeatureSets.{set_of}

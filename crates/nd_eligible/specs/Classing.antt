@@ -1,4 +1,5 @@
 -- Needs with the same platform and the same required features have the same eligible machines.
+-- No public clause cites this: it serves private clauses and proofs alone.
 use Rattle.std.specs.Prelude.{◌≡◌, ℕ, ◌<◌, List, [], length, Some}
 use Rattle.std.specs.Borrow.{Bor}
 use Rattle.std.specs.List.{slice_index_or}

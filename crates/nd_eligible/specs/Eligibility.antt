@@ -1,5 +1,6 @@
 -- Which machines may build a derivation, after the rules of Nix for remote builds (Nix Reference
 -- Manual, "Remote Builds": systems, supported and mandatory features of a builder).
+-- Public clauses cite this.
 use Rattle.std.specs.Prelude.{◌≡◌, ◌⊎◌, ◌↔◌, ℕ, ◌≤◌, IsTrue, List, ◌++◌, Contains, codes, IsSomeAnd, slice_get}
 use Rattle.std.specs.List.Sorted.{IsStrictlyIncreasing}
 use Rattle.nd_machines.specs.Builders.{Builder}

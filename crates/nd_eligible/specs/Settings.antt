@@ -1,4 +1,5 @@
 -- The settings of the local machine.
+-- Public clauses cite this.
 use Rattle.std.specs.Prelude.{ℕ, List}
 
 -- the local system, the extra platforms that it builds for too, the local features, and how many

@@ -1,6 +1,6 @@
 -- The script of a simulation, read for the graph and the park at hand.
 use Rattle.std.specs.Prelude.{◌≡◌, ◌≢◌, ℕ, ◌<◌, ◌≤◌, List, length}
-use Rattle.nd_closure.specs.Info.{lines_of}
+use Rattle.nd_bytes.specs.Lines.{lines_of}
 use Rattle.nd_history.specs.Premises.{Premises}
 use Rattle.nd_history.specs.Choices.{machines_in}
 use Rattle.nd_script.specs.declared.command.Command.{Command}

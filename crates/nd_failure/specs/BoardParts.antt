@@ -1,4 +1,5 @@
 -- What the fields of a board keep, beside what its model shows.
+-- No public clause cites this: it says what a type keeps.
 use Rattle.std.specs.Prelude.{◌≡◌, ◌<◌, [], length, vec_capacity}
 use Rattle.nd_failure.specs.Kept.{AreSettled, AreCounted, AreDoomed, AreReady}
 use Rattle.nd_failure.specs.Statuses.{IsTally}

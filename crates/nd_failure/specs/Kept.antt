@@ -1,4 +1,5 @@
 -- What a board keeps beside its marks, so that no question is answered by a search.
+-- No public clause cites this: it says what a type keeps, and serves private clauses.
 use Rattle.std.specs.Prelude.{◌≡◌, ◌<◌, ◌⊎◌, ℕ, Bool, true, false, not, List, length, slice_index_or, Contains}
 use Rattle.std.specs.List.{count_by}
 use Rattle.nd_graph.specs.Walks.{inputs_of}

@@ -1,4 +1,5 @@
 -- A row of flags and the layer above it, in which one flag stands for 64 of the row.
+-- No public clause cites this: it says what a type keeps.
 use Rattle.std.specs.Prelude.{◌≡◌, ◌/◌, ◌+◌, ℕ, Bool, List, length}
 use Rattle.nd_failure.specs.Members.{IsMember}
 

@@ -1,4 +1,5 @@
 -- The nodes with a failed one below, as a board that searches finds them.
+-- No public clause cites this: it serves private clauses and proofs alone.
 use Rattle.std.specs.Prelude.{◌≡◌, ◌<◌, ◌⊎◌, ℕ, Bool, List, length, Contains, slice_index_or}
 use Rattle.nd_failure.specs.Members.{IsMember}
 use Rattle.nd_failure.specs.Progress.{mark_of, HasFailedBelow}

@@ -1,4 +1,5 @@
 -- What the fields of a board that searches keep, beside what its model shows.
+-- No public clause cites this: it says what a type keeps.
 use Rattle.std.specs.Prelude.{◌≡◌, length}
 use Rattle.nd_graph.specs.Walks.{IsOrder}
 use Rattle.nd_failure.specs.Kept.{AreDoomed}

@@ -1,6 +1,7 @@
 -- How far a graph of derivations is built: a mark on each node, and what follows from the marks for the nodes above.
 -- Source: Nix Reference Manual, "Common Options", `--keep-going`: with it a failure stops only what depends on it, without it
 -- everything. That leases which were begun are left to end is this project's own choice.
+-- Public clauses cite this.
 use Rattle.std.specs.Prelude.{◌≡◌, ◌<◌, ℕ, ◌⊎◌, Bool, true, false, List, Contains, length, replicate, slice_index_or}
 use Rattle.nd_graph.specs.Walks.{inputs_of, IsBelow}
 use Rattle.nd_failure.specs.declared.status.Mark.{Mark}

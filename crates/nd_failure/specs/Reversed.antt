@@ -1,4 +1,5 @@
 -- The edges of a graph, read from the inputs up.
+-- No public clause cites this: it says what a type keeps, and serves private clauses and proofs.
 use Rattle.std.specs.Prelude.{◌≡◌, ◌+◌, ℕ, List, length, cond, take, nat_eq}
 use Rattle.std.specs.List.{count_by}
 use Rattle.nd_graph.specs.Walks.{inputs_of}

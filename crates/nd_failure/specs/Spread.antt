@@ -1,4 +1,5 @@
 -- How a failure spreads: from a node to its dependants, and on from each of these.
+-- No public clause cites this: it serves private clauses and proofs alone.
 use Rattle.std.specs.Prelude.{◌≡◌, ◌⊎◌, ℕ, Bool, List, length, Contains}
 use Rattle.std.specs.List.{count_by}
 use Rattle.nd_graph.specs.Walks.{inputs_of, IsBelow}

@@ -1,5 +1,6 @@
 -- The status of a node, the numbers of nodes with each status, and the next node that can be begun.
 -- The five statuses and their names are this project's own choice.
+-- Public clauses cite this.
 use Rattle.std.specs.Prelude.{◌≡◌, ◌+◌, ◌<◌, ◌≤◌, ◌⊎◌, ℕ, Bool, true, false, List, Option, None, Some, length, slice_index_or}
 use Rattle.std.specs.List.{count_by}
 use Rattle.nd_failure.specs.Progress.{Progress, IsLeased, IsBuilt, IsFailed, IsCancelled, IsWaiting, IsReady}

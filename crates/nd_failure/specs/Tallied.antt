@@ -1,4 +1,5 @@
 -- The statuses as a board keeps them: by the mark of a node, and whether it is cancelled.
+-- No public clause cites this: it says what a type keeps, and serves private clauses.
 use Rattle.std.specs.Prelude.{◌≡◌, ◌+◌, ℕ, Bool, true, false, if◌then◌else◌, List, [], ◌∷◌}
 use Rattle.nd_failure.specs.Statuses.{same_status}
 use Rattle.nd_failure.specs.declared.status.Counts.{Counts}

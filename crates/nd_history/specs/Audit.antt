@@ -1,5 +1,6 @@
 -- The rules by which an entry is audited. An entry is allowed exactly where all of them pass, and a refused one is told by the first
 -- that doesn't. The histories of these definitions stand newest first. The rules and their order are this project's own choice.
+-- Public clauses cite this.
 use Rattle.std.specs.Prelude.{◌≡◌, ◌↔◌, ℕ, zero, suc, ◌<◌, true, false, List, Some, Result, MatchResult, codes}
 use Rattle.nd_hook.specs.declared.kinds.Decision.TheVariants.{Local, NoBuilder as NobodyBuilds}
 use Rattle.nd_history.specs.declared.entry.Entry.{Entry}

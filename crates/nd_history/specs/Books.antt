@@ -1,4 +1,5 @@
 -- A book of entries, as contracts see it.
+-- Public clauses cite this.
 use Rattle.std.specs.Prelude.{ℕ, List}
 use Rattle.nd_history.specs.declared.entry.Entry.{Entry}
 

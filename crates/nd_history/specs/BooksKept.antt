@@ -1,4 +1,5 @@
 -- What a book holds, and what its tables say.
+-- Public clauses cite this, but `AreFollowed` says what a type keeps.
 use Rattle.std.specs.Prelude.{◌≡◌, ◌-◌, length, reverse, min, vec_len, vec_capacity}
 use Rattle.std.specs.List.{list_any}
 use Rattle.nd_history.specs.declared.book.Book.TheInside.{Inside}

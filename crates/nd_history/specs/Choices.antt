@@ -1,6 +1,7 @@
 -- What is decided about a derivation after a history, by the tables of the choice and of the hook, read over the loads and
 -- the marks of the machines. The histories of these definitions stand newest first.
 -- Machine 0 is the local one, and the machine at place p of the builders list is machine p + 1.
+-- Public clauses cite this.
 use Rattle.std.specs.Prelude.{◌≡◌, ℕ, zero, suc, ◌+◌, ◌<◌, ◌≤◌, ◌↔◌, Bool, true, IsTrue, List, map, length, Some, slice_get}
 use Rattle.std.specs.List.{range_with_len}
 use Rattle.nd_eligible.specs.declared.need.Need.{Need}

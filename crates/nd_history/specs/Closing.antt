@@ -1,4 +1,5 @@
 -- What holds of references, closures and holdings over every legal history. The histories of these statements stand newest first.
+-- Public clauses cite this.
 use Rattle.std.specs.Prelude.{◌≡◌, ℕ, ◌↔◌, ◌⊎◌, List, ◌∷◌, ◌++◌, Some}
 use Rattle.nd_history.specs.declared.entry.Entry.{Entry}
 use Rattle.nd_history.specs.declared.entry.Entry.TheVariants.{Started, Built}

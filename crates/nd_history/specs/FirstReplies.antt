@@ -1,4 +1,5 @@
 -- What the hook replies before anything was decided.
+-- Public clauses cite this.
 use Rattle.std.specs.Prelude.{◌≡◌, ◌↔◌, ℕ, [], Some, slice_get}
 use Rattle.nd_eligible.specs.declared.need.Need.{Need}
 use Rattle.nd_hook.specs.declared.kinds.Reply.{Reply}

@@ -1,4 +1,5 @@
 -- The inputs and the book of a dispatch fit together.
+-- Public clauses cite this.
 use Rattle.std.specs.Prelude.{◌≡◌, ◌+◌, ◌≤◌, length, reverse}
 use Rattle.nd_graph.specs.Graphs.{IsSound}
 use Rattle.nd_history.specs.Books.{Recorded}

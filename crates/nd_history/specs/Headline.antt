@@ -1,5 +1,6 @@
 -- The claims about every history that a dispatch holds. The histories of these definitions stand newest first.
 -- "At its place" an entry comes after those that stand before it: `past ≡ later ++ e ∷ before`.
+-- Public clauses cite this.
 use Rattle.std.specs.Prelude.{◌≡◌, ◌==◌, ℕ, zero, suc, ◌<◌, ◌≤◌, Bool, true, false, List, ◌∷◌, ◌++◌, length, count_by, Some, slice_get}
 use Rattle.nd_eligible.specs.declared.need.Need.{Need}
 use Rattle.nd_eligible.specs.Eligibility.{IsEligibleAt, LocalOk}

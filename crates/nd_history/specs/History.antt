@@ -5,6 +5,7 @@
 -- Calls show their histories oldest first, and clauses apply these definitions to `reverse history`.
 --
 -- Leases, slots, drained machines and the histories themselves are this project's own choice.
+-- Public clauses cite this, but `ends` serves proofs alone.
 use Rattle.std.specs.Prelude.{ℕ, Bool, true, false, not, ◌&&◌, ◌||◌, ◌==◌, if◌then◌else◌, List, [], ◌∷◌, length, Option, count_by}
 use Rattle.std.specs.List.{filter, find, list_any}
 use Rattle.nd_history.specs.declared.entry.Entry.{Entry}

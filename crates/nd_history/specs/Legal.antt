@@ -1,5 +1,6 @@
 -- Legal histories: each entry is allowed after those before it. The histories of these definitions stand newest first.
 -- The rules of leases are this project's own choice.
+-- Public clauses cite this.
 use Rattle.std.specs.Prelude.{◌≡◌, ℕ, zero, suc, ◌<◌, true, false, List, [], ◌∷◌, Some}
 use Rattle.nd_hook.specs.declared.kinds.Decision.TheVariants.{Local, NoBuilder as NobodyBuilds}
 use Rattle.nd_history.specs.declared.entry.Entry.{Entry}

@@ -1,4 +1,5 @@
--- What a dispatch is made of, as contracts see it: the five inputs, which never change. Public clauses cite it.
+-- What a dispatch is made of, as contracts see it: the five inputs, which never change.
+-- Public clauses cite this.
 use Rattle.std.specs.Prelude.{ℕ, Bool, List}
 use Rattle.nd_machines.specs.Builders.{Builder}
 use Rattle.nd_eligible.specs.Settings.{Settings}

@@ -1,5 +1,6 @@
 -- The steps of a pump: choices, and derivations that nothing can build. The histories of these definitions stand newest
 -- first, but for those of `ArePumpSteps`.
+-- Public clauses cite this, but `is_open` serves proofs alone.
 use Rattle.std.specs.Prelude.{◌≡◌, ℕ, ◌<◌, Bool, not, ◌||◌, length, List, [], ◌∷◌, ◌++◌, reverse, Option, Some, None, MatchOption}
 use Rattle.nd_hook.specs.declared.kinds.Decision.TheVariants.{Wait}
 use Rattle.nd_history.specs.declared.entry.Entry.{Entry}

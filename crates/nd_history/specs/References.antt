@@ -4,6 +4,7 @@
 -- References and closures: Dolstra, The Purely Functional Software Deployment Model (2006), section 5.2. That the references of
 -- the bundle's given paths are those of the info table for good, and that the first build of a path decides its references, is this
 -- project's own choice.
+-- Public clauses cite this.
 use Rattle.std.specs.Prelude.{◌≡◌, ℕ, zero, suc, Bool, ◌==◌, ◌&&◌, ◌⊎◌, if◌then◌else◌, true, Some, List, [], ◌∷◌, ◌++◌, length, slice_get}
 use Rattle.std.specs.List.{Contains, list_any, slice_index_or, zip}
 use Rattle.nd_graph.specs.declared.graph.Input.{Input}

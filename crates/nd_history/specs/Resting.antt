@@ -1,4 +1,5 @@
 -- What is left to do where no step is left. The histories of these definitions stand newest first.
+-- Public clauses cite this.
 use Rattle.std.specs.Prelude.{◌≡◌, ℕ, ◌<◌, List, []}
 use Rattle.nd_history.specs.declared.entry.Entry.{Entry}
 use Rattle.nd_history.specs.Premises.{Premises}

@@ -1,4 +1,5 @@
 -- When nodes of two graphs are the same, and when entries go on from others.
+-- Public clauses cite this, but `IsSameNode` serves private clauses alone.
 use Rattle.std.specs.Prelude.{◌≡◌, ℕ, List, [], ◌++◌}
 use Rattle.std.specs.List.{slice_index_or}
 use Rattle.nd_graph.specs.Graphs.{Nodes}

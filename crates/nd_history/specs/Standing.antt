@@ -3,6 +3,7 @@
 --
 -- That a failure cancels what depends on it, and everything that waits without keep-going, is the rule of Nix
 -- (Nix Reference Manual, "nix-build", the option `--keep-going`).
+-- Public clauses cite this.
 use Rattle.std.specs.Prelude.{◌≡◌, ℕ, ◌<◌, ◌⊎◌, true, false, List, length, Contains}
 use Rattle.nd_graph.specs.Graphs.{rows_of}
 use Rattle.nd_graph.specs.Walks.{inputs_of, IsBelow}

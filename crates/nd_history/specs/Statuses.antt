@@ -1,4 +1,5 @@
 -- The status of a derivation after a history, which stands newest first, and the numbers of derivations with each status.
+-- Public clauses cite this.
 use Rattle.std.specs.Prelude.{◌≡◌, ℕ, ◌<◌, true, List, length, slice_index_or}
 use Rattle.nd_failure.specs.Statuses.{IsTally}
 use Rattle.nd_failure.specs.declared.status.Counts.{Counts}

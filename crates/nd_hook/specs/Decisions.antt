@@ -2,6 +2,7 @@
 -- of the list, it waits, or nothing can ever build it (this project's own choice, after the replies
 -- of the hook and Nix's attribute `preferLocalBuild`). `loc` says that the local machine may build
 -- it and is up, `loc_free` that it has a free slot too.
+-- Public clauses cite this.
 use Rattle.std.specs.Prelude.{◌≡◌, ℕ, Bool, ◌&&◌, if◌then◌else◌, List}
 use Rattle.std.specs.Bool.{MatchBool}
 use Rattle.nd_machines.specs.Builders.{Builder}

@@ -1,4 +1,5 @@
 -- Which answers of a whole read say that the device refused it.
+-- Public clauses cite this.
 use Rattle.std.specs.Prelude.{ℕ, Bool, true, false, List, Result, Ok, Err, codes}
 use Rattle.nd_hook.specs.declared.told.TakeError.{TakeError}
 use Rattle.nd_hook.specs.declared.told.TakeError.TheVariants.{Fault, Memory}

@@ -1,4 +1,5 @@
 -- The reply of the hook on an idle park: no slot is taken, and every machine is up.
+-- Public clauses cite this.
 use Rattle.std.specs.Prelude.{ℕ, ◌≤◌, Bool, true, List, length, replicate, IsTrue, ◌↔◌}
 use Rattle.nd_machines.specs.Builders.{Builder}
 use Rattle.nd_eligible.specs.Settings.{Settings}

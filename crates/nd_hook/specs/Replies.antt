@@ -2,6 +2,7 @@
 -- whether each is up (modelled on Nix's build-remote; the conditions are this project's own
 -- choice). `IsMeant` says which machines may build the derivation, and `loc_free` that the local
 -- machine may build it and has a free slot.
+-- Public clauses cite this.
 use Rattle.std.specs.Prelude.{◌≡◌, ◌⊎◌, ℕ, ◌<◌, Bool, true, false, List, [], length}
 use Rattle.nd_machines.specs.Builders.{Builder}
 use Rattle.nd_choose.specs.Best.{is_up_at, IsCandidate, IsBest}

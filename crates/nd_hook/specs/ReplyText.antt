@@ -1,4 +1,5 @@
 -- How a reply is written: one line, and for an accepted machine its URI on a second one.
+-- Public clauses cite this.
 use Rattle.std.specs.Prelude.{ℕ, ◌<◌, ⊤, List, [], ◌∷◌, ◌++◌, length, slice_get, codes}
 use Rattle.std.specs.Option.{option_map_or}
 use Rattle.nd_machines.specs.Builders.{Builder}

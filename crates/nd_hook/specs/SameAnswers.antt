@@ -1,4 +1,5 @@
 -- The reply and the decision among given places against those over the whole list.
+-- Public clauses cite this.
 use Rattle.std.specs.Prelude.{◌≡◌, ℕ, Bool, List, Contains}
 use Rattle.nd_machines.specs.Builders.{Builder}
 use Rattle.nd_eligible.specs.declared.need.Need.{Need}

@@ -1,16 +1,28 @@
 -- Reading entry by entry gives what the definition gives.
-use Rattle.std.proofs.Common.{◌≡◌, ℕ, ◌+◌, true, false, cond, List, [], ◌∷◌, ◌++◌, length, map, refl, sym, ◌∙◌, ap, append_assoc, length-append, eqb, not}
+use Rattle.std.proofs.Common.{◌≡◌, ℕ, ◌+◌, true, false, cond, List, [], ◌∷◌, ◌++◌, length, map, refl, sym, ◌∙◌, ap, append_assoc, length-append, eqb, not, ◌==◌}
 use Rattle.std.specs.Prelude.{Result, Ok, Err}
-use Rattle.std.specs.List.{enumerate_from}
+use Rattle.std.specs.List.{enumerate_from, flat_map, slice_split}
+use Rattle.std.proofs.lemmas.List.Elements.{filter-append}
+use Rattle.nd_bytes.specs.Lines.{lines_of, without_empty_end}
 use Rattle.nd_machines.specs.declared.machine_error.MachineError.{MachineError}
 use Rattle.nd_machines.specs.Builders.{Builder}
 use Rattle.nd_machines.specs.FeatureSets.{filled}
-use Rattle.nd_machines.specs.BuildersList.{machine, and_then, all_or_first, builders, entries}
+use Rattle.nd_machines.specs.BuildersList.{machine, and_then, all_or_first, builders, line_entries}
 use Rattle.nd_machines.specs.Adding.{add_all}
 
 append_nil : {A : Type 0} (xs : List A) → xs ++ [] ≡ xs
 append_nil [] = refl
 append_nil (x ∷ xs) = ap (λ ys. x ∷ ys) (append_nil xs)
+
+-- an empty line at the end has no entry with a field
+same_filled : (pieces : List (List ℕ)) → filled (flat_map line_entries (without_empty_end pieces)) ≡ filled (flat_map line_entries pieces)
+same_filled [] = refl
+same_filled ([] ∷ []) = refl
+same_filled ((b ∷ piece) ∷ []) = refl
+same_filled (piece ∷ (next ∷ pieces)) =
+    filter-append _ (line_entries piece) (flat_map line_entries (without_empty_end (next ∷ pieces)))
+    ∙ ap (λ (es : List (List (List ℕ))). filled (line_entries piece) ++ es) (same_filled (next ∷ pieces))
+    ∙ sym (filter-append _ (line_entries piece) (flat_map line_entries (next ∷ pieces)))
 
 module _ (this_system : List ℕ) where
   -- the machines of entries that are numbered from `n`
@@ -40,9 +52,12 @@ module _ (this_system : List ℕ) where
   onto_none (Ok ns) = refl
   onto_none (Err e) = refl
 
-  pub builders-add_all : (text : List ℕ) → builders this_system text ≡ add_all this_system [] (entries text)
-  unfolding builders
-  builders-add_all text = sym (add_all-numbered [] (entries text) ∙ onto_none (numbered 1 (filled (entries text))))
+  pub builders-add_all : (text : List ℕ) → builders this_system text ≡ add_all this_system [] (flat_map line_entries (slice_split (λ b. b == 10) text))
+  unfolding builders lines_of
+  builders-add_all text =
+      let cut = flat_map line_entries (slice_split (λ b. b == 10) text) in
+      ap (λ (es : List (List (List ℕ))). all_or_first (map (λ e. machine this_system e.0 e.1) (enumerate_from 1 es))) (same_filled (slice_split (λ b. b == 10) text))
+      ∙ sym (add_all-numbered [] cut ∙ onto_none (numbered 1 (filled cut)))
 
   -- ---- a part of the entries, and then the others
 

@@ -1,4 +1,5 @@
 -- A builders list read entry by entry: what its reader goes by.
+-- Public clauses cite this, but `add_all` serves private clauses alone.
 use Rattle.std.specs.Prelude.{◌≡◌, ℕ, ◌+◌, ◌==◌, List, [], ◌∷◌, ◌++◌, length, Result, Ok, Err, if◌then◌else◌}
 use Rattle.nd_machines.specs.declared.machine_error.MachineError.{MachineError}
 use Rattle.nd_machines.specs.declared.machine_error.MachineError.TheVariants.{Uri, Jobs, Speed, Include, TooMany, Memory}

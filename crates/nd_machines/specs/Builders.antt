@@ -1,4 +1,5 @@
 -- One machine of a builders list (Nix Reference Manual, setting `builders`), as contracts see it.
+-- Public clauses cite this, but `names_same` and `builder_eq-Decides` serve proofs alone.
 use Rattle.std.specs.Prelude.{◌≡◌, ◌==◌, ℕ, Bool, true, ◌&&◌, List, Option, None, Some}
 use Rattle.std.specs.Bool.{Decides}
 use Rattle.std.specs.Option.{option_eq}

@@ -1,8 +1,10 @@
 -- A builders list as a function of its whole text (Nix Reference Manual, setting `builders`): the machines, or the first refusal.
 -- That comments are cut off before entries are, the numbers of entries, the refusals and their order are this project's own choice.
+-- Public clauses cite this.
 use Rattle.std.specs.Prelude.{ℕ, ◌==◌, nat_lt, List, [], ◌∷◌, map, Option, None, Some, Result, Ok, Err, if◌then◌else◌}
 use Rattle.std.specs.List.{slice_split, flat_map, enumerate_from}
 use Rattle.nd_bytes.specs.Cut.{until}
+use Rattle.nd_bytes.specs.Lines.{lines_of}
 use Rattle.nd_machines.specs.declared.machine_error.MachineError.{MachineError}
 use Rattle.nd_machines.specs.declared.machine_error.MachineError.TheVariants.{Uri, Jobs, Speed, Include, TooMany}
 use Rattle.nd_machines.specs.Builders.{Builder}
@@ -15,9 +17,9 @@ use Rattle.nd_machines.specs.Fields.{fields, field, is_include, is_dash, uri_of,
 abbrev pub line_entries : List ℕ → List (List (List ℕ))
 line_entries line = map fields (slice_split (λ b. b == 59) (until (λ b. b == 35) line))
 
--- the entries of all lines, each as its fields. Lines end at newlines (10)
+-- the entries of all lines, each as its fields
 abbrev pub entries : List ℕ → List (List (List ℕ))
-entries text = flat_map line_entries (slice_split (λ b. b == 10) text)
+entries text = flat_map line_entries (lines_of text)
 
 -- ---- one entry
 

@@ -1,4 +1,5 @@
 -- An entry of a builders list, as its reader holds it.
+-- No public clause cites this: it serves private clauses alone.
 use Rattle.std.specs.Prelude.{◌≡◌, ◌==◌, ℕ, false, List, length}
 use Rattle.nd_machines.specs.declared.fields.Entry.{Entry}
 use Rattle.nd_machines.specs.Fields.{field}

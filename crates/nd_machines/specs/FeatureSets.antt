@@ -1,5 +1,6 @@
 -- Sets of byte strings, as strictly rising lists: the systems and the features of a machine
 -- (Nix Reference Manual, setting `builders`).
+-- Public clauses cite this, but `sets_eq-Decides` and `sets_same` serve proofs alone.
 use Rattle.std.specs.Prelude.{◌≡◌, ◌↔◌, ◌==◌, ℕ, Bool, true, not, List, [], ◌∷◌, length, filter, Contains}
 use Rattle.std.specs.List.{slice_split}
 use Rattle.std.specs.Bool.{Decides}

@@ -1,5 +1,6 @@
 -- The fields of an entry of a builders list, and what each of them means (Nix Reference Manual, setting `builders`).
 -- Which numbers are taken, and that the host key is kept unread, is this project's own choice.
+-- Public clauses cite this, but `blank_pieces` serves private clauses alone.
 use Rattle.std.specs.Prelude.{ℕ, Bool, ◌+◌, ◌-◌, ◌*◌, ◌^◌, ◌==◌, ◌&&◌, ◌||◌, nat_le, nat_eq, List, [], ◌∷◌, ◌++◌, length, slice_index_or, Option, None, Some, if◌then◌else◌, codes}
 use Rattle.std.specs.Option.{option_map}
 use Rattle.std.specs.List.{list_any, slice_split, starts_with}

@@ -1,5 +1,6 @@
 -- The digest of a store path: a SHA-256 digest folded to 20 bytes and written in Nix's base 32.
 -- Source: the Nix Reference Manual, "Store Path Specification", and "Nix32 encoding" there; Dolstra's thesis (2006), section 5.1.
+-- Public clauses cite this.
 use Rattle.std.specs.Prelude.{ℕ, ◌+◌, ◌-◌, ◌*◌, ◌/◌, ◌%◌, ◌^◌, ◌==◌, List, length, map, filter, fold, slice_index, bit_xor}
 use Rattle.std.specs.List.{range_with_len}
 use Rattle.nd_path.specs.StorePath.{alphabet}

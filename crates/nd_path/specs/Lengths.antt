@@ -1,4 +1,5 @@
 -- How long a store path is at least.
+-- No public clause cites this: it serves proofs alone.
 use Rattle.std.specs.Prelude.{◌≡◌, ℕ, ◌<◌, ◌≤◌, Bool, true, false, List, [], ◌∷◌, length, drop, nat_eq, Option, Some, None, if◌then◌else◌, refl}
 use Rattle.std.proofs.Common.{arith, length-drop}
 use Rattle.std.specs.List.{starts_with}

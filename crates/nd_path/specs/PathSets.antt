@@ -1,4 +1,5 @@
 -- Sets of store paths, seen as lists of their bytes in strictly rising byte order.
+-- Public clauses cite this.
 use Rattle.std.specs.Prelude.{ℕ, List}
 use Rattle.std.specs.List.{Contains}
 use Rattle.std.specs.List.Sorted.{IsStrictlySortedBy}

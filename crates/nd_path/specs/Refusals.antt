@@ -1,4 +1,5 @@
 -- When a text is refused as a store path, and with which refusal.
+-- Public clauses cite this.
 use Rattle.std.specs.Prelude.{◌≡◌, ℕ, true, List, ◌∷◌, ◌++◌, length, drop, nat_eq, Option, Some, None, codes, if◌then◌else◌}
 use Rattle.std.specs.List.{list_all, starts_with}
 use Rattle.nd_path.specs.declared.path_error.PathError.{PathError}

@@ -1,6 +1,7 @@
 -- Store paths, as lists of bytes.
 -- Source: the Nix Reference Manual, "Store Path" and "Store Path Specification": the store directory, a digest of
 -- 32 characters in Nix's base 32, a dash and a name. That a name may begin with a dot is this project's own choice.
+-- Public clauses cite this.
 use Rattle.std.specs.Prelude.{◌≡◌, ℕ, Bool, false, ◌&&◌, ◌||◌, ◌==◌, nat_le, nat_eq, List, [], ◌∷◌, ◌++◌, length, take, drop, codes}
 use Rattle.std.specs.declared.cmp.Ordering.{Ordering}
 use Rattle.std.specs.Ordering.{nat_cmp}

@@ -1,5 +1,6 @@
 -- The store path of a text.
 -- Source: the Nix Reference Manual, "Store Path Specification" (paths of kind `text`); SHA-256 is FIPS 180-4.
+-- Public clauses cite this.
 use Rattle.std.specs.Prelude.{◌≡◌, ℕ, true, false, List, [], ◌∷◌, ◌++◌, codes}
 use Rattle.sha2.specs.Sha256.{sha256}
 use Rattle.hex.specs.Hex.{encode_lower}

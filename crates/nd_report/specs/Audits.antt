@@ -1,5 +1,6 @@
 -- The audit of a history: its first entry that isn't allowed after those before it, and the first rule that refuses that one.
 -- The histories of these definitions stand oldest first, and `reverse` turns them round for the definitions of a legal history.
+-- Public clauses cite this, but `answer_at` serves private clauses alone.
 use Rattle.std.specs.Prelude.{◌≡◌, ℕ, Bool, List, ◌∷◌, ◌++◌, length, reverse}
 use Rattle.nd_machines.specs.Builders.{Builder}
 use Rattle.nd_eligible.specs.Settings.{Settings}

@@ -1,6 +1,7 @@
 -- The report of how a dispatch stands. Its form is this project's own choice: the words of a line stand with single spaces
 -- between them, each line ends with a newline, and numbers are decimal.
 -- The histories of these definitions stand newest first.
+-- Public clauses cite this, but `SendsDrvs` and `SendsDrvsPart` serve private clauses alone.
 use Rattle.std.specs.Prelude.{◌≡◌, ℕ, ◌+◌, ◌<◌, ◌≤◌, Bool, List, [], ◌∷◌, ◌++◌, length, codes, if◌then◌else◌, slice_index_or, Option}
 use Rattle.std.specs.Fmt.{decimal}
 use Rattle.std.specs.Io.KnownBytes.{Appends}

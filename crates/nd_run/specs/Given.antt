@@ -2,7 +2,7 @@
 use Rattle.std.specs.Prelude.{◌≡◌, ◌≢◌, ◌⊎◌, ℕ, ◌+◌, ◌<◌, ◌≤◌, Bool, true, List, [], length, Option}
 use Rattle.nd_machines.specs.Builders.{Builder}
 use Rattle.nd_graph.specs.Graphs.{Nodes, rows_of}
-use Rattle.nd_closure.specs.Info.{lines_of}
+use Rattle.nd_bytes.specs.Lines.{lines_of}
 use Rattle.nd_history.specs.Premises.{Premises}
 use Rattle.nd_ledger.specs.Worlds.{World}
 use Rattle.nd_script.specs.declared.rule.Rule.{Rule}

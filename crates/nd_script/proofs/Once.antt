@@ -2,7 +2,7 @@
 use Rattle.std.proofs.Common.{◌≡◌, ℕ, ◌-◌, ◌<◌, List, [], ◌∷◌, length, get_or, zero, suc, Option, Some, refl, sym, ap, subst, ◌∙◌, arith, inl, inr}
 use Rattle.std.specs.List.{AllZip}
 use Rattle.nd_path.proofs.Rising.{rising_same}
-use Rattle.nd_closure.specs.Info.{lines_of}
+use Rattle.nd_bytes.specs.Lines.{lines_of}
 use Rattle.nd_script.specs.declared.command.Command.{Command}
 use Rattle.nd_script.specs.declared.verb.Verb.{Verb}
 use Rattle.nd_script.specs.declared.verb.Verb.TheVariants.{Start, StartWith, Built, Fail, Lose, Down, Stop, Drain, Enable, Ask}

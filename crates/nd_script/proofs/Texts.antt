@@ -4,17 +4,13 @@ use Rattle.std.specs.List.{slice_split}
 use Rattle.std.specs.Option.{unwrap_or}
 use Rattle.std.proofs.lemmas.List.{take_all, take_more}
 use Rattle.nd_bytes.specs.Cut.{pieces, left_over}
-use Rattle.nd_closure.specs.Info.{lines_of}
-use Rattle.nd_closure.proofs.Texts.{lines_more}
+use Rattle.nd_bytes.specs.Lines.{lines_of}
+use Rattle.nd_bytes.proofs.TextLines.{lines_more, no_lines}
 use Rattle.nd_script.specs.declared.line_fault.LineFault.{LineFault}
 use Rattle.nd_script.specs.declared.line_fault.LineFault.TheVariants.{Bad, Memory}
 use Rattle.nd_script.specs.Lines.{AreItems, IsRefusedBy}
 use Rattle.nd_script.specs.Faults.{RulesOut, refusal_of}
 use Rattle.nd_script.proofs.Lists.{AllZip-snoc}
-
-no_lines : lines_of [] ≡ []
-unfolding lines_of
-no_lines = refl
 
 -- the next of the items that are left
 next_at : {X : Type 0} (xs : List X) (n : ℕ) (x : X) (more : List X) (d : X) → drop n xs ≡ x ∷ more → (n < length xs) × (get_or xs n d ≡ x) × (drop (suc n) xs ≡ more)

@@ -1,5 +1,6 @@
 -- What words ask for that begin with a number: a call with it, and perhaps with what stands behind it. The forms are this
 -- project's own.
+-- Public clauses cite this.
 use Rattle.std.specs.Prelude.{◌≡◌, ◌⊎◌, ℕ, List, []}
 use Rattle.nd_script.specs.Words.{Begins, IsStatus, AreLists}
 

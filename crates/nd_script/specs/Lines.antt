@@ -1,7 +1,9 @@
 -- Texts of lines that say one thing each: what a line says, what all of them say, and the first bad one.
+-- Public clauses cite this.
 use Rattle.std.specs.Prelude.{◌≡◌, ℕ, ◌-◌, ◌<◌, ◌≤◌, List, [], ◌∷◌, length, take, slice_index_or, Option, Some}
 use Rattle.std.specs.List.{AllZip}
-use Rattle.nd_closure.specs.Info.{lines_of, words_of}
+use Rattle.nd_bytes.specs.Lines.{lines_of}
+use Rattle.nd_closure.specs.Info.{words_of}
 use Rattle.nd_script.specs.declared.script_error.ScriptError.{ScriptError}
 use Rattle.nd_script.specs.declared.script_error.ScriptError.TheVariants.{BadLine, Memory}
 

@@ -1,4 +1,5 @@
 -- What the rules of a stand-in speak of. This project's own choice.
+-- Public clauses cite this.
 use Rattle.std.specs.Prelude.{ℕ, Bool, false, ◌==◌}
 use Rattle.nd_script.specs.declared.rule.Rule.{Rule}
 use Rattle.nd_script.specs.declared.rule.Rule.TheVariants.{NoConnect, NoCopy, Fail, Lose, Built}

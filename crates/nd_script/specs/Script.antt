@@ -1,4 +1,5 @@
 -- Scripts: what each line says, and the first bad line. The form is this project's own.
+-- Public clauses cite this.
 use Rattle.std.specs.Prelude.{◌≡◌, ℕ, List, []}
 use Rattle.nd_script.specs.declared.command.Command.{Command}
 use Rattle.nd_script.specs.declared.verb.Verb.{Verb}

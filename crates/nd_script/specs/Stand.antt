@@ -1,4 +1,5 @@
 -- Stand texts: what each line says of the stand-ins of a run. The form is this project's own.
+-- Public clauses cite this.
 use Rattle.std.specs.Prelude.{ℕ, List, [], codes, if◌then◌else◌, Option, None, Some}
 use Rattle.nd_bytes.specs.Compared.{bytes_eq}
 use Rattle.nd_script.specs.declared.rule.Rule.{Rule}

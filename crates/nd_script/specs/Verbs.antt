@@ -1,4 +1,5 @@
 -- The first words of script lines.
+-- Public clauses cite this.
 use Rattle.std.specs.Prelude.{ℕ, List, codes, if◌then◌else◌, Option, None, Some}
 use Rattle.nd_bytes.specs.Compared.{bytes_eq}
 use Rattle.nd_script.specs.declared.verb.Verb.{Verb}

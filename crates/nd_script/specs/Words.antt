@@ -1,4 +1,5 @@
 -- The words of a script: numbers, and store paths that are made sets. The forms are this project's own.
+-- Public clauses cite this.
 use Rattle.std.specs.Prelude.{◌≡◌, ℕ, ◌<◌, Bool, List, [], ◌∷◌, length, codes, if◌then◌else◌, Option, None, Some}
 use Rattle.std.specs.List.{All, AllZip, slice_split}
 use Rattle.nd_bytes.specs.Compared.{bytes_eq}

@@ -1,7 +1,7 @@
 //! Reading a script.
 
 ghost use Rattle.std.specs.Prelude.{◌≡◌, List, IfOk, IfErr, MatchResult};
-ghost use Rattle.nd_closure.specs.Info.{lines_of};
+ghost use Rattle.nd_bytes.specs.Lines.{lines_of};
 ghost use Rattle.nd_script.specs.declared.command.Command.{Command};
 ghost use Rattle.nd_script.specs.declared.script_error.ScriptError.{ScriptError};
 ghost use Rattle.nd_script.specs.Script.{AreCommands, IsRefused};

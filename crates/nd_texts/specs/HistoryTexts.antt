@@ -2,6 +2,7 @@
 -- entry, oldest first. The words of a line stand with single spaces between them, and each line ends with a newline.
 -- A number is decimal without needless zeros. Derivations are numbered from 0, machine 0 is the local one, and slots are
 -- numbered from 0.
+-- Public clauses cite this.
 use Rattle.std.specs.Prelude.{ℕ, Bool, true, false, not, List, [], ◌∷◌, ◌++◌, codes, if◌then◌else◌}
 use Rattle.std.specs.Fmt.{decimal}
 use Rattle.std.specs.List.{flat_map, join_with_byte, list_any}

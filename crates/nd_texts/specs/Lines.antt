@@ -1,4 +1,5 @@
 -- A line in parts: its first word, and the words behind it.
+-- Public clauses cite `spaced`; the rest serves private clauses alone.
 use Rattle.std.specs.Prelude.{ℕ, List, [], ◌∷◌, codes}
 use Rattle.std.specs.Fmt.{decimal}
 use Rattle.std.specs.List.{flat_map}

@@ -1,4 +1,5 @@
 -- What the words of a line are read as. `words` are those that are left of a line.
+-- No public clause cites this: it serves private clauses alone.
 use Rattle.std.specs.Prelude.{◌≡◌, ◌&&◌, ℕ, ◌≤◌, Bool, true, List, [], ◌∷◌, ◌++◌, nat_eq, codes, if◌then◌else◌, Option, None, Some}
 use Rattle.std.specs.Ordering.{is_lt}
 use Rattle.nd_path.specs.Refusals.{IsPath}

@@ -1,4 +1,5 @@
 -- What a device has of a text that goes to it over a page: the page holds back its end.
+-- Public clauses cite this.
 use Rattle.std.specs.Prelude.{◌≡◌, ℕ, List, ◌++◌, Option}
 use Rattle.std.specs.Io.KnownBytes.{Appends}
 use Rattle.nd_hook.specs.Written.{WritesPart}

@@ -1,4 +1,5 @@
 -- Which entries there are, and what the reader of a history text answers.
+-- Public clauses cite this.
 use Rattle.std.specs.Prelude.{◌≡◌, ℕ, ◌+◌, ◌<◌, ◌≤◌, true, List, ◌++◌, length}
 use Rattle.std.specs.List.{All}
 use Rattle.nd_path.specs.Refusals.{IsPath}

@@ -1,4 +1,5 @@
 -- Laws over the texts of histories.
+-- Public clauses cite this.
 use Rattle.std.specs.Prelude.{◌≡◌, ℕ, List}
 use Rattle.std.specs.List.{All}
 use Rattle.nd_history.specs.declared.entry.Entry.{Entry}
