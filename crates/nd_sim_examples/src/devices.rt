@@ -36,20 +36,29 @@ impl Read for CountedReader<'_> {
 }
 
 /// A writer to memory that takes at most 7 bytes at a time, and fails once it has granted a number of
-/// writes.
+/// writes. It holds back what it took until it is flushed, and may refuse that.
 #[derive(Drop)]
 pub struct CountedWriter {
     written: Vec<u8>,
     good: usize,
+    passed: usize,
+    refuses_flush: bool,
 }
 
 impl CountedWriter {
-    /// A writer that grants this number of writes.
-    pub(crate) fn new(alloc: Global, good: usize) -> Self {
+    /// A writer that grants this number of writes, and refuses to be flushed or not.
+    pub(crate) fn new(alloc: Global, good: usize, refuses_flush: bool) -> Self {
         CountedWriter {
             written: Vec::new(alloc),
             good,
+            passed: 0,
+            refuses_flush,
         }
+    }
+
+    /// Whether all that was written was passed on.
+    pub(crate) fn is_flushed(&self) -> bool {
+        self.passed == self.written.len()
     }
 
     /// What was written.
@@ -70,6 +79,10 @@ impl Write for CountedWriter {
     }
 
     fn flush(&mut self) -> io::Result<()> {
+        if self.refuses_flush {
+            return Err(io::Error::from(io::ErrorKind::Other));
+        }
+        self.passed = self.written.len();
         Ok(())
     }
 }
@@ -154,4 +167,22 @@ fn failing_readers(rt: HostRuntime) {
 fn failing_writers(rt: HostRuntime) {
     assert!(rt; is_sim_cut(&rt, rt.alloc()));
     assert!(rt; is_audit_cut(&rt, rt.alloc()));
+}
+
+/// A builder and devices that never fail, but for a flush.
+fn unflushed() -> Setup<'static> {
+    Setup {
+        refuses_flush: true,
+        ..builders("m", 0)
+    }
+}
+
+#[test]
+fn refused_flushes(rt: HostRuntime) {
+    let alloc = rt.alloc();
+    let bundle = PLAIN_1.as_bytes();
+    let simulated = Want::Held(SIMULATED);
+    assert!(rt; simulates(&rt, alloc, bundle, &unflushed(), "", simulated));
+    let audited = Want::Held("legal 1\n");
+    assert!(rt; audits(&rt, alloc, bundle, &unflushed(), HISTORY, audited));
 }

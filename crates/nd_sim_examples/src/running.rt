@@ -26,6 +26,8 @@ pub struct Setup<'a> {
     pub reads: usize,
     /// How many writes the output grants before it fails.
     pub writes: usize,
+    /// Whether the output refuses to be flushed.
+    pub refuses_flush: bool,
 }
 
 /// These builders and this number of local jobs, and devices that never fail.
@@ -38,6 +40,7 @@ pub(crate) fn builders(builders: &str, jobs: u16) -> Setup<'_> {
         info: "",
         reads: usize::MAX,
         writes: usize::MAX,
+        refuses_flush: false,
     }
 }
 
@@ -53,6 +56,9 @@ pub enum Want<'a> {
     /// It writes less than this text, from its beginning, its status is 5, and its fault is that a
     /// write failed.
     Cut(&'a str),
+    /// It writes this, which the output holds back, its status is 5, and its fault is that a write
+    /// failed.
+    Held(&'a str),
 }
 
 /// The options of the program.
@@ -82,7 +88,7 @@ pub(crate) fn simulates<R: Threads + Sync>(
         return false;
     };
     let reader = CountedReader::new(bundle, setup.reads);
-    let writer = CountedWriter::new(alloc, setup.writes);
+    let writer = CountedWriter::new(alloc, setup.writes, setup.refuses_flush);
     let answers = simulates_on(rt, alloc, &options, script, reader, writer, want);
     drop(options);
     answers
@@ -125,7 +131,7 @@ pub(crate) fn audits<R: Threads + Sync>(
         return false;
     };
     let reader = CountedReader::new(bundle, setup.reads);
-    let writer = CountedWriter::new(alloc, setup.writes);
+    let writer = CountedWriter::new(alloc, setup.writes, setup.refuses_flush);
     let answers = audits_on(rt, alloc, &options, history, reader, writer, want);
     drop(options);
     answers
@@ -156,15 +162,28 @@ fn is_answer(
     want: Want<'_>,
 ) -> bool {
     let writer = output.into_inner();
-    let is_wanted = is_wanted(alloc, answer, writer.bytes(), want);
+    let is_wanted = is_wanted(alloc, answer, writer.bytes(), writer.is_flushed(), want);
     drop(writer);
     is_wanted
 }
 
-/// Whether this is the wanted answer, where this was written.
-fn is_wanted(alloc: Global, answer: Result<u8, CliFault>, written: &[u8], want: Want<'_>) -> bool {
+/// Whether this is the wanted answer, where this was written, and all of it passed on or not.
+fn is_wanted(
+    alloc: Global,
+    answer: Result<u8, CliFault>,
+    written: &[u8],
+    is_flushed: bool,
+    want: Want<'_>,
+) -> bool {
     match (answer, want) {
-        (Ok(status), Want::Written(text, wanted)) => status == wanted && written == text.as_bytes(),
+        (Ok(status), Want::Written(text, wanted)) => {
+            status == wanted && written == text.as_bytes() && is_flushed
+        }
+        (Err(fault), Want::Held(text)) => {
+            written == text.as_bytes()
+                && !is_flushed
+                && is_fault(alloc, &fault, 5, "nix-dispatch: write failed")
+        }
         (Err(fault), Want::Refused(line)) => {
             written.is_empty() && is_fault(alloc, &fault, 3, line)
         }
