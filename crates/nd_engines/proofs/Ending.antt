@@ -1,16 +1,15 @@
 -- The exit status of a simulation, from the counts.
 use Rattle.std.proofs.Common.{◌≡◌, ℕ, ◌<◌, ◌≤◌, List, arith}
-use Rattle.std.specs.Prelude.{◌==◌, if◌then◌else◌}
+use Rattle.std.specs.Prelude.{◌+◌, nat_lt, if◌then◌else◌}
 use Rattle.std.proofs.lemmas.Bool.Decides.{nat_tests}
 use Rattle.nd_failure.specs.declared.status.Counts.{Counts}
 use Rattle.nd_history.specs.declared.entry.Entry.{Entry}
 use Rattle.nd_history.specs.Premises.{Premises}
-use Rattle.nd_history.specs.Statuses.{AreCountsIn}
-use Rattle.nd_sim.specs.Runs.{IsExitStatus}
+use Rattle.nd_history.specs.Statuses.{AreCountsIn, IsExitStatus}
 
 -- the status for so many failed and cancelled derivations
 abbrev status_for : ℕ → ℕ → ℕ
-status_for failed cancelled = if failed == 0 then (if cancelled == 0 then 0 else 1) else 1
+status_for failed cancelled = if nat_lt 0 (failed + cancelled) then 1 else 0
 
 for_failed : (failed cancelled : ℕ) → 0 < failed → 1 ≡ status_for failed cancelled
 for_failed failed cancelled some = grind (arith, nat_tests)

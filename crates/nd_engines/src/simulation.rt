@@ -2,8 +2,8 @@
 
 ghost use Rattle.std.specs.Prelude.{◌≡◌, ◌||◌, [], reverse, IfOk, IfErr, OnOk, OnErr};
 ghost use Rattle.std.specs.List.{All};
+ghost use Rattle.nd_history.specs.Statuses.{IsExitStatus};
 ghost use Rattle.nd_sim.specs.Answers.{IsNamed};
-ghost use Rattle.nd_sim.specs.Runs.{IsExitStatus};
 ghost use Rattle.nd_sim.specs.Written.{WritesSimulation, WritesSimulationPart, is_write_failure};
 
 use nd_hook::{Fault, Told, WriteError};

@@ -43,9 +43,13 @@ is_leased d past = list_any (λ t. d == t.drv) (live past)
 abbrev pub load : ℕ → List Entry → ℕ
 load m past = count_by (λ t. m == t.machine) (live past)
 
+-- two places, each a machine and a slot of it, are one
+abbrev pub same_place : ℕ × ℕ → ℕ × ℕ → Bool
+same_place p q = (p.0 == q.0) && (p.1 == q.1)
+
 -- a live lease is on slot s of machine m
 abbrev pub is_on : ℕ → ℕ → Ticket → Bool
-is_on m s t = m == t.machine && s == t.slot
+is_on m s t = same_place (m, s) (t.machine, t.slot)
 
 abbrev pub is_taken : ℕ → ℕ → List Entry → Bool
 is_taken m s past = list_any (is_on m s) (live past)

@@ -1,6 +1,6 @@
 -- The status of a derivation after a history, which stands newest first, and the numbers of derivations with each status.
 -- Public clauses cite this.
-use Rattle.std.specs.Prelude.{◌≡◌, ℕ, ◌<◌, true, List, length, slice_index_or}
+use Rattle.std.specs.Prelude.{◌≡◌, ℕ, ◌+◌, ◌<◌, true, List, length, slice_index_or, nat_lt, if◌then◌else◌}
 use Rattle.nd_failure.specs.Statuses.{IsTally}
 use Rattle.nd_failure.specs.declared.status.Counts.{Counts}
 use Rattle.nd_failure.specs.declared.status.Status.{Status}
@@ -33,3 +33,9 @@ pub record AreCountsIn (i : Premises) (past : List Entry) (counts : Counts) : Ty
 pub record IsFinished (i : Premises) (past : List Entry) : Type 0 where
   pub none_waits : (d : ℕ) → d < drvs_in i → HasStatusIn i past d Waiting → ⊥
   pub none_leased : (d : ℕ) → d < drvs_in i → HasStatusIn i past d Leased → ⊥
+
+-- the exit status of a run or a simulation that came to this: 1 where a derivation failed or was cancelled, and else 0
+pub record IsExitStatus (i : Premises) (past : List Entry) (status : ℕ) : Type 0 where
+  pub counts : Counts
+  pub counted : AreCountsIn i past counts
+  pub is : status ≡ (if nat_lt 0 (counts.failed + counts.cancelled) then 1 else 0)

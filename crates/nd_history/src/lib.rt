@@ -18,3 +18,4 @@ pub use book::Book;
 pub use entry::{Entry, Ticket, Why};
 pub use inputs::{Inputs, Parts};
 pub use rule::Rule;
+pub use sameness::is_same_entry;

@@ -297,6 +297,13 @@ impl Same for Entry {
     }
 }
 
+/// Whether the two entries are the same. It takes no memory.
+pub fn is_same_entry(entry: &Entry, other: &Entry) -> bool
+    ensures { IsTrue result ↔ (entry.now ≡ other.now) }
+{
+    entry.is_same(other)
+}
+
 /// Whether the entries begin with these first ones.
 #[tactic(auto, using(crate::proofs::Alike::begins_from, crate::proofs::Alike::begin_of, crate::proofs::Alike::begin_shorter))]
 pub(crate) fn begins_with(entries: &[Entry], first: &[Entry]) -> bool

@@ -4,6 +4,7 @@ use Rattle.std.specs.Prelude.{◌≡◌, ℕ, ◌+◌, ◌==◌, ◌&&◌, Bool,
 use Rattle.std.specs.List.{AllZip, cons_option}
 use Rattle.nd_history.specs.declared.entry.Entry.{Entry}
 use Rattle.nd_history.specs.declared.entry.Entry.TheVariants.{Chosen, NoBuilder, Started, Down, Built, Failed, Stop, Drain, Enable}
+use Rattle.nd_history.specs.History.{same_place}
 use Rattle.nd_receipts.specs.declared.receipt.Receipt.{Receipt}
 use Rattle.nd_receipts.specs.declared.receipt.Kind.{Kind}
 use Rattle.nd_receipts.specs.declared.receipt.Kind.TheVariants.{Started as KindStarted, Down as KindDown, Built as KindBuilt, Failed as KindFailed}
@@ -37,7 +38,7 @@ made_as (Enable m) = None
 -- this is the place
 abbrev pub is_place : ℕ × ℕ → Option (ℕ × ℕ) → Bool
 is_place p None = false
-is_place p (Some q) = (p.0 == q.0) && (p.1 == q.1)
+is_place p (Some q) = same_place p q
 
 -- the number and the kind of an entry that the worker of place p makes: its lease is on that place
 abbrev pub mark_by : ℕ × ℕ → ℕ → List Entry → Option (ℕ × Kind) → Option (ℕ × Kind)

@@ -1,6 +1,6 @@
 //! Whether the entries of a history are those that workers noted.
 
-ghost use Rattle.std.specs.Prelude.{◌≡◌, ◌↔◌, ◌∷◌, [], ℕ, List, Some, slice_get, reverse, true, length, IsTrue};
+ghost use Rattle.std.specs.Prelude.{◌≡◌, reverse, true};
 ghost use Rattle.std.specs.List.{AllZip, list_any, list_all};
 ghost use Rattle.nd_history.specs.History.{is_started, is_stop};
 ghost use Rattle.nd_receipts.specs.Made.{made, is_made, is_quiet};
@@ -8,100 +8,7 @@ ghost use Rattle.nd_receipts.specs.Noted.{TellsStart, IsNotedIn};
 ghost use Rattle.nd_receipts.specs.Walks.{start_said};
 
 use crate::receipt::Receipt;
-use nd_closure::Refs;
-use nd_history::{Entry, Why};
-use nd_path::PathSet;
-
-/// Whether these sets are the same.
-fn are_same_paths(paths: &PathSet, others: &PathSet) -> bool
-    ensures { IsTrue result ↔ (paths.now ≡ others.now) }
-{
-    paths == others
-}
-
-/// Whether these lists of sets are the same.
-#[tactic(auto, using(nd_history::proofs::Alike::same_on, nd_history::proofs::Alike::same_whole))]
-fn are_same_sets(sets: &[PathSet], others: &[PathSet]) -> bool
-    ensures { result ≡ true → sets.now ≡ others.now }
-{
-    if sets.len() != others.len() {
-        return false;
-    }
-    for i in 0..sets.len() {
-        if !are_same_paths(&sets[i], &others[i]) {
-            return false;
-        }
-    }
-    true
-}
-
-/// Whether the entry is the start of this derivation with these paths.
-fn is_start(entry: &Entry, drv: u32, paths: &PathSet) -> bool
-    ensures { result ≡ true → entry.now ≡ Entry.Started drv paths.now }
-{
-    match entry {
-        Entry::Started { drv: d, paths: p } => {
-            if *d != drv {
-                return false;
-            }
-            are_same_paths(p, paths)
-        }
-        _ => false,
-    }
-}
-
-/// Whether the entry is the end of this build with these references.
-fn is_build(entry: &Entry, drv: u32, refs: &Refs) -> bool
-    ensures { result ≡ true → entry.now ≡ Entry.Built drv refs.now }
-{
-    match entry {
-        Entry::Built { drv: d, refs: r } => {
-            if *d != drv {
-                return false;
-            }
-            are_same_sets(r.lists(), refs.lists())
-        }
-        _ => false,
-    }
-}
-
-/// Whether the entry gives the lease of this derivation back.
-fn is_down(entry: &Entry, drv: u32) -> bool
-    ensures { result ≡ true → entry.now ≡ Entry.Down drv }
-{
-    match entry {
-        Entry::Down { drv: d } => *d == drv,
-        _ => false,
-    }
-}
-
-/// Whether the entry is this failure.
-fn is_failure(entry: &Entry, drv: u32, why: Why) -> bool
-    ensures { result ≡ true → entry.now ≡ Entry.Failed drv why }
-{
-    match entry {
-        Entry::Failed { drv: d, why: w } => {
-            if *d != drv {
-                return false;
-            }
-            *w == why
-        }
-        _ => false,
-    }
-}
-
-/// Whether the entry is the one that a worker noted. No worker notes an entry of another kind.
-fn is_noted(entry: &Entry, copy: &Entry) -> bool
-    ensures { result ≡ true → entry.now ≡ copy.now }
-{
-    match copy {
-        Entry::Started { drv, paths } => is_start(entry, *drv, paths),
-        Entry::Down { drv } => is_down(entry, *drv),
-        Entry::Built { drv, refs } => is_build(entry, *drv, refs),
-        Entry::Failed { drv, why } => is_failure(entry, *drv, *why),
-        _ => false,
-    }
-}
+use nd_history::{Entry, Why, is_same_entry};
 
 /// What an entry says of whether this derivation is started: its start that it is, its choice that it isn't.
 fn start_said(entry: &Entry, drv: u32) -> Option<bool>
@@ -169,7 +76,7 @@ fn is_at(history: &[Entry], receipt: &Receipt, copy: &Entry) -> bool
     let Some(entry) = history.get(receipt.index) else {
         return false;
     };
-    if !is_noted(entry, copy) {
+    if !is_same_entry(entry, copy) {
         return false;
     }
     let (past, _) = history.split_at(receipt.index);

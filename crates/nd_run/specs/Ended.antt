@@ -1,10 +1,9 @@
 -- What is written at the end of a run: the history of the dispatch that came back, and where it was asked for the report. The
 -- contract of `run_engine` cites it by way of `RunsTo` and `IsRunFault`, but for `told_as` and `IsToldOf`, which serve proofs.
-use Rattle.std.specs.Prelude.{◌≡◌, ◌⊎◌, ℕ, ◌+◌, Bool, true, false, List, Option, Some, None, reverse, nat_lt, if◌then◌else◌}
+use Rattle.std.specs.Prelude.{◌≡◌, ◌⊎◌, ℕ, Bool, true, false, List, Option, Some, None, reverse}
 use Rattle.std.specs.Io.KnownBytes.{Appends, Keeps}
 use Rattle.nd_hook.specs.Written.{WritesPart}
-use Rattle.nd_failure.specs.declared.status.Counts.{Counts}
-use Rattle.nd_history.specs.Statuses.{AreCountsIn}
+use Rattle.nd_history.specs.Statuses.{IsExitStatus}
 use Rattle.nd_ledger.specs.Worlds.{World}
 use Rattle.nd_cli.specs.declared.fault.CliFault.{CliFault}
 use Rattle.nd_workers.specs.declared.run_end.RunFault.{RunFault}
@@ -39,10 +38,8 @@ abbrev pub WritesEndPart : World → Bool → Option (List ℕ) → Option (List
 WritesEndPart w report old new = WritesPart old new (written_text w.history) ⊎ (WritesReportPart w report old new ⊎ WritesEnd w report old new)
 
 -- the status: 1 where a derivation failed or was cancelled
-pub record IsStatusOf (w : World) (status : ℕ) : Type 0 where
-  pub counts : Counts
-  pub counted : AreCountsIn w.inputs (reverse w.history) counts
-  pub is : status ≡ (if nat_lt 0 (counts.failed + counts.cancelled) then 1 else 0)
+abbrev pub IsStatusOf : World → ℕ → Type 0
+IsStatusOf w status = IsExitStatus w.inputs (reverse w.history) status
 
 -- what the program says of a run's fault
 abbrev pub told_as : RunFault → CliFault

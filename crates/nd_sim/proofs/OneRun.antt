@@ -1,6 +1,6 @@
 -- A script has one text and one status.
 use Rattle.std.proofs.Common.{◌≡◌, ◌==◌, ℕ, ◌+◌, ◌<◌, List, [], ◌∷◌, ◌++◌, length, reverse, get_or, refl, sym, ap, ◌∙◌, subst, arith, length-append}
-use Rattle.std.specs.Prelude.{if◌then◌else◌}
+use Rattle.std.specs.Prelude.{if◌then◌else◌, nat_lt}
 use Rattle.std.proofs.lemmas.List.{reverse-append, reverse-reverse, ext_get_or}
 use Rattle.nd_failure.specs.declared.status.Counts.{Counts}
 use Rattle.nd_failure.specs.declared.status.Status.{Status}
@@ -10,11 +10,11 @@ use Rattle.nd_history.specs.declared.entry.Entry.{Entry}
 use Rattle.nd_history.specs.Premises.{Premises}
 use Rattle.nd_history.specs.Legal.{IsLegal}
 use Rattle.nd_history.specs.Standing.{drvs_in}
-use Rattle.nd_history.specs.Statuses.{AreCountsIn}
+use Rattle.nd_history.specs.Statuses.{AreCountsIn, IsExitStatus}
 use Rattle.nd_history.proofs.Tallies.{status_once}
 use Rattle.nd_report.specs.Reports.{AreFirstStatuses, IsReport, counts_text, machines_text, drvs_text}
 use Rattle.nd_script.specs.declared.command.Command.{Command}
-use Rattle.nd_sim.specs.Runs.{IsPumped, IsTurn, IsRun, IsExitStatus}
+use Rattle.nd_sim.specs.Runs.{IsPumped, IsTurn, IsRun}
 use Rattle.nd_sim.specs.OneText.{OneRun, RunsAreLegal, OneSimulation}
 use Rattle.nd_sim.proofs.OneStep.{pumped_once, pumping_legal}
 use Rattle.nd_sim.proofs.OneAnswer.{one_outcome, obeyed_legal}
@@ -128,7 +128,7 @@ report_once i past n text said legal one also =
 exit_once : (i : Premises) (past : List Entry) (status other : ℕ) → IsLegal i past → IsExitStatus i past status → IsExitStatus i past other → status ≡ other
 exit_once i past status other legal one also =
     let counts = counts_once i past one.counts also.counts legal one.counted also.counted in
-    one.is ∙ ap (λ (c : Counts). if c.failed == 0 then (if c.cancelled == 0 then 0 else 1) else 1) counts ∙ sym also.is
+    one.is ∙ ap (λ (c : Counts). if nat_lt 0 (c.failed + c.cancelled) then 1 else 0) counts ∙ sym also.is
 
 -- ---- all together
 

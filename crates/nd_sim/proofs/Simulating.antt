@@ -26,7 +26,8 @@ use Rattle.nd_script.specs.declared.command.Command.{Command}
 use Rattle.nd_sim.specs.declared.answer.Answer.{Answer}
 use Rattle.nd_sim.specs.Answers.{HasAdded}
 use Rattle.nd_sim.specs.Outcomes.{IsAnswer, ComesTo, HasReplied, IsReplyNow}
-use Rattle.nd_sim.specs.Runs.{refused_line, IsPumping, IsPumped, IsObeyed, IsTurn, IsRun, IsExitStatus}
+use Rattle.nd_history.specs.Statuses.{IsExitStatus}
+use Rattle.nd_sim.specs.Runs.{refused_line, IsPumping, IsPumped, IsObeyed, IsTurn, IsRun}
 use Rattle.nd_sim.specs.RunParts.{IsPumpingPart, IsTurnPart, IsSimulationPart}
 use Rattle.nd_sim.specs.Written.{WritesObeyed, WritesPumped, WritesPumpedPart, WritesTurn, WritesTurnPart, WritesRun, WritesSimulation, WritesSimulationPart}
 

@@ -10,7 +10,7 @@ use Rattle.nd_history.specs.declared.entry.Entry.{Entry}
 use Rattle.nd_history.specs.Premises.{Premises}
 use Rattle.nd_history.specs.Pumping.{ArePumpSteps, AreAtRest}
 use Rattle.nd_history.specs.Standing.{drvs_in}
-use Rattle.nd_history.specs.Statuses.{AreCountsIn}
+use Rattle.nd_history.specs.Statuses.{IsExitStatus}
 use Rattle.nd_ledger.specs.declared.refusal.Refusal.{Refusal}
 use Rattle.nd_ledger.specs.Names.{refusal_name}
 use Rattle.nd_texts.specs.HistoryTexts.{line_of}
@@ -68,12 +68,6 @@ pub data IsRun (i : Premises) : List Command → List Entry → List ℕ → Typ
   begun : (history : List Entry) (text : List ℕ) → IsPumped i [] history text → IsRun i [] history text
   turn : (commands : List Command) (old new : List Entry) (command : Command) (text more : List ℕ)
       → IsRun i commands old text → IsTurn i old new command more → IsRun i (commands ++ command ∷ []) new (text ++ more)
-
--- the exit status: 1 where something failed or was cancelled
-pub record IsExitStatus (i : Premises) (past : List Entry) (status : ℕ) : Type 0 where
-  pub counts : Counts
-  pub counted : AreCountsIn i past counts
-  pub is : status ≡ (if counts.failed == 0 then (if counts.cancelled == 0 then 0 else 1) else 1)
 
 -- a whole simulation over these inputs, with its exit status
 pub record IsSimulation (i : Premises) (commands : List Command) (status : ℕ) (text : List ℕ) : Type 0 where

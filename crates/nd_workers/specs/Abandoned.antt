@@ -9,7 +9,7 @@ use Rattle.nd_history.specs.declared.entry.Ticket.{Ticket}
 use Rattle.nd_history.specs.declared.entry.Why.TheVariants.{NoWorker}
 use Rattle.nd_history.specs.Premises.{Premises}
 use Rattle.nd_history.specs.Choices.{machines_in, jobs_of}
-use Rattle.nd_history.specs.History.{current_of, has_stop}
+use Rattle.nd_history.specs.History.{same_place, current_of, has_stop}
 
 -- the places of machine m: it with each of its slots
 abbrev pub places_on : Premises → ℕ → List (ℕ × ℕ)
@@ -21,7 +21,7 @@ places_of i = flat_map (places_on i) (range_with_len 0 (machines_in i))
 
 -- the place is one of these
 abbrev pub is_manned : List (ℕ × ℕ) → ℕ × ℕ → Bool
-is_manned manned p = list_any (λ q. (p.0 == q.0) && (p.1 == q.1)) manned
+is_manned manned p = list_any (same_place p) manned
 
 -- the end of a lease that no worker serves
 abbrev pub end_of : Option Ticket → Option Entry

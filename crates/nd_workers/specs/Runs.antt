@@ -2,6 +2,7 @@
 use Rattle.std.specs.Prelude.{◌≡◌, ℕ, ◌<◌, Bool, true, ◌&&◌, ◌==◌, List, ◌++◌, length, map, drop, count_by, nat_lt, reverse, Vec}
 use Rattle.std.specs.List.{AllZip, zip, list_all}
 use Rattle.nd_history.specs.declared.entry.Entry.{Entry}
+use Rattle.nd_history.specs.History.{same_place}
 use Rattle.nd_history.specs.Premises.{Premises}
 use Rattle.nd_history.specs.Choices.{machines_in, jobs_of}
 use Rattle.nd_history.specs.Statuses.{IsFinished}
@@ -18,7 +19,7 @@ use Rattle.nd_workers.specs.Served.{Seated, seat_of}
 
 -- a worker is on this place
 abbrev pub is_at : ℕ → ℕ → ℕ × ℕ → Bool
-is_at m s w = (m == w.0) && (s == w.1)
+is_at m s w = same_place (m, s) w
 
 -- the place is one of the park
 abbrev pub is_in_park : Premises → ℕ × ℕ → Bool
