@@ -3,7 +3,7 @@ use Rattle.std.proofs.Common.{◌≡◌, ℕ, ◌≤◌, Bool, List, [], ◌++�
 use Rattle.nd_cli.specs.Inputs.{limit, ReadsWhole, IsReadFault}
 use Rattle.nd_cli.specs.Statuses.{exit_status}
 use Rattle.nd_cli.specs.declared.fault.CliFault.{CliFault}
-use Rattle.nd_cli.specs.declared.fault.CliFault.TheVariants.{Derivation, Drvs, Builders, Info, Script, Stand, History, TooLarge, TooManySlots, Read, Write, Memory, Thread, Receipts}
+use Rattle.nd_cli.specs.declared.fault.CliFault.TheVariants.{Read, Memory}
 
 pub whole_read : (unread left : Option (List ℕ)) (text bytes : List ℕ) → unread ≡ Some text → ReadsWhole unread left bytes → length text ≤ limit → bytes ≡ text
 whole_read None left text bytes is read within = absurd (let no : None ≡ Some text = is in cc)

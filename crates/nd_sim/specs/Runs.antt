@@ -1,10 +1,9 @@
 -- What a simulation writes: pump steps until there is none, and then for each command its entry's line, its refusal or the reply,
 -- and again pump steps until there is none; the report last. Histories stand oldest first. The form is this project's own.
 -- The public clauses cite `IsRun` and `IsSimulation`, by way of what a writer has of them, and the laws cite these and `IsObeyed`.
-use Rattle.std.specs.Prelude.{◌≡◌, ◌==◌, ℕ, List, [], ◌∷◌, ◌++◌, reverse, codes, if◌then◌else◌}
+use Rattle.std.specs.Prelude.{◌≡◌, ℕ, List, [], ◌∷◌, ◌++◌, reverse, codes}
 use Rattle.std.specs.List.{flat_map}
 use Rattle.nd_machines.specs.Builders.{Builder}
-use Rattle.nd_failure.specs.declared.status.Counts.{Counts}
 use Rattle.nd_hook.specs.ReplyText.{line, reply_text}
 use Rattle.nd_history.specs.declared.entry.Entry.{Entry}
 use Rattle.nd_history.specs.Premises.{Premises}

@@ -1,7 +1,6 @@
 use Rattle.std.proofs.Common.{◌≡◌, ℕ, List, sym, ap, subst, ◌∙◌}
 use Rattle.nd_cli.specs.Parks.{HasPark}
 use Rattle.nd_cli.specs.Statuses.{exit_status}
-use Rattle.nd_cli.specs.declared.fault.CliFault.{CliFault}
 use Rattle.nd_cli.proofs.Whole.{whole_read}
 use Rattle.nd_cli.proofs.ask.ask_engine.Goals as goal
 
