@@ -1,4 +1,4 @@
--- What `ask` answers: the replies about the derivations of the bundle that was read.
+-- What `ask` answers: the replies about the derivations of the bundle that was read. The clauses of `ask_engine` cite this.
 use Rattle.std.specs.Prelude.{◌≡◌, ℕ, Bool, true, List, Option}
 use Rattle.nd_machines.specs.Builders.{Builder}
 use Rattle.nd_graph.specs.Graphs.{Nodes}

@@ -1,4 +1,4 @@
--- What the program reads of an input.
+-- What the program reads of an input, and whose fault an answer is. Public clauses cite this.
 use Rattle.std.specs.Prelude.{◌≡◌, ℕ, ◌≤◌, ◌+◌, Bool, true, false, List, length, Option, Result, Ok, Err}
 use Rattle.std.specs.Io.KnownBytes.{Consumes, IsAtEnd}
 use Rattle.nd_cli.specs.declared.fault.CliFault.{CliFault}

@@ -1,4 +1,4 @@
--- The words of a fault's line. They are this project's own.
+-- The words of a fault's line. They are this project's own. The outputs of `Display` cite this.
 use Rattle.std.specs.Prelude.{ℕ, List, ◌++◌, codes}
 use Rattle.std.specs.Fmt.{decimal}
 use Rattle.nd_cli.specs.declared.fault.Place.{Place}

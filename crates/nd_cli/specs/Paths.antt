@@ -1,4 +1,5 @@
--- What `path` answers: the path of the derivation text that was read, under the name that was given.
+-- What `path` answers: the path of the derivation text that was read, under the name that was given. The clauses of `path_engine`
+-- cite this.
 use Rattle.std.specs.Prelude.{◌≡◌, ℕ, ◌<◌, ◌≤◌, Bool, true, List, [], ◌∷◌, ◌++◌, length, Option}
 use Rattle.std.specs.Io.KnownBytes.{Appends}
 use Rattle.nd_graph.specs.declared.fault.GraphError.{GraphError}

@@ -1,4 +1,4 @@
--- The status that the program ends with where a command gave no answer (this project's own choice).
+-- The status that the program ends with where a command gave no answer (this project's own choice). Public clauses cite this.
 use Rattle.std.specs.Prelude.{ℕ}
 use Rattle.nd_cli.specs.declared.fault.CliFault.{CliFault}
 use Rattle.nd_cli.specs.declared.fault.CliFault.TheVariants.{Derivation, Drvs, Builders, Info, Script, Stand, History, TooLarge, TooManySlots, Read, Write, Memory, Thread, Receipts}

@@ -14,7 +14,7 @@ use std::io::Read;
 pub const LIMIT: usize = 67_108_864;
 
 /// Reads an input to its end, or to one byte past [`LIMIT`], so that its length says whether it is
-/// too large. It makes at most `LIMIT + 2` reads.
+/// too large. How many reads that takes isn't stated.
 ///
 /// `Read`: the reader refused a read, and is then marked. `Memory`: there was no room for the bytes.
 /// Nothing but a refused read sets the mark.

@@ -1,4 +1,5 @@
 -- What `audit` answers: whether the history is legal, and else the first entry that isn't allowed with the first rule that refuses it.
+-- The clauses of `audit_engine` cite this, but for `WritesVerdict`, `WritesVerdictPart` and `IsVerdictFault`, which serve private ones.
 use Rattle.std.specs.Prelude.{◌≡◌, ◌⊎◌, ℕ, ◌<◌, ◌≤◌, Bool, true, false, List, ◌∷◌, ◌++◌, length, reverse, codes, Option}
 use Rattle.std.specs.Fmt.{decimal}
 use Rattle.std.specs.Io.KnownBytes.{Appends}

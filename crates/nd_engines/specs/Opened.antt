@@ -1,4 +1,4 @@
--- The dispatch over what a command was given.
+-- The dispatch over what a command was given. The engines' clauses cite this, but for `IsOpened`, which serves a private one.
 use Rattle.std.specs.Prelude.{◌≡◌, ℕ, List, [], Option}
 use Rattle.nd_machines.specs.Builders.{Builder}
 use Rattle.nd_eligible.specs.Settings.{Settings}

@@ -1,4 +1,4 @@
--- The script of a simulation, read for the graph and the park at hand.
+-- The script of a simulation, read for the graph and the park at hand. The clauses of `sim_engine` cite this.
 use Rattle.std.specs.Prelude.{◌≡◌, ◌≢◌, ℕ, ◌<◌, ◌≤◌, List, length}
 use Rattle.nd_bytes.specs.Lines.{lines_of}
 use Rattle.nd_history.specs.Premises.{Premises}

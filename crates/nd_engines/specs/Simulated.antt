@@ -1,4 +1,5 @@
--- What `sim` answers: the simulation of the script over the bundle that was read.
+-- What `sim` answers: the simulation of the script over the bundle that was read. The clauses of `sim_engine` cite this, but for
+-- `IsSimGiven` and `IsSimAccepted`, which serve private ones.
 use Rattle.std.specs.Prelude.{◌≡◌, ◌⊎◌, ℕ, Bool, true, false, List, [], Option, Some, Result, MatchResult}
 use Rattle.nd_history.specs.Premises.{Premises}
 use Rattle.nd_ledger.specs.Worlds.{World}

@@ -192,7 +192,8 @@ impl<R: Read> Told<R> {
     }
 
     /// Reads the input to its end, but at most one byte more than `limit`, so that a caller sees
-    /// by the length whether the input is longer. It makes at most `limit + 2` reads.
+    /// by the length whether the input is longer. How many reads
+    /// that takes isn't stated.
     ///
     /// `Fault`: the device refused a read, and the mark is set. `Memory`: there was no room for
     /// the bytes.

@@ -1,4 +1,5 @@
--- When an entry is not admitted. The histories of these definitions stand newest first.
+-- When an entry is not admitted. The histories of these definitions stand newest first. The clauses of `admit` cite this, but for
+-- `admit_error_for`, which serves a private one.
 use Rattle.std.specs.Prelude.{◌≡◌, Bool, true, false, List}
 use Rattle.nd_history.specs.declared.entry.Entry.{Entry}
 use Rattle.nd_history.specs.declared.rule.Rule.{Rule}

@@ -1,4 +1,4 @@
--- What a dispatch holds.
+-- What a dispatch holds: the type's value and its invariant.
 use Rattle.std.specs.Prelude.{◌≡◌, ℕ, ◌+◌, ◌≤◌, List, length, reverse, if◌then◌else◌}
 use Rattle.nd_graph.specs.Graphs.{IsSound}
 use Rattle.nd_ledger.specs.declared.dispatch.Dispatch.TheInside.{Inside}

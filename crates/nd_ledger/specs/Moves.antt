@@ -1,5 +1,5 @@
 -- When starts, ends of builds and questions about copies are refused, and what they need before they are recorded.
--- The histories of these definitions stand newest first.
+-- The histories of these definitions stand newest first. Public clauses cite the refusals; the rest serves private ones.
 use Rattle.std.specs.Prelude.{◌≡◌, ℕ, ◌+◌, ◌≤◌, true, false, List, [], ◌∷◌, ◌++◌, length, reverse}
 use Rattle.nd_ledger.specs.declared.refusal.Refusal.{Refusal}
 use Rattle.nd_ledger.specs.declared.refusal.Refusal.TheVariants.{NotLive, AlreadyStarted, NotStarted, Uncovered, Extra, BadReferences, AlreadyStopped, Memory}

@@ -1,4 +1,4 @@
--- What is printed of a refusal of a call. The names are this project's own.
+-- What is printed of a refusal of a call. The names are this project's own. The outputs of `Display` cite this.
 use Rattle.std.specs.Prelude.{ℕ, List, ◌++◌, codes}
 use Rattle.nd_history.specs.Audit.{rule_name}
 use Rattle.nd_ledger.specs.declared.refusal.Refusal.{Refusal}

@@ -1,4 +1,5 @@
--- When calls are refused. The histories of these definitions stand newest first.
+-- When calls are refused. The histories of these definitions stand newest first. Public clauses cite this, but for `IsTicketOf`, which
+-- serves a private one.
 use Rattle.std.specs.Prelude.{◌≡◌, ℕ, true, List, Option, Some, MatchOption}
 use Rattle.nd_ledger.specs.declared.refusal.Refusal.{Refusal}
 use Rattle.nd_ledger.specs.declared.refusal.Refusal.TheVariants.{NotLive, AlreadyStarted, NotStarted, Uncovered, Extra, BadReferences, AlreadyStopped, Memory}

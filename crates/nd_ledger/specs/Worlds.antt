@@ -1,4 +1,4 @@
--- A dispatch, as contracts see it.
+-- A dispatch, as contracts see it. Public clauses cite this.
 use Rattle.std.specs.Prelude.{◌≡◌, List}
 use Rattle.nd_history.specs.declared.entry.Entry.{Entry}
 use Rattle.nd_history.specs.Premises.{Premises}

@@ -1,5 +1,5 @@
 -- Which entries of a run are whose. The entries `past` of these definitions are those since the run began, newest first.
--- This project's own choice.
+-- This project's own choice. Public clauses cite this.
 use Rattle.std.specs.Prelude.{◌≡◌, ℕ, ◌+◌, ◌==◌, Bool, false, if◌then◌else◌, List, [], ◌∷◌, map, Option, Some, None, slice_get}
 use Rattle.std.specs.List.{AllZip, cons_option}
 use Rattle.nd_history.specs.declared.entry.Entry.{Entry}

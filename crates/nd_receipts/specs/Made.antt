@@ -1,4 +1,4 @@
--- The entries of a history that workers make. This project's own choice.
+-- The entries of a history that workers make. This project's own choice. Public clauses cite this.
 use Rattle.std.specs.Prelude.{ℕ, Bool, true, false, List, count_by}
 use Rattle.nd_history.specs.declared.entry.Entry.{Entry}
 use Rattle.nd_history.specs.declared.entry.Entry.TheVariants.{Chosen, NoBuilder, Started, Down, Built, Failed, Stop, Drain, Enable}

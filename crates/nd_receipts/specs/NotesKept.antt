@@ -1,4 +1,4 @@
--- How a worker's notes are kept.
+-- How a worker's notes are kept: what the type `Notes` keeps.
 use Rattle.std.specs.Prelude.{◌≡◌, ◌-◌, min, vec_len, vec_capacity}
 use Rattle.nd_receipts.specs.declared.notes.Notes.TheInside.{Inside}
 use Rattle.nd_receipts.specs.Noted.{Noted}

@@ -1,4 +1,5 @@
--- What `run` is given: the park and the bundle, as for every command over a bundle, and the stand text.
+-- What `run` is given: the park and the bundle, as for every command over a bundle, and the stand text. The clauses of `run_inputs`
+-- cite this.
 use Rattle.std.specs.Prelude.{◌≡◌, ◌≢◌, ◌⊎◌, ℕ, ◌+◌, ◌<◌, ◌≤◌, Bool, true, List, [], length, Option}
 use Rattle.nd_machines.specs.Builders.{Builder}
 use Rattle.nd_graph.specs.Graphs.{Nodes, rows_of}
