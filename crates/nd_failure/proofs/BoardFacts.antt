@@ -5,7 +5,7 @@ use Rattle.std.proofs.Math.ListN.{set, length-set}
 use Rattle.std.proofs.lemmas.List.{get_or-set_same, get_or-set_other, get_or-map, length-map, get_or_past, get_or-replicate, length-replicate}
 use Rattle.std.proofs.lemmas.Bool.{cases_eq, cases_lt, false≢true, ltb-true, lt-ltb}
 use Rattle.nd_graph.specs.Walks.{inputs_of}
-use Rattle.nd_failure.specs.Members.{IsMember, IsFirstFrom}
+use Rattle.nd_flags.specs.Members.{IsMember, IsFirstFrom}
 use Rattle.nd_failure.specs.Progress.{Progress, mark_of, HasInputsBuilt, IsReady, IsStopped, HasFailure}
 use Rattle.nd_failure.specs.Statuses.{IsTally, HasStatus, CanFail, AreCounts, IsNextReady, total_of}
 use Rattle.nd_failure.specs.Kept.{is_built, unbuilt_of, AreSettled, AreCounted, AreDoomed, AreReady, AreWoken, AreZero}
@@ -23,7 +23,7 @@ use Rattle.nd_failure.proofs.BelowFacts.{free_or, built_above_none, HasFailedBel
 use Rattle.nd_failure.proofs.CountFacts.{true_or_false, count_by-cons_yes, count_by-none, count-from_Contains, Contains-from_count}
 use Rattle.nd_failure.proofs.MarkFacts.{within_if_marked, AreSettled-set, AreCounted-set, unbuilt_of-built, AreDoomed-set, AreReady-put}
 use Rattle.nd_failure.proofs.TallyFacts.{IsMoved, AreCancelled, IsTally-moved, IsTally-spread, IsTally-stopped, stopped_statuses, count_in-tally, same_itself, counted_at, waiting_enough, fresh_counts, failure_from_count, count_from_failure, get_or-statuses_of, length-statuses_of, total_of-tally}
-use Rattle.nd_failure.proofs.RowFacts.{IsMember-within}
+use Rattle.nd_flags.proofs.RowFacts.{IsMember-within}
 use Rattle.nd_failure.specs.Tallied.{count_in}
 use Rattle.nd_failure.proofs.SpreadFacts.{AreDoomed-failed, input_of_dependant}
 

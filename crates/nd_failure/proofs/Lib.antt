@@ -1,4 +1,3 @@
-pub mod RowFacts
 pub mod BelowFacts
 pub mod CountFacts
 pub mod MarkFacts

@@ -5,7 +5,7 @@ use Rattle.std.specs.List.{count_by}
 use Rattle.std.proofs.lemmas.List.{get_or-set_same, get_or-set_other, get_or_past}
 use Rattle.std.proofs.lemmas.Bool.{cases_eq, cases_lt, false≢true}
 use Rattle.nd_graph.specs.Walks.{inputs_of}
-use Rattle.nd_failure.specs.Members.{IsMember}
+use Rattle.nd_flags.specs.Members.{IsMember}
 use Rattle.nd_failure.specs.Progress.{mark_of, HasInputsBuilt, HasFailedBelow}
 use Rattle.nd_failure.specs.Kept.{is_built, AreSettled, AreCounted, AreDoomed, AreReady}
 use Rattle.nd_failure.specs.declared.status.Mark.{Mark}

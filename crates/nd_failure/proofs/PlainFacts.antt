@@ -6,7 +6,7 @@ use Rattle.std.proofs.lemmas.List.{get_or-set_same, get_or-set_other, get_or_app
 use Rattle.std.proofs.lemmas.List.Elements.{Contains-get_or, Contains-push_cases}
 use Rattle.std.proofs.lemmas.Bool.{cases_eq, cases_lt}
 use Rattle.nd_graph.specs.Walks.{inputs_of, IsOrder}
-use Rattle.nd_failure.specs.Members.{IsMember}
+use Rattle.nd_flags.specs.Members.{IsMember}
 use Rattle.nd_failure.specs.Progress.{Progress, mark_of, HasFailedBelow, IsReady}
 use Rattle.nd_failure.specs.Statuses.{HasStatus}
 use Rattle.nd_failure.specs.Kept.{AreDoomed}

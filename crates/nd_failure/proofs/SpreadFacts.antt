@@ -5,7 +5,7 @@ use Rattle.std.proofs.lemmas.List.{get_or-set_same, get_or-set_other, get_or_pas
 use Rattle.std.proofs.lemmas.List.Elements.{Contains-push, Contains-push_cases, Contains-append_left, Contains-get_or}
 use Rattle.std.proofs.lemmas.Bool.{cases_eq, cases_lt}
 use Rattle.nd_graph.specs.Walks.{inputs_of, Walk, IsBelow}
-use Rattle.nd_failure.specs.Members.{IsMember}
+use Rattle.nd_flags.specs.Members.{IsMember}
 use Rattle.nd_failure.specs.Reversed.{AreDependants}
 use Rattle.nd_failure.specs.Spread.{Visited, Spreading, IsClosed, SpreadsFrom}
 use Rattle.nd_failure.specs.Progress.{mark_of}

@@ -6,7 +6,7 @@ use Rattle.std.proofs.lemmas.List.Sums.{sum_by-set, sum_by_push, get_or-le-sum_b
 use Rattle.std.proofs.lemmas.Bool.{false≢true}
 use Rattle.nd_failure.specs.Progress.{mark_of, HasFailure}
 use Rattle.nd_failure.specs.Statuses.{IsTally, count_of, same_status, total_of}
-use Rattle.nd_failure.specs.Members.{IsMember}
+use Rattle.nd_flags.specs.Members.{IsMember}
 use Rattle.nd_failure.specs.Spread.{size_of}
 use Rattle.nd_failure.specs.Tallied.{status_by, statuses_of, count_in, one_if, IsLess, IsMore}
 use Rattle.nd_failure.specs.declared.status.Counts.{Counts}

@@ -3,7 +3,7 @@
 use Rattle.std.specs.Prelude.{◌≡◌, ◌<◌, ◌⊎◌, ℕ, Bool, true, false, not, List, length, slice_index_or, Contains}
 use Rattle.std.specs.List.{count_by}
 use Rattle.nd_graph.specs.Walks.{inputs_of}
-use Rattle.nd_failure.specs.Members.{IsMember}
+use Rattle.nd_flags.specs.Members.{IsMember}
 use Rattle.nd_failure.specs.Progress.{mark_of, HasInputsBuilt, HasFailedBelow}
 use Rattle.nd_failure.specs.declared.status.Mark.{Mark}
 use Rattle.nd_failure.specs.declared.status.Mark.TheVariants.{Free, Leased, Built, Failed}

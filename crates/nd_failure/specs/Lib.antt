@@ -1,5 +1,3 @@
-pub mod Members
-pub mod Layers
 pub mod Progress
 pub mod Statuses
 pub mod Kept

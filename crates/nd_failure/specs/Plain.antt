@@ -1,7 +1,7 @@
 -- The nodes with a failed one below, as a board that searches finds them.
 -- No public clause cites this: it serves private clauses and proofs alone.
 use Rattle.std.specs.Prelude.{◌≡◌, ◌<◌, ◌⊎◌, ℕ, Bool, List, length, Contains, slice_index_or}
-use Rattle.nd_failure.specs.Members.{IsMember}
+use Rattle.nd_flags.specs.Members.{IsMember}
 use Rattle.nd_failure.specs.Progress.{mark_of, HasFailedBelow}
 use Rattle.nd_failure.specs.declared.status.Mark.{Mark}
 use Rattle.nd_failure.specs.declared.status.Mark.TheVariants.{Built, Failed}

@@ -3,7 +3,7 @@
 use Rattle.std.specs.Prelude.{◌≡◌, ◌⊎◌, ℕ, Bool, List, length, Contains}
 use Rattle.std.specs.List.{count_by}
 use Rattle.nd_graph.specs.Walks.{inputs_of, IsBelow}
-use Rattle.nd_failure.specs.Members.{IsMember}
+use Rattle.nd_flags.specs.Members.{IsMember}
 
 -- how many members a set has
 abbrev pub size_of : List Bool → ℕ

@@ -6,7 +6,7 @@ ghost use Rattle.nd_graph.specs.Graphs.{rows_of};
 ghost use Rattle.nd_failure.specs.Statuses.{HasStatus, CanFail, AreCounts, IsNextReady, total_of};
 
 use crate::edges::Edges;
-use crate::node_set::NodeSet;
+use nd_flags::NodeSet;
 use crate::spread::spread;
 use crate::status::{Counts, Mark, Status};
 use crate::unbuilt::{UnbuiltInputs, wake};

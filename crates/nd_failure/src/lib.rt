@@ -3,8 +3,6 @@
 
 mod board;
 mod edges;
-mod layers;
-mod node_set;
 pub mod plain;
 mod spread;
 mod status;

@@ -8,7 +8,7 @@ ghost use Rattle.nd_failure.specs.Plain.{HasFailedInput, AreBuilt, AreSound};
 ghost use Rattle.nd_failure.specs.Kept.{AreDoomed};
 
 use crate::edges::Rows;
-use crate::node_set::NodeSet;
+use nd_flags::NodeSet;
 use crate::status::{Counts, Mark, Status};
 use nd_graph::Graph;
 use std::alloc::{AllocError, Global};

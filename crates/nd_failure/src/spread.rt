@@ -3,7 +3,7 @@ ghost use Rattle.std.specs.Prelude.{◌≡◌, ◌<◌, ◌≤◌, ◌+◌, [], 
 ghost use Rattle.nd_failure.specs.Spread.{size_of, Visited, IsClosed, SpreadsFrom};
 
 use crate::edges::Edges;
-use crate::node_set::NodeSet;
+use nd_flags::NodeSet;
 
 /// Puts the nodes that aren't there yet into the set and on the work list, and counts them.
 fn visit(doomed: &mut NodeSet, work: &mut Vec<usize>, nodes: &[usize]) -> usize

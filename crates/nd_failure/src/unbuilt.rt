@@ -4,7 +4,7 @@ ghost use Rattle.std.specs.List.{slice_index_or, count_by};
 ghost use Rattle.nd_failure.specs.Kept.{AreWoken, AreZero};
 
 use crate::edges::Edges;
-use crate::node_set::NodeSet;
+use nd_flags::NodeSet;
 use std::alloc::{AllocError, Global};
 use std::marker::Model;
 

@@ -1,5 +1,5 @@
 -- A set of the numbers below n as n flags, the one at i being up where i is in the set.
--- No public clause cites this: it says what a type keeps, and serves private clauses.
+-- Public clauses cite this.
 use Rattle.std.specs.Prelude.{◌≡◌, ◌≤◌, ◌<◌, ℕ, Bool, true, false, List, Option, None, Some, slice_index_or}
 
 -- i is in the set

@@ -1,8 +1,8 @@
 use Rattle.std.proofs.Common.{List, Bool, subst, sym, ◌∙◌}
-use Rattle.nd_failure.specs.Members.{IsFirstFrom}
-use Rattle.nd_failure.specs.Layers.{AreSummed}
-use Rattle.nd_failure.proofs.RowFacts.{IsFirstFrom-above}
-use Rattle.nd_failure.proofs.layers.LayeredFlags.first_from.Goals as goal
+use Rattle.nd_flags.specs.Members.{IsFirstFrom}
+use Rattle.nd_flags.specs.Layers.{AreSummed}
+use Rattle.nd_flags.proofs.RowFacts.{IsFirstFrom-above}
+use Rattle.nd_flags.proofs.layers.LayeredFlags.first_from.Goals as goal
 
 pub returns : goal.returns
 returns g c =

@@ -1,6 +1,6 @@
 //! Rows of flags in layers, so that the next flag that is up is found without a walk over all.
 ghost use Rattle.std.specs.Prelude.{◌≡◌, ◌≤◌, ◌<◌, ℕ, Bool, true, false, List, Option, None, Some, length, slice_set, slice_index_or, replicate, IfOk, MatchOption, MatchBool, min, ◌*◌, ◌+◌, ◌/◌};
-ghost use Rattle.nd_failure.specs.Members.{IsMember, IsFirstFrom};
+ghost use Rattle.nd_flags.specs.Members.{IsMember, IsFirstFrom};
 
 use std::alloc::{AllocError, Global};
 use std::marker::Model;
@@ -124,7 +124,7 @@ impl<U: Flags> Model for Layered<U> {
 
     ghost Value = { List Bool };
 
-    ghost use Rattle.nd_failure.specs.Layers.{AreSummed};
+    ghost use Rattle.nd_flags.specs.Layers.{AreSummed};
 
     ghost view = { λ row. row.items.items };
 

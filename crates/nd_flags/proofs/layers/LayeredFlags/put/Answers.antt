@@ -1,9 +1,9 @@
 use Rattle.std.proofs.Common.{◌<◌, refl, sym, subst, Bool, List, length, ◌∙◌}
 use Rattle.std.proofs.Math.ListN.{set}
 use Rattle.std.proofs.lemmas.List.{get_or-set_same}
-use Rattle.nd_failure.proofs.RowFacts.{AreSummed-put, TellsBlock}
-use Rattle.nd_failure.proofs.layers.LayeredFlags.put.Goals as goal
-use Rattle.nd_failure.proofs.layers.LayeredFlags.put.Goals.{then-up, else-up}
+use Rattle.nd_flags.proofs.RowFacts.{AreSummed-put, TellsBlock}
+use Rattle.nd_flags.proofs.layers.LayeredFlags.put.Goals as goal
+use Rattle.nd_flags.proofs.layers.LayeredFlags.put.Goals.{then-up, else-up}
 
 pub invariant_of-self : goal.invariant_of-self
 invariant_of-self g c =

@@ -1,6 +1,6 @@
 //! A set of nodes whose least member from a node on is found without a walk over all nodes.
 ghost use Rattle.std.specs.Prelude.{◌≡◌, ◌<◌, true, false, length, slice_set, slice_index_or, replicate, IfOk};
-ghost use Rattle.nd_failure.specs.Members.{IsFirstFrom};
+ghost use Rattle.nd_flags.specs.Members.{IsFirstFrom};
 
 use crate::layers::{Flags, Flat, Layered};
 use std::alloc::{AllocError, Global};
@@ -28,7 +28,7 @@ impl Model for NodeSet {
 
 impl NodeSet {
     /// The empty set of the numbers below `len`.
-    pub(crate) fn new(alloc: Global, len: usize) -> Result<NodeSet, AllocError>
+    pub fn new(alloc: Global, len: usize) -> Result<NodeSet, AllocError>
         ensures { IfOk result (λ made. made ≡ replicate len false) }
     {
         Ok(NodeSet {
@@ -37,7 +37,7 @@ impl NodeSet {
     }
 
     /// Puts `i` into the set.
-    pub(crate) fn insert(&mut self, i: usize)
+    pub fn insert(&mut self, i: usize)
         requires { i < length self.old }
         ensures { self.new ≡ slice_set self.old i true }
     {
@@ -45,7 +45,7 @@ impl NodeSet {
     }
 
     /// Takes `i` out of the set.
-    pub(crate) fn remove(&mut self, i: usize)
+    pub fn remove(&mut self, i: usize)
         requires { i < length self.old }
         ensures { self.new ≡ slice_set self.old i false }
     {
@@ -53,7 +53,7 @@ impl NodeSet {
     }
 
     /// Whether `i` is in the set.
-    pub(crate) fn contains(&self, i: usize) -> bool
+    pub fn contains(&self, i: usize) -> bool
         requires { i < length self.now }
         ensures { result ≡ slice_index_or self.now i false }
     {
@@ -61,14 +61,14 @@ impl NodeSet {
     }
 
     /// The least member that is not before `from`, which may be any number.
-    pub(crate) fn first_from(&self, from: usize) -> Option<usize>
+    pub fn first_from(&self, from: usize) -> Option<usize>
         ensures { IsFirstFrom self.now from result }
     {
         self.rows.first_from(from)
     }
 
     /// An equal set.
-    pub(crate) fn try_clone(&self, alloc: Global) -> Result<NodeSet, AllocError>
+    pub fn try_clone(&self, alloc: Global) -> Result<NodeSet, AllocError>
         ensures { IfOk result (λ copy. copy ≡ self.now) }
     {
         Ok(NodeSet {

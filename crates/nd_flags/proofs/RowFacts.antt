@@ -3,8 +3,8 @@ use Rattle.std.proofs.Common.{◌≡◌, ◌≤◌, ◌<◌, ◌+◌, ◌*◌, �
 use Rattle.std.proofs.Math.ListN.{set, length-set}
 use Rattle.std.proofs.lemmas.List.{get_or-set_same, get_or-set_other, get_or_past}
 use Rattle.std.proofs.lemmas.Bool.{cases_eq, cases_lt, false≢true}
-use Rattle.nd_failure.specs.Members.{IsMember, IsLeastFrom, IsFirstFrom}
-use Rattle.nd_failure.specs.Layers.{AreSummed}
+use Rattle.nd_flags.specs.Members.{IsMember, IsLeastFrom, IsFirstFrom}
+use Rattle.nd_flags.specs.Layers.{AreSummed}
 
 -- a member lies within the row
 pub IsMember-within : (row : List Bool) (k : ℕ) → IsMember row k → k < length row

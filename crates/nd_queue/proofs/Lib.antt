@@ -1,0 +1,3 @@
+pub mod GroupedFacts
+pub mod QueueFacts
+pub mod Keeping

@@ -1,0 +1,4 @@
+pub mod Grouped
+pub mod GroupedKept
+pub mod Queues
+pub mod QueueKept
