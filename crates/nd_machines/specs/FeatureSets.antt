@@ -1,12 +1,12 @@
 -- Sets of byte strings, as strictly rising lists: the systems and the features of a machine
 -- (Nix Reference Manual, setting `builders`).
 -- Public clauses cite this, but `sets_eq-Decides` and `sets_same` serve proofs alone.
-use Rattle.std.specs.Prelude.{◌≡◌, ◌↔◌, ◌==◌, ℕ, Bool, true, not, List, [], ◌∷◌, length, filter, Contains}
+use Rattle.std.specs.Prelude.{◌≡◌, ◌↔◌, ◌==◌, ℕ, Bool, true, not, List, length, filter, Contains}
 use Rattle.std.specs.List.{slice_split}
 use Rattle.std.specs.Bool.{Decides}
 use Rattle.std.specs.Cmp.{IsEquivalence, IsPartialEquivalence, IsTotalOrder, IsPartialOrder, partial_equiv_from_equiv, partial_order_from_agreeing_total}
 use Rattle.std.specs.Cmp.Lexicographic.{pointwise, slice_cmp, lists_ties}
-use Rattle.std.specs.Ordering.{match_ordering, eq_by_cmp, as_partial_cmp}
+use Rattle.std.specs.Ordering.{eq_by_cmp, as_partial_cmp}
 use Rattle.std.specs.declared.cmp.Ordering.{Ordering}
 use Rattle.std.specs.List.Sorted.{IsStrictlySortedBy}
 use Rattle.std.proofs.Common.{refl}
