@@ -1,5 +1,5 @@
 -- The tables follow a history: after one more entry they say of the longer history what they said of the one before.
-use Rattle.std.proofs.Common.{◌≡◌, ℕ, ◌<◌, Bool, true, false, ◌==◌, ◌&&◌, ◌||◌, cond, if◌then◌else◌, List, [], ◌∷◌, ◌++◌, length, reverse, get_or, set, refl, sym, ap, ◌∙◌, arith, inl, inr, get_or-set_other, length-set}
+use Rattle.std.proofs.Common.{◌≡◌, ℕ, ◌<◌, Bool, true, false, ◌==◌, ◌&&◌, ◌||◌, cond, if◌then◌else◌, List, [], ◌∷◌, ◌++◌, length, reverse, get_or, set, refl, sym, ap, ◌∙◌, arith, inl, inr, get_or-set_other}
 use Rattle.std.proofs.lemmas.Grind.{common_steps}
 use Rattle.std.proofs.lemmas.Bool.{cases_eq, ne_eqb}
 use Rattle.std.proofs.lemmas.List.{reverse-append, length-reverse}
@@ -9,8 +9,8 @@ use Rattle.std.specs.List.{list_any, filter}
 use Rattle.nd_history.specs.declared.entry.Entry.{Entry}
 use Rattle.nd_history.specs.declared.entry.Entry.TheVariants.{Chosen, NoBuilder, Started, Down, Built, Failed, Stop, Drain, Enable}
 use Rattle.nd_history.specs.declared.entry.Ticket.{Ticket}
-use Rattle.nd_history.specs.History.{live, is_started, is_built, is_failed}
-use Rattle.nd_history.specs.Kept.{leases_after, started_after, built_after, failed_after, AreBuilt, AreFailed, AreStarted, AreUp, AreUpsAfter}
+use Rattle.nd_history.specs.History.{live, is_started}
+use Rattle.nd_history.specs.Kept.{leases_after, started_after, AreStarted, AreUp, AreUpsAfter}
 
 pub reverse_cons : {X : Type 0} → (x : X) (xs : List X) → reverse (x ∷ xs) ≡ reverse xs ++ x ∷ []
 reverse_cons x xs = reverse-append (x ∷ []) xs
@@ -73,69 +73,6 @@ started_follow past (NoBuilder d) flags are = record { said = are.said }
 started_follow past Stop flags are = record { said = are.said }
 started_follow past (Drain m) flags are = record { said = are.said }
 started_follow past (Enable m) flags are = record { said = are.said }
-
-pub built_follow : (past : List Entry) (e : Entry) (flags : List Bool) → AreBuilt past flags → AreBuilt (e ∷ past) (built_after e flags)
-built_follow past (Built e refs) flags are = record {
-  said = λ d lt. let here : d < length flags = grind (arith, common_steps, lt) in put_flag flags e d true here ∙ ap (λ (b : Bool). if d == e then true else b) (are.said d here) ∙ either (d == e) (is_built d past);
-}
-built_follow past (Chosen e m s) flags are = record { said = are.said }
-built_follow past (NoBuilder d) flags are = record { said = are.said }
-built_follow past (Started e paths) flags are = record { said = are.said }
-built_follow past (Down d) flags are = record { said = are.said }
-built_follow past (Failed d why) flags are = record { said = are.said }
-built_follow past Stop flags are = record { said = are.said }
-built_follow past (Drain m) flags are = record { said = are.said }
-built_follow past (Enable m) flags are = record { said = are.said }
-
-pub failed_follow : (past : List Entry) (e : Entry) (flags : List Bool) → AreFailed past flags → AreFailed (e ∷ past) (failed_after e flags)
-failed_follow past (Failed e why) flags are = record {
-  said = λ d lt. let here : d < length flags = grind (arith, common_steps, lt) in put_flag flags e d true here ∙ ap (λ (b : Bool). if d == e then true else b) (are.said d here) ∙ either (d == e) (is_failed d past);
-}
-failed_follow past (NoBuilder e) flags are = record {
-  said = λ d lt. let here : d < length flags = grind (arith, common_steps, lt) in put_flag flags e d true here ∙ ap (λ (b : Bool). if d == e then true else b) (are.said d here) ∙ either (d == e) (is_failed d past);
-}
-failed_follow past (Chosen e m s) flags are = record { said = are.said }
-failed_follow past (Started e paths) flags are = record { said = are.said }
-failed_follow past (Down d) flags are = record { said = are.said }
-failed_follow past (Built d refs) flags are = record { said = are.said }
-failed_follow past Stop flags are = record { said = are.said }
-failed_follow past (Drain m) flags are = record { said = are.said }
-failed_follow past (Enable m) flags are = record { said = are.said }
-
--- ---- the tables keep their lengths
-
-pub started_sized : (e : Entry) (flags : List Bool) → length (started_after e flags) ≡ length flags
-started_sized (Chosen e m s) flags = length-set flags e false
-started_sized (Started e paths) flags = length-set flags e true
-started_sized (NoBuilder d) flags = refl
-started_sized (Down d) flags = refl
-started_sized (Built d refs) flags = refl
-started_sized (Failed d why) flags = refl
-started_sized Stop flags = refl
-started_sized (Drain m) flags = refl
-started_sized (Enable m) flags = refl
-
-pub built_sized : (e : Entry) (flags : List Bool) → length (built_after e flags) ≡ length flags
-built_sized (Built e refs) flags = length-set flags e true
-built_sized (Chosen e m s) flags = refl
-built_sized (Started e paths) flags = refl
-built_sized (NoBuilder d) flags = refl
-built_sized (Down d) flags = refl
-built_sized (Failed d why) flags = refl
-built_sized Stop flags = refl
-built_sized (Drain m) flags = refl
-built_sized (Enable m) flags = refl
-
-pub failed_sized : (e : Entry) (flags : List Bool) → length (failed_after e flags) ≡ length flags
-failed_sized (Failed e why) flags = length-set flags e true
-failed_sized (NoBuilder e) flags = length-set flags e true
-failed_sized (Chosen e m s) flags = refl
-failed_sized (Started e paths) flags = refl
-failed_sized (Built d refs) flags = refl
-failed_sized (Down d) flags = refl
-failed_sized Stop flags = refl
-failed_sized (Drain m) flags = refl
-failed_sized (Enable m) flags = refl
 
 pub ups_follow : (past : List Entry) (e : Entry) (leases : List Ticket) (old new : List Bool) → leases ≡ reverse (live past) → AreUp past old → AreUpsAfter e leases old new → AreUp (e ∷ past) new
 ups_follow past (Down d) leases old new is are after = record {

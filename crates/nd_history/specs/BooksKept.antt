@@ -1,11 +1,10 @@
 -- What a book holds, and what its tables say.
 -- Public clauses cite this, but `AreFollowed` says what a type keeps.
 use Rattle.std.specs.Prelude.{◌≡◌, ◌-◌, length, reverse, min, vec_len, vec_capacity}
-use Rattle.std.specs.List.{list_any}
 use Rattle.nd_history.specs.declared.book.Book.TheInside.{Inside}
 use Rattle.nd_history.specs.Books.{Recorded}
-use Rattle.nd_history.specs.History.{live, has_stop, is_failure}
-use Rattle.nd_history.specs.Kept.{AreStarted, AreUp, AreBuilt, AreFailed}
+use Rattle.nd_history.specs.History.{live}
+use Rattle.nd_history.specs.Kept.{AreStarted, AreUp}
 
 abbrev pub recorded : Inside → Recorded
 recorded b = record {
@@ -20,8 +19,3 @@ pub record AreFollowed (b : Inside) : Type 0 where
   pub leases : b.leases.items ≡ reverse (live (reverse b.entries.items))
   pub started : AreStarted (reverse b.entries.items) b.started.items
   pub ups : AreUp (reverse b.entries.items) b.ups.items
-  pub built : AreBuilt (reverse b.entries.items) b.built.items
-  pub failed : AreFailed (reverse b.entries.items) b.failed.items
-  pub sized : (length b.built.items ≡ length b.started.items) × (length b.failed.items ≡ length b.started.items)
-  pub failure : b.failure ≡ list_any is_failure (reverse b.entries.items)
-  pub stop : b.stop ≡ has_stop (reverse b.entries.items)

@@ -6,7 +6,7 @@ use Rattle.std.specs.List.{list_any}
 use Rattle.nd_history.specs.declared.entry.Entry.{Entry}
 use Rattle.nd_history.specs.declared.entry.Entry.TheVariants.{Chosen, NoBuilder, Started, Down, Built, Failed, Stop, Drain, Enable}
 use Rattle.nd_history.specs.declared.entry.Ticket.{Ticket}
-use Rattle.nd_history.specs.History.{without, is_started, is_up, is_built, is_failed}
+use Rattle.nd_history.specs.History.{without, is_started, is_up}
 
 -- the live leases oldest first, after one more entry; `serial` is the number of entries before it
 abbrev pub leases_after : ℕ → Entry → List Ticket → List Ticket
@@ -35,38 +35,6 @@ started_after (Enable m) flags = flags
 -- flag d says whether derivation d was started since its newest choice
 pub record AreStarted (past : List Entry) (flags : List Bool) : Type 0 where
   pub said : (d : ℕ) → d < length flags → slice_index_or flags d false ≡ is_started d past
-
--- the flags of the built derivations, after one more entry
-abbrev pub built_after : Entry → List Bool → List Bool
-built_after (Built d refs) flags = slice_set flags d true
-built_after (Chosen d m s) flags = flags
-built_after (NoBuilder d) flags = flags
-built_after (Started d paths) flags = flags
-built_after (Down d) flags = flags
-built_after (Failed d why) flags = flags
-built_after Stop flags = flags
-built_after (Drain m) flags = flags
-built_after (Enable m) flags = flags
-
--- the flags of the failed derivations, after one more entry
-abbrev pub failed_after : Entry → List Bool → List Bool
-failed_after (NoBuilder d) flags = slice_set flags d true
-failed_after (Failed d why) flags = slice_set flags d true
-failed_after (Built d refs) flags = flags
-failed_after (Chosen d m s) flags = flags
-failed_after (Started d paths) flags = flags
-failed_after (Down d) flags = flags
-failed_after Stop flags = flags
-failed_after (Drain m) flags = flags
-failed_after (Enable m) flags = flags
-
--- flag d says whether derivation d is built
-pub record AreBuilt (past : List Entry) (flags : List Bool) : Type 0 where
-  pub said : (d : ℕ) → d < length flags → slice_index_or flags d false ≡ is_built d past
-
--- flag d says whether derivation d failed
-pub record AreFailed (past : List Entry) (flags : List Bool) : Type 0 where
-  pub said : (d : ℕ) → d < length flags → slice_index_or flags d false ≡ is_failed d past
 
 -- flag m says whether machine m is up
 pub record AreUp (past : List Entry) (flags : List Bool) : Type 0 where

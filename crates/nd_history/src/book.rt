@@ -1,23 +1,19 @@
 //! The entries so far, and what follows from them for leases and machines.
 
 ghost use Rattle.std.specs.Prelude.{◌≡◌, ◌+◌, ◌<◌, ◌≤◌, ◌^◌, ◌++◌, [], ◌∷◌, length, reverse, vec_capacity, ◌↔◌, IsTrue, IfOk, OnOk};
-ghost use Rattle.nd_history.specs.History.{live, lease_of, current_of, load, is_taken, is_started, is_up, has_stop, is_leased, is_built, is_failed, is_failure};
+ghost use Rattle.nd_history.specs.History.{live, lease_of, current_of, load, is_taken, is_started, is_up};
 ghost use Rattle.nd_history.specs.Sameness.{BeginsWith};
-ghost use Rattle.std.specs.List.{list_any};
 
 use crate::entry::{Entry, Ticket};
-use crate::finding::{count_on, is_any_of, is_any_on, newest_of, newest_on};
+use crate::finding::{count_on, is_any_on, newest_of, newest_on};
 use crate::sameness::begins_with;
-use crate::tables::{
-    follow_built, follow_failed, follow_failure, follow_leases, follow_started, follow_stop,
-    follow_ups,
-};
+use crate::tables::{follow_leases, follow_started, follow_ups};
 use std::alloc::{AllocError, Global};
 use std::marker::Model;
 
 /// A history with the tables that follow it: the live leases, which derivations were started since
-/// their newest choice, and which machines are up. No question is answered by a search of the
-/// entries. Contracts see the entries oldest first, how many more can be recorded without memory,
+/// their newest choice, and which machines are up. What is ready, built or failed, and whether there
+/// was a stop, a board says. No question is answered by a search of the entries. Contracts see the entries oldest first, how many more can be recorded without memory,
 /// and the numbers of derivations and machines.
 #[derive(Drop, Debug)]
 pub struct Book {
@@ -25,10 +21,6 @@ pub struct Book {
     leases: Vec<Ticket>,
     started: Vec<bool>,
     ups: Vec<bool>,
-    built: Vec<bool>,
-    failed: Vec<bool>,
-    failure: bool,
-    stop: bool,
 }
 
 impl Model for Book {
@@ -55,10 +47,6 @@ impl Book {
         follow_ups(&mut self.ups, self.leases.as_slice(), &entry);
         follow_started(&mut self.started, &entry);
         follow_leases(&mut self.leases, self.entries.len(), &entry);
-        follow_built(&mut self.built, &entry);
-        follow_failed(&mut self.failed, &entry);
-        self.failure = follow_failure(self.failure, &entry);
-        self.stop = follow_stop(self.stop, &entry);
         self.entries.push_reserved(entry);
     }
 
@@ -75,10 +63,6 @@ impl Book {
             leases: Vec::with_capacity(alloc, 1)?,
             started: vec![in alloc; false; drvs]?,
             ups: vec![in alloc; true; machines]?,
-            built: vec![in alloc; false; drvs]?,
-            failed: vec![in alloc; false; drvs]?,
-            failure: false,
-            stop: false,
         })
     }
 
@@ -98,10 +82,6 @@ impl Book {
             leases,
             started: Vec::from_slice(alloc, self.started.as_slice())?,
             ups: Vec::from_slice(alloc, self.ups.as_slice())?,
-            built: Vec::from_slice(alloc, self.built.as_slice())?,
-            failed: Vec::from_slice(alloc, self.failed.as_slice())?,
-            failure: self.failure,
-            stop: self.stop,
         })
     }
 
@@ -167,44 +147,6 @@ impl Book {
         ensures { result ≡ is_taken machine slot (reverse self.now.entries) }
     {
         is_any_on(self.leases.as_slice(), machine, slot)
-    }
-
-    /// Whether derivation `drv` has a live lease.
-    #[tactic(auto, using(crate::proofs::Following::any_reverse))]
-    pub(crate) fn is_leased(&self, drv: u32) -> bool
-        ensures { result ≡ is_leased drv (reverse self.now.entries) }
-    {
-        is_any_of(self.leases.as_slice(), drv)
-    }
-
-    /// Whether derivation `drv` is built.
-    pub(crate) fn is_built(&self, drv: usize) -> bool
-        requires { drv < self.now.drvs }
-        ensures { result ≡ is_built drv (reverse self.now.entries) }
-    {
-        self.built[drv]
-    }
-
-    /// Whether derivation `drv` failed.
-    pub(crate) fn is_failed(&self, drv: usize) -> bool
-        requires { drv < self.now.drvs }
-        ensures { result ≡ is_failed drv (reverse self.now.entries) }
-    {
-        self.failed[drv]
-    }
-
-    /// Whether any derivation failed.
-    pub(crate) fn has_failure(&self) -> bool
-        ensures { result ≡ list_any is_failure (reverse self.now.entries) }
-    {
-        self.failure
-    }
-
-    /// Whether a stop was asked for.
-    pub fn has_stop(&self) -> bool
-        ensures { result ≡ has_stop (reverse self.now.entries) }
-    {
-        self.stop
     }
 
     /// Whether derivation `drv` was started since its newest choice.

@@ -52,10 +52,3 @@ pub(crate) fn is_any_on(leases: &[Ticket], machine: u32, slot: u32) -> bool
         .iter()
         .any(|ticket| machine == ticket.machine && slot == ticket.slot)
 }
-
-/// Whether one of these leases is of derivation `drv`.
-pub(crate) fn is_any_of(leases: &[Ticket], drv: u32) -> bool
-    ensures { result ≡ list_any (λ t. drv == t.drv) leases.now }
-{
-    leases.iter().any(|ticket| drv == ticket.drv)
-}

@@ -10,7 +10,6 @@ pub mod inputs;
 pub mod laws;
 pub mod rule;
 mod sameness;
-mod standing;
 pub mod stepping;
 mod tables;
 

@@ -1,8 +1,8 @@
 //! Tables of leases and flags that follow a history entry by entry.
 
-ghost use Rattle.std.specs.Prelude.{◌≡◌, ◌||◌, ◌+◌, ◌<◌, ◌≤◌, length, vec_len, vec_capacity, slice_set};
-ghost use Rattle.nd_history.specs.Kept.{leases_after, started_after, built_after, failed_after, AreUpsAfter, AreLowered};
-ghost use Rattle.nd_history.specs.History.{without, is_stop, is_failure};
+ghost use Rattle.std.specs.Prelude.{◌≡◌, ◌+◌, ◌<◌, ◌≤◌, length, vec_len, vec_capacity, slice_set};
+ghost use Rattle.nd_history.specs.Kept.{leases_after, started_after, AreUpsAfter, AreLowered};
+ghost use Rattle.nd_history.specs.History.{without};
 
 use crate::entry::{Entry, Ticket};
 
@@ -78,44 +78,5 @@ fn put(flags: &mut Vec<bool>, place: usize, flag: bool)
 {
     if place < flags.len() {
         flags[place] = flag;
-    }
-}
-
-/// Follows whether a stop was asked for over one more entry.
-pub(crate) fn follow_stop(stop: bool, entry: &Entry) -> bool
-    ensures { result ≡ (is_stop entry.now || stop) }
-{
-    match entry {
-        Entry::Stop => true,
-        _ => stop,
-    }
-}
-
-/// Follows the flags of built derivations over one more entry.
-pub(crate) fn follow_built(built: &mut Vec<bool>, entry: &Entry)
-    ensures { built.new.items ≡ built_after entry.now built.old.items }
-{
-    if let Entry::Built { drv, .. } = entry {
-        put(built, *drv as usize, true);
-    }
-}
-
-/// Follows the flags of failed derivations over one more entry.
-pub(crate) fn follow_failed(failed: &mut Vec<bool>, entry: &Entry)
-    ensures { failed.new.items ≡ failed_after entry.now failed.old.items }
-{
-    match entry {
-        Entry::NoBuilder { drv } | Entry::Failed { drv, .. } => put(failed, *drv as usize, true),
-        _ => {}
-    }
-}
-
-/// Follows whether anything failed over one more entry.
-pub(crate) fn follow_failure(failure: bool, entry: &Entry) -> bool
-    ensures { result ≡ (is_failure entry.now || failure) }
-{
-    match entry {
-        Entry::NoBuilder { .. } | Entry::Failed { .. } => true,
-        _ => failure,
     }
 }

@@ -21,12 +21,12 @@ use Rattle.nd_stores.specs.declared.copying.Additions.{Additions}
 use Rattle.nd_history.specs.Pumping.{step_drv}
 use Rattle.nd_ledger.specs.Moves.{IsRoomier, IsStepRecorded, IsReadyToStart, IsReadyToEnd}
 use Rattle.nd_ledger.specs.Inner.{IsKept, room_for}
-use Rattle.nd_ledger.specs.Marks.{AreMarked, board_after}
+use Rattle.nd_history.specs.Marks.{AreMarked, board_after}
 use Rattle.nd_history.proofs.Following.{newest_first}
 use Rattle.nd_history.proofs.Legality.{leased_ranged}
 use Rattle.nd_history.proofs.Slots.{load_within}
-use Rattle.nd_ledger.proofs.Boards.{leased_marked}
-use Rattle.nd_ledger.proofs.Marking.{followed}
+use Rattle.nd_history.proofs.Boards.{leased_marked}
+use Rattle.nd_history.proofs.Marking.{followed}
 use Rattle.nd_stores.proofs.Storing.{stored_quiet, stored_same, stored_start, stored_built}
 
 -- one more entry in the book and on the board

@@ -13,7 +13,7 @@ use Rattle.nd_history.specs.Books.{Recorded}
 use Rattle.nd_history.specs.Premises.{Premises}
 use Rattle.nd_history.specs.History.{live as leases, is_started}
 use Rattle.nd_ledger.specs.Refusals.{IsLive}
-use Rattle.nd_ledger.specs.Marks.{board_after}
+use Rattle.nd_history.specs.Marks.{board_after}
 use Rattle.nd_history.specs.References.{ArePathsRight, AreReferencesRight}
 use Rattle.nd_stores.specs.Stored.{Stored, Fits, AreStartAdditions, AreBuiltAdditions, IsUncovered, IsExtra}
 

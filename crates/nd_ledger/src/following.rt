@@ -1,7 +1,7 @@
 //! One more entry: in the book, and on the board.
 
 ghost use Rattle.std.specs.Prelude.{◌≡◌, ◌+◌, ◌<◌, ◌≤◌, ◌++◌, [], ◌∷◌, OnOk, OnErr};
-ghost use Rattle.nd_ledger.specs.Marks.{board_after, CanFollow};
+ghost use Rattle.nd_history.specs.Marks.{board_after, CanFollow};
 ghost use Rattle.nd_ledger.specs.Moves.{IsRoomier, IsStepRecorded};
 
 use nd_failure::Board;

@@ -1,7 +1,7 @@
 use Rattle.std.proofs.Common.{reverse, refl}
 use Rattle.nd_history.specs.declared.entry.Entry.TheVariants.{Chosen}
 use Rattle.nd_history.specs.Premises.{premises_of}
-use Rattle.nd_ledger.proofs.Boards.{can_follow}
+use Rattle.nd_history.proofs.Boards.{can_follow}
 use Rattle.nd_ledger.proofs.Keeping.{kept_step}
 use Rattle.nd_ledger.proofs.dispatch.Dispatch.admit_choice.Goals as goal
 

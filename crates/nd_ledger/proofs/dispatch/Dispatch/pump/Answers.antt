@@ -6,7 +6,7 @@ use Rattle.nd_history.proofs.Following.{newest_first}
 use Rattle.nd_ledger.proofs.Keeping.{kept_step, step_quiet}
 use Rattle.nd_history.proofs.Resting.{waits_for_leases}
 use Rattle.nd_history.proofs.Steps.{pumped_more, pump_smaller, pump_counted}
-use Rattle.nd_ledger.proofs.Boards.{can_follow}
+use Rattle.nd_history.proofs.Boards.{can_follow}
 use Rattle.nd_ledger.proofs.dispatch.Dispatch.pump.Goals as goal
 
 pub loop-step-preserved : goal.loop-step-preserved

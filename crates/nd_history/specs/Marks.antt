@@ -1,5 +1,6 @@
 -- What a history says of each derivation, as the marks of a board, and how a board follows a history entry by entry.
--- The histories of these definitions stand newest first. The type `Dispatch` keeps `AreMarked`; the rest serves private clauses.
+-- The histories of these definitions stand newest first.
+-- Public clauses cite `AreMarked`; the rest serves private ones.
 use Rattle.std.specs.Prelude.{◌≡◌, ℕ, ◌<◌, true, if◌then◌else◌, List, length, slice_set}
 use Rattle.nd_graph.specs.Graphs.{rows_of}
 use Rattle.nd_failure.specs.declared.status.Mark.{Mark}

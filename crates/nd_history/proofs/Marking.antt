@@ -14,7 +14,7 @@ use Rattle.nd_history.specs.Premises.{Premises}
 use Rattle.nd_history.specs.History.{live, is_built, is_failed, is_leased, has_stop}
 use Rattle.nd_history.specs.Standing.{drvs_in, IsReady}
 use Rattle.nd_history.specs.Legal.{IsLegal, IsAllowed}
-use Rattle.nd_ledger.specs.Marks.{mark_in, AreMarked, board_after}
+use Rattle.nd_history.specs.Marks.{mark_in, AreMarked, board_after}
 use Rattle.nd_history.proofs.Legality.{gone, leased_fresh}
 
 -- one mark was set

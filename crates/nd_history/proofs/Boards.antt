@@ -1,7 +1,8 @@
 -- A board that follows a legal history says what the history says: of what is ready, of each status and of the counts.
-use Rattle.std.proofs.Common.{◌≡◌, ◌⊎◌, ℕ, ◌<◌, ◌≤◌, Bool, true, false, not, ◌==◌, ◌&&◌, ◌||◌, if◌then◌else◌, List, [], ◌∷◌, length, Contains, refl, sym, ap, ◌∙◌, subst, arith, inl, inr, eq-eqb}
+use Rattle.std.proofs.Common.{◌≡◌, ◌↔◌, ◌⊎◌, ℕ, ◌<◌, ◌≤◌, Bool, true, false, not, ◌==◌, ◌&&◌, ◌||◌, if◌then◌else◌, List, [], ◌∷◌, length, Contains, refl, sym, ap, ◌∙◌, subst, arith, inl, inr, eq-eqb}
 use Rattle.std.proofs.lemmas.Bool.{cases_lt, cases_eq, ne_eqb, false_from_ne_true}
 use Rattle.std.proofs.lemmas.List.{get_or_past}
+use Rattle.std.specs.Bool.{MatchBool}
 use Rattle.std.specs.List.{list_any}
 use Rattle.nd_graph.specs.Walks.{inputs_of, IsBelow}
 use Rattle.nd_failure.specs.declared.status.Counts.{Counts}
@@ -20,7 +21,7 @@ use Rattle.nd_history.specs.Standing.{drvs_in, HasFailedBelow, IsOpen, IsReady}
 use Rattle.nd_history.specs.Statuses.{HasStatusIn, AreCountsIn}
 use Rattle.nd_history.specs.Legal.{IsLegal, IsAllowed}
 use Rattle.nd_history.proofs.Legality.{leased_fresh, leased_ranged, built_settled}
-use Rattle.nd_ledger.specs.Marks.{mark_in, AreMarked, CanFollow}
+use Rattle.nd_history.specs.Marks.{mark_in, AreMarked, CanFollow}
 
 -- ---- nothing is said of a number that is no derivation
 
@@ -272,7 +273,7 @@ status_marked i past p legal was d status.Waiting h = (
   λ below. h.spared (inr (below_said i past p legal was d below)),
 )
 
-ready_said : (i : Premises) (past : List Entry) (p : Progress) → IsLegal i past → AreMarked i past p → (d : ℕ) → board.IsReady p d → IsReady i past d
+pub ready_said : (i : Premises) (past : List Entry) (p : Progress) → IsLegal i past → AreMarked i past p → (d : ℕ) → board.IsReady p d → IsReady i past d
 ready_said i past p legal was d ready = record {
   node = (let long = ap (λ (rows : List (List ℕ)). length rows) was.inputs in let lt = ready.node in omega arith);
   waiting = status_said i past p legal was d status.Waiting ready.waiting;
@@ -293,6 +294,19 @@ ready_marked i past p legal was d ready = record {
         built_marked i past p legal was c (ready.inputs.built c (subst P was.inputs h));
   };
 }
+
+-- the board and the history say the same of what is ready
+pub ready_both : (i : Premises) (past : List Entry) (p : Progress) → IsLegal i past → AreMarked i past p → (d : ℕ) → board.IsReady p d ↔ IsReady i past d
+ready_both i past p legal was d = (ready_said i past p legal was d, ready_marked i past p legal was d)
+
+-- what a test of the board denies, the history denies
+pub unready_told : (i : Premises) (past : List Entry) (p : Progress) → IsLegal i past → AreMarked i past p → (d : ℕ) (b : Bool) → MatchBool b (board.IsReady p d) (board.IsReady p d → ⊥) → b ≡ false → IsReady i past d → ⊥
+unready_told i past p legal was d true h is = cc
+unready_told i past p legal was d false h is = λ ready. h ((ready_both i past p legal was d).1 ready)
+
+-- a derivation has its place on the board
+pub on_board : (i : Premises) (past : List Entry) (p : Progress) (d : ℕ) → AreMarked i past p → d < drvs_in i → d < length p.inputs
+on_board i past p d was lt = let long = ap (λ (rows : List (List ℕ)). length rows) was.inputs in omega arith
 
 -- a board that follows the history can follow whatever entry is allowed next
 pub can_follow : (i : Premises) (past : List Entry) (p : Progress) (e : Entry) → IsLegal i past → AreMarked i past p → IsAllowed i e past → CanFollow p e
