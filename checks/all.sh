@@ -4,6 +4,7 @@
 #
 #     checks/all.sh [--long]
 #
+# explain.sh       what --explain says of each refusal, and README.md's table of them; needs the built program
 # farm.sh          the replies and the paths of the bundled example; needs the built program
 # runs.py          runs on threads, and the audit of their histories; needs the built program and Python 3
 # allocations.sh   each allocation refused in turn; needs the built program, a C compiler, and the tests of

@@ -1,0 +1,4 @@
+pub mod Parts
+pub mod Excerpts
+pub mod Causes
+pub mod Cures
