@@ -1,8 +1,9 @@
 //! Reports, by the worked examples.
 
-use crate::bundles::{CHAIN, TWO_PLAIN};
-use crate::parks::{Park, reports};
+use crate::replaying::reports;
 use crate::texts::STORED;
+use nd_test_fixtures::bundles::{CHAIN, PLAIN_2};
+use nd_test_fixtures::parks::{Park, builders_alone};
 
 /// The report of the stored run.
 pub const STORED_REPORT: &[u8] =
@@ -18,18 +19,14 @@ const EMPTY_REPORT: &[u8] =
 
 #[test]
 fn stored_run(rt: HostRuntime) {
-    let park = Park {
-        bundle: CHAIN,
-        builders: "m",
-        jobs: 0,
-    };
+    let park = builders_alone(CHAIN, "m");
     assert!(rt; reports(rt.alloc(), &park, STORED, STORED_REPORT));
 }
 
 #[test]
 fn drained_local(rt: HostRuntime) {
     let park = Park {
-        bundle: TWO_PLAIN,
+        bundle: PLAIN_2,
         builders: "",
         jobs: 1,
     };

@@ -1,8 +1,7 @@
-//! The lines of entries and replies. A store path is told by its name alone, since no two paths of the
-//! examples have the same one.
+//! The lines of entries. A store path is told by its name alone, since no two paths of the examples have
+//! the same one.
 
-use nd_hook::Reply;
-use nd_ledger::{Dispatch, Entry, Why};
+use nd_ledger::{Entry, Why};
 use nd_path::PathSet;
 use std::alloc::{AllocError, Global};
 
@@ -67,11 +66,7 @@ fn push_head(alloc: Global, lines: &mut Vec<u8>, entry: &Entry) -> Result<(), Al
 }
 
 /// Writes the line of an entry.
-pub(crate) fn push_entry(
-    alloc: Global,
-    lines: &mut Vec<u8>,
-    entry: &Entry,
-) -> Result<(), AllocError> {
+fn push_entry(alloc: Global, lines: &mut Vec<u8>, entry: &Entry) -> Result<(), AllocError> {
     push_head(alloc, lines, entry)?;
     match entry {
         Entry::Started { paths, .. } => push_names(lines, paths)?,
@@ -83,32 +78,11 @@ pub(crate) fn push_entry(
     Ok(())
 }
 
-/// Writes the URI of the machine at this place.
-fn push_uri(lines: &mut Vec<u8>, dispatch: &Dispatch, place: usize) -> Result<(), AllocError> {
-    if let Some(machine) = dispatch.machines().get(place) {
-        lines.extend_from_slice(machine.uri())?;
-        lines.push(b'\n')?;
+/// The lines of these entries.
+pub fn told(alloc: Global, history: &[Entry]) -> Result<Vec<u8>, AllocError> {
+    let mut lines = Vec::new(alloc);
+    for entry in history {
+        push_entry(alloc, &mut lines, entry)?;
     }
-    Ok(())
-}
-
-/// Writes the reply about a derivation, and the URI of an accepted machine on a line of its own.
-pub(crate) fn push_reply(
-    lines: &mut Vec<u8>,
-    dispatch: &Dispatch,
-    drv: u32,
-) -> Result<(), AllocError> {
-    let drv = drv as usize;
-    if drv >= dispatch.graph().len() {
-        return Ok(());
-    }
-    match dispatch.ask(drv) {
-        Reply::Accept(place) => {
-            lines.extend_from_slice(b"# accept\n")?;
-            push_uri(lines, dispatch, place)
-        }
-        Reply::Postpone => lines.extend_from_slice(b"# postpone\n"),
-        Reply::Decline => lines.extend_from_slice(b"# decline\n"),
-        Reply::DeclinePermanently => lines.extend_from_slice(b"# decline-permanently\n"),
-    }
+    Ok(lines)
 }

@@ -1,79 +1,11 @@
-//! The worked examples of copies, references and their refusals.
+//! What a lease's start wants, copies of a dispatch, and a local machine that is drained.
 
-use crate::graphs::{Bundle, S1, S2, S3};
-use crate::playing::{Park, builders_alone, close, dispatch_of, gives, make};
-use nd_closure::{InfoError, parse_info};
+use crate::calls::make;
 use nd_ledger::{Dispatch, Ticket};
 use nd_path::PathSet;
+use nd_test_fixtures::bundles::{FLIGHT, PLAIN_2, S1, S2, S3};
+use nd_test_fixtures::parks::{Park, builders_alone, close, dispatch_of};
 use std::alloc::Global;
-
-#[test]
-fn copies_in_flight(rt: HostRuntime) {
-    let script =
-        "startwith 1 s3\nstartwith 0 s1 s2\nstartwith 1 s1 s2 s3\nstartwith 1 s1 s3\nstart 1";
-    let lines =
-        "chosen 0 1 0\nchosen 1 1 1\nrefused Uncovered\nstarted 0 s1 s2\nrefused Extra\nstarted 1 s1 s3\nrefused AlreadyStarted\n";
-    assert!(rt;
-        gives(
-            rt.alloc(),
-            Bundle::Sources,
-            &builders_alone("m - - 2"),
-            script,
-            lines
-        )
-    );
-}
-
-#[test]
-fn bad_endings(rt: HostRuntime) {
-    let script = "startwith 0 s1 s2\nstartwith 1 s1 s3\nbuilt 0 o s3\ndown 0\nfail 0 3\nfail 0 3";
-    let lines =
-        "chosen 0 1 0\nchosen 1 1 1\nstarted 0 s1 s2\nstarted 1 s1 s3\nrefused BadReferences\nrefused AlreadyStarted\nfailed 0 status 3\nrefused NotLive\n";
-    assert!(rt;
-        gives(
-            rt.alloc(),
-            Bundle::Sources,
-            &builders_alone("m - - 2"),
-            script,
-            lines
-        )
-    );
-}
-
-#[test]
-fn shared_output(rt: HostRuntime) {
-    let script = "start 0\nstart 1\nbuilt 0 o s1\nbuilt 1 o s2\nstartwith 2 s2\nstart 2";
-    let lines =
-        "chosen 0 1 0\nchosen 1 1 1\nstarted 0 s1\nstarted 1 s2\nbuilt 0 o s1\nchosen 2 1 0\nbuilt 1 o s2\nrefused Extra\nstarted 2\n";
-    assert!(rt;
-        gives(
-            rt.alloc(),
-            Bundle::OneOutput,
-            &builders_alone("m - - 3"),
-            script,
-            lines
-        )
-    );
-}
-
-#[test]
-fn info_references(rt: HostRuntime) {
-    let park = Park {
-        info: "/nix/store/pppppppppppppppppppppppppppppppp-s1 /nix/store/qqqqqqqqqqqqqqqqqqqqqqqqqqqqqqqq-s2",
-        ..builders_alone("m")
-    };
-    let lines = "chosen 0 1 0\nrefused NotStarted\nstarted 0 s1 s2\n";
-    assert!(rt;
-        gives(
-            rt.alloc(),
-            Bundle::OneSource,
-            &park,
-            "built 0\nstart 0",
-            lines
-        )
-    );
-    assert!(rt; matches!(parse_info(rt.alloc(), b"\n"), Err(InfoError::BadLine(1))));
-}
 
 /// Whether the set holds just these paths, in this order.
 fn holds(set: &PathSet, texts: &[&str]) -> bool {
@@ -131,7 +63,7 @@ fn lacks_less(alloc: Global, dispatch: &mut Dispatch) -> bool {
 
 /// The same on a new dispatch. Want of memory is a no.
 fn are_jobs_right(alloc: Global) -> bool {
-    match dispatch_of(alloc, Bundle::Sources, &builders_alone("m - - 2")) {
+    match dispatch_of(alloc, &builders_alone(FLIGHT, "m - - 2")) {
         Ok(mut dispatch) => {
             let right = lacks_less(alloc, &mut dispatch);
             close(dispatch);
@@ -182,7 +114,7 @@ fn is_followed(alloc: Global, dispatch: &mut Dispatch) -> bool {
 
 /// The same on a new dispatch. Want of memory is a no.
 fn are_copies_right(alloc: Global) -> bool {
-    match dispatch_of(alloc, Bundle::Sources, &builders_alone("m - - 2")) {
+    match dispatch_of(alloc, &builders_alone(FLIGHT, "m - - 2")) {
         Ok(mut dispatch) => {
             let right = is_followed(alloc, &mut dispatch);
             close(dispatch);
@@ -195,4 +127,36 @@ fn are_copies_right(alloc: Global) -> bool {
 #[test]
 fn copies_of_a_dispatch(rt: HostRuntime) {
     assert!(rt; are_copies_right(rt.alloc()));
+}
+
+/// Two plain derivations and a local machine with one job.
+const AT_HOME: Park = Park {
+    bundle: PLAIN_2,
+    builders: "",
+    jobs: 1,
+};
+
+/// Whether the local machine is down once it is drained, with one slot taken.
+fn goes_down(dispatch: &mut Dispatch) -> bool {
+    if dispatch.pump().is_err() || dispatch.drain(0).is_err() {
+        return false;
+    }
+    !dispatch.up(0) && dispatch.taken(0) == 1
+}
+
+/// The same on a new dispatch. Want of memory is a no.
+fn is_drained(alloc: Global) -> bool {
+    match dispatch_of(alloc, &AT_HOME) {
+        Ok(mut dispatch) => {
+            let down = goes_down(&mut dispatch);
+            close(dispatch);
+            down
+        }
+        Err(_) => false,
+    }
+}
+
+#[test]
+fn drained_local(rt: HostRuntime) {
+    assert!(rt; is_drained(rt.alloc()));
 }

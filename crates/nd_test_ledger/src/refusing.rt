@@ -1,18 +1,13 @@
 //! What stands after a call on a dispatch was refused for want of memory. The tests pass with ample
 //! memory too: `checks/allocations.sh` refuses their allocations in turn.
 
-use crate::graphs::Bundle;
-use crate::playing::{Unplayed, builders_alone, close, dispatch_of, make, push_entries};
+use crate::calls::make;
 use nd_ledger::{Dispatch, Refusal, Why};
-use std::alloc::{AllocError, Global};
+use nd_test_fixtures::bundles::FLIGHT;
+use nd_test_fixtures::entries::told;
+use nd_test_fixtures::parks::{Unmade, builders_alone, close, dispatch_of};
+use std::alloc::Global;
 use std::test::Fail;
-
-/// The lines of the whole history.
-fn told(alloc: Global, dispatch: &Dispatch) -> Result<Vec<u8>, AllocError> {
-    let mut lines = Vec::new(alloc);
-    push_entries(alloc, &mut lines, dispatch, 0)?;
-    Ok(lines)
-}
 
 /// Whether each live lease of the two derivations is ended by `failed`, and `stop` succeeds then.
 fn ends(dispatch: &mut Dispatch) -> bool {
@@ -36,11 +31,11 @@ enum Ending {
 }
 
 /// Makes one call. Where it is refused for want of memory, the history is to be as before.
-fn call(alloc: Global, dispatch: &mut Dispatch, line: &str) -> Result<Ending, Unplayed> {
-    let before = told(alloc, dispatch)?;
+fn call(alloc: Global, dispatch: &mut Dispatch, line: &str) -> Result<Ending, Unmade> {
+    let before = told(alloc, dispatch.history())?;
     match make(alloc, dispatch, line) {
         Err(Refusal::Memory) => {
-            let after = told(alloc, dispatch)?;
+            let after = told(alloc, dispatch.history())?;
             let same = after.as_slice() == before.as_slice();
             Ok(Ending::Refused(same && ends(dispatch)))
         }
@@ -49,11 +44,11 @@ fn call(alloc: Global, dispatch: &mut Dispatch, line: &str) -> Result<Ending, Un
 }
 
 /// Pumps. Where this is refused, the steps made are to stand: they are the first of these.
-fn pump(alloc: Global, dispatch: &mut Dispatch, steps: &str) -> Result<Ending, Unplayed> {
-    let before = told(alloc, dispatch)?;
+fn pump(alloc: Global, dispatch: &mut Dispatch, steps: &str) -> Result<Ending, Unmade> {
+    let before = told(alloc, dispatch.history())?;
     match dispatch.pump() {
         Err(_) => {
-            let after = told(alloc, dispatch)?;
+            let after = told(alloc, dispatch.history())?;
             let made = after.as_slice().get(before.len()..).unwrap_or(b"");
             let stand = after.as_slice().starts_with(before.as_slice());
             let first = steps.as_bytes().starts_with(made);
@@ -64,15 +59,15 @@ fn pump(alloc: Global, dispatch: &mut Dispatch, steps: &str) -> Result<Ending, U
 }
 
 /// Asks for the job of a lease. Where this is refused, the history is to be as before.
-fn ask_job(alloc: Global, dispatch: &mut Dispatch, drv: u32) -> Result<Ending, Unplayed> {
-    let before = told(alloc, dispatch)?;
+fn ask_job(alloc: Global, dispatch: &mut Dispatch, drv: u32) -> Result<Ending, Unmade> {
+    let before = told(alloc, dispatch.history())?;
     let Some(ticket) = dispatch.lease(drv) else {
-        return Err(Unplayed::Input);
+        return Err(Unmade::Input);
     };
     if dispatch.job(alloc, &ticket).is_ok() {
         return Ok(Ending::Ample);
     }
-    let after = told(alloc, dispatch)?;
+    let after = told(alloc, dispatch.history())?;
     let same = after.as_slice() == before.as_slice();
     Ok(Ending::Refused(same && ends(dispatch)))
 }
@@ -82,7 +77,7 @@ const CALLS: &str =
     "startwith 1 s3\nstartwith 0 s1 s2\nstartwith 1 s1 s2 s3\nstartwith 1 s1 s3\nstart 1\nbuilt 0 o s1\ndrain 1\nenable 1\nbuilt 1 o s3";
 
 /// Makes these calls until one is refused for want of memory.
-fn calls(alloc: Global, dispatch: &mut Dispatch) -> Result<Ending, Unplayed> {
+fn calls(alloc: Global, dispatch: &mut Dispatch) -> Result<Ending, Unmade> {
     for line in CALLS.split('\n') {
         let ending = call(alloc, dispatch, line)?;
         if ending != Ending::Ample {
@@ -93,7 +88,7 @@ fn calls(alloc: Global, dispatch: &mut Dispatch) -> Result<Ending, Unplayed> {
 }
 
 /// A pump, a job and these calls, until one is refused for want of memory.
-fn run(alloc: Global, dispatch: &mut Dispatch) -> Result<Ending, Unplayed> {
+fn run(alloc: Global, dispatch: &mut Dispatch) -> Result<Ending, Unmade> {
     let pumped = pump(alloc, dispatch, "chosen 0 1 0\nchosen 1 1 1\n")?;
     if pumped != Ending::Ample {
         return Ok(pumped);
@@ -106,8 +101,8 @@ fn run(alloc: Global, dispatch: &mut Dispatch) -> Result<Ending, Unplayed> {
 }
 
 /// The same on a new dispatch.
-fn copies(alloc: Global) -> Result<Ending, Unplayed> {
-    match dispatch_of(alloc, Bundle::Sources, &builders_alone("m - - 2")) {
+fn copies(alloc: Global) -> Result<Ending, Unmade> {
+    match dispatch_of(alloc, &builders_alone(FLIGHT, "m - - 2")) {
         Ok(mut dispatch) => {
             let ending = run(alloc, &mut dispatch);
             close(dispatch);
@@ -121,7 +116,7 @@ fn copies(alloc: Global) -> Result<Ending, Unplayed> {
 fn allocations_refused(rt: HostRuntime) -> Result<(), Fail> {
     let ending = copies(rt.alloc());
     assert_ne!(rt; ending, Ok(Ending::Refused(false)));
-    assert_ne!(rt; ending, Err(Unplayed::Input));
+    assert_ne!(rt; ending, Err(Unmade::Input));
     if ending == Ok(Ending::Refused(true)) {
         println!(rt; "a call was refused")?;
     }

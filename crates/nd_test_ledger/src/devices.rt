@@ -1,51 +1,26 @@
 //! Writers that refuse a write.
 
-use crate::bundles::CHAIN;
-use crate::parks::{Park, replayed};
+use crate::replaying::replayed;
 use crate::reports::STORED_REPORT;
 use crate::texts::STORED;
 use nd_hook::{Told, WriteError};
 use nd_ledger::{Dispatch, Entry};
 use nd_report::{read_history, write_history, write_report};
-use std::alloc::{AllocError, Global};
-use std::io;
+use nd_test_fixtures::bundles::CHAIN;
+use nd_test_fixtures::devices::CountedWriter;
+use nd_test_fixtures::parks::{builders_alone, close};
+use std::alloc::Global;
 
-/// A writer that takes at most 100 bytes at a call, and after `left` calls refuses.
-#[derive(Drop)]
-struct Failing {
-    bytes: Vec<u8>,
-    left: usize,
-}
-
-impl io::Write for Failing {
-    fn write(&mut self, buf: &[u8]) -> io::Result<usize> {
-        if self.left == 0 {
-            return Err(io::Error::from(AllocError));
-        }
-        self.left -= 1;
-        let taken = buf.len().min(100);
-        self.bytes.extend_from_slice(&buf[..taken])?;
-        Ok(taken)
-    }
-
-    fn flush(&mut self) -> io::Result<()> {
-        Ok(())
-    }
-}
-
-/// A writer that refuses after `left` calls.
-fn failing_after(alloc: Global, left: usize) -> Told<Failing> {
-    Told::new(Failing {
-        bytes: Vec::new(alloc),
-        left,
-    })
+/// A writer that takes at most 100 bytes at a time, and refuses after `left` writes.
+fn failing_after(alloc: Global, left: usize) -> Told<CountedWriter> {
+    Told::new(CountedWriter::new(alloc, 100, left, false))
 }
 
 /// Whether a writer took this part of a text and no more, and was marked.
-fn took(out: Told<Failing>, text: &[u8], part: usize) -> bool {
+fn took(out: Told<CountedWriter>, text: &[u8], part: usize) -> bool {
     let marked = out.marked();
-    let Failing { bytes, left: _ } = out.into_inner();
-    marked && bytes.len() == part && text.starts_with(bytes.as_slice())
+    let writer = out.into_inner();
+    marked && writer.bytes().len() == part && text.starts_with(writer.bytes())
 }
 
 /// Whether the history is refused after so many writes of 100 bytes, which are out.
@@ -80,15 +55,10 @@ fn breaks_report(alloc: Global, dispatch: &Dispatch, left: usize) -> bool {
 
 /// Whether the stored run's report is refused after so many writes.
 fn breaks_stored_report(alloc: Global, left: usize) -> bool {
-    let park = Park {
-        bundle: CHAIN,
-        builders: "m",
-        jobs: 0,
-    };
-    match replayed(alloc, &park, STORED) {
+    match replayed(alloc, &builders_alone(CHAIN, "m"), STORED) {
         Some(dispatch) => {
             let breaks = breaks_report(alloc, &dispatch, left);
-            drop(dispatch);
+            close(dispatch);
             breaks
         }
         None => false,
