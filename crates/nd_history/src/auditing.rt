@@ -2,7 +2,6 @@
 
 ghost use Rattle.std.specs.Prelude.{◌≡◌, ◌+◌, ◌<◌, ◌≤◌, ◌↔◌, IsTrue, length, reverse};
 ghost use Rattle.nd_history.specs.Premises.{premises_of};
-ghost use Rattle.nd_history.specs.History.{is_taken};
 ghost use Rattle.nd_history.specs.Standing.{drvs_in, IsReady};
 ghost use Rattle.nd_history.specs.Choices.{machines_in, jobs_of};
 ghost use Rattle.nd_history.specs.Legal.{IsInRange, IsLeastFree};
@@ -76,22 +75,17 @@ pub fn is_in_range(inputs: &Inputs, entry: &Entry) -> bool
 }
 
 /// Whether this is the least slot of the machine that no live lease is on.
+#[tactic(auto, using(crate::proofs::Slots::least_once))]
 fn is_least_free(book: &Book, machine: u32, slot: u32) -> bool
+    requires { machine < book.now.machines }
     ensures { IsTrue result ↔ IsLeastFree (reverse book.now.entries) machine slot }
 {
-    if book.is_taken(machine, slot) {
-        return false;
-    }
-    for earlier in 0..slot {
-        if !book.is_taken(machine, earlier) {
-            return false;
-        }
-    }
-    true
+    book.least_free(machine) == slot as usize
 }
 
 /// Refuses with `Slot` a slot that isn't the machine's least free one.
 fn check_slot(book: &Book, machine: u32, slot: u32) -> Result<(), Rule>
+    requires { machine < book.now.machines }
     ensures { IsSlotJudged (reverse book.now.entries) machine slot result }
 {
     if is_least_free(book, machine, slot) {

@@ -5,12 +5,13 @@ use Rattle.std.specs.List.{list_any, filter, find}
 use Rattle.nd_ledger.specs.declared.dispatch.Dispatch.TheInside.{Inside}
 use Rattle.nd_history.specs.declared.entry.Entry.{Entry}
 use Rattle.nd_history.specs.declared.entry.Entry.TheVariants.{Chosen, NoBuilder, Started, Down, Built, Failed, Stop, Drain, Enable}
-use Rattle.nd_history.specs.declared.entry.Ticket.{Ticket}
+use Rattle.nd_leases.specs.declared.ticket.Ticket.{Ticket}
 use Rattle.nd_history.specs.declared.entry.Why.{Why}
 use Rattle.nd_history.specs.Books.{Recorded}
 use Rattle.nd_history.specs.Premises.{Premises, premises_of}
 use Rattle.nd_failure.specs.Progress.{Progress, IsLeased}
-use Rattle.nd_history.specs.History.{live, without, load, is_leased, lease_of, is_started, has_stop}
+use Rattle.nd_history.specs.History.{live, load, is_leased, lease_of, is_started, has_stop}
+use Rattle.nd_leases.specs.Tickets.{without}
 use Rattle.nd_graph.specs.Graphs.{IsSound}
 use Rattle.nd_history.specs.Standing.{drvs_in}
 use Rattle.nd_history.specs.Choices.{AreSmall}

@@ -7,7 +7,7 @@ use Rattle.nd_stores.specs.declared.copying.Additions.{Additions}
 use Rattle.nd_stores.specs.declared.copying.PathsFault.{PathsFault}
 use Rattle.nd_stores.specs.declared.copying.PathsFault.TheVariants.{Uncovered as Bare, Extra as Beside, Memory as NoMemory}
 use Rattle.nd_history.specs.declared.entry.Entry.{Entry}
-use Rattle.nd_history.specs.declared.entry.Ticket.{Ticket}
+use Rattle.nd_leases.specs.declared.ticket.Ticket.{Ticket}
 use Rattle.nd_failure.specs.Progress.{Progress}
 use Rattle.nd_history.specs.Books.{Recorded}
 use Rattle.nd_history.specs.Premises.{Premises}

@@ -1,7 +1,7 @@
 //! What one stand-in answers.
 
 use nd_closure::Refs;
-use nd_history::Ticket;
+use nd_leases::Ticket;
 use nd_ledger::Job;
 use nd_path::{PathSet, StorePath};
 use nd_workers::{Ended, Fetch, Outcome, Phase, Rule, StandIn, Transport, serve_build, serve_copy};

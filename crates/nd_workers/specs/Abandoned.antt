@@ -5,11 +5,12 @@ use Rattle.std.specs.Prelude.{◌≡◌, ◌≢◌, ℕ, Bool, ◌&&◌, ◌==�
 use Rattle.std.specs.List.{filter_map, flat_map, list_any, range_with_len}
 use Rattle.nd_history.specs.declared.entry.Entry.{Entry}
 use Rattle.nd_history.specs.declared.entry.Entry.TheVariants.{Failed, Stop}
-use Rattle.nd_history.specs.declared.entry.Ticket.{Ticket}
+use Rattle.nd_leases.specs.declared.ticket.Ticket.{Ticket}
 use Rattle.nd_history.specs.declared.entry.Why.TheVariants.{NoWorker}
 use Rattle.nd_history.specs.Premises.{Premises}
 use Rattle.nd_history.specs.Choices.{machines_in, jobs_of}
-use Rattle.nd_history.specs.History.{same_place, current_of, has_stop}
+use Rattle.nd_history.specs.History.{current_of, has_stop}
+use Rattle.nd_leases.specs.Tickets.{same_place}
 
 -- the places of machine m: it with each of its slots
 abbrev pub places_on : Premises → ℕ → List (ℕ × ℕ)

@@ -2,7 +2,7 @@
 use Rattle.std.specs.Prelude.{◌≡◌, ℕ, ◌<◌, Bool, true, ◌&&◌, ◌==◌, List, ◌++◌, length, map, drop, count_by, nat_lt, reverse, Option, Some, Vec}
 use Rattle.std.specs.List.{AllZip, zip, list_all}
 use Rattle.nd_history.specs.declared.entry.Entry.{Entry}
-use Rattle.nd_history.specs.History.{same_place}
+use Rattle.nd_leases.specs.Tickets.{same_place}
 use Rattle.nd_history.specs.Premises.{Premises}
 use Rattle.nd_history.specs.Choices.{machines_in, jobs_of}
 use Rattle.nd_history.specs.Statuses.{IsFinished}
