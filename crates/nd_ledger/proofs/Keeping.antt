@@ -208,7 +208,7 @@ step_quiet e d h = refl
 pub kept_step : (d : Inside) (book : Recorded) (board : Progress) (e : Entry) → IsStepRecorded d.book book d.board board e → IsKept d → IsAllowed (premises_of d.inputs) e (reverse d.book.entries) → is_quiet e ≡ true → IsKept (record d { book = book; board = board })
 kept_step d book board e rec was allowed quiet =
     let had = rec.room in
-    let roomy : Recorded = record { entries = d.book.entries; room = book.room + 1; drvs = book.drvs; machines = book.machines } in
+    let roomy : Recorded = record { entries = d.book.entries; room = book.room + 1; drvs = book.drvs; machines = book.machines; rooms = book.rooms } in
     kept_more d roomy book board e 1
     (record { entries = refl; drvs = rec.drvs; machines = rec.machines; room = rec.kept; more = omega arith })
     (record { entries = rec.entries; room = omega arith; drvs = refl; machines = refl; board = rec.board })
