@@ -4,10 +4,11 @@
 #
 #     checks/all.sh [--long]
 #
+# explain.sh       what --explain says of each refusal, and README.md's table of them; needs the built program
 # farm.sh          the replies and the paths of the bundled example; needs the built program
 # runs.py          runs on threads, and the audit of their histories; needs the built program and Python 3
 # allocations.sh   each allocation refused in turn; needs the built program, a C compiler, and the tests of
-#                  `nd_lease_examples` that `rt test` leaves in its folder
+#                  `nd_test_ledger` that `rt test` leaves in its folder
 # wrong-bodies.sh  the wrong bodies that the gate leaves out; needs the toolchain, and takes hours, so it is
 #                  run with --long alone
 #
@@ -16,7 +17,7 @@
 set -u
 cd "$(dirname "$0")/.." || exit 2
 program=crates/nix_dispatch/out/nix_dispatch
-tests=crates/nd_lease_examples/out/nd_lease_examples_tests
+tests=crates/nd_test_ledger/out/nd_test_ledger_tests
 long=
 if [ "$*" = --long ]; then
   long=yes
@@ -39,7 +40,7 @@ needs_of() {
 wanting() {
   case $1 in
     program) [ -x "$program" ] || echo 'the program is not built: ./build' ;;
-    tests) [ -x "$tests" ] || echo 'the tests are not built: cd crates/nd_lease_examples && rt test' ;;
+    tests) [ -x "$tests" ] || echo 'the tests are not built: cd crates/nd_test_ledger && rt test' ;;
     time) [ -n "$long" ] || echo 'it takes hours: checks/all.sh --long' ;;
     *) command -v "$1" > /dev/null || echo "there is no $1" ;;
   esac

@@ -3,7 +3,7 @@
 # for `ask`, `path`, `sim` and `audit`. Each run must end with the ample output and its status, or with
 # status 5, the line "nix-dispatch: out of memory" and no output, or for `sim` the beginning of the ample
 # output. A run ends in one of its ways, and its history is legal. Then it does so to the built test
-# `allocations_refused` of `nd_lease_examples`, which looks at what a refused call on a dispatch leaves: each
+# `allocations_refused` of `nd_test_ledger`, which looks at what a refused call on a dispatch leaves: each
 # run of it must pass. It needs a C compiler, the program, and the tests that `rt test` leaves.
 set -u
 cd "$(dirname "$0")/.."
@@ -77,7 +77,7 @@ while [ "$number" -le $((last + 200)) ]; do
 done
 echo "run: $refused runs were not the ample one, the last at allocation $last, and each history is legal"
 
-tests=crates/nd_lease_examples/out/nd_lease_examples_tests
+tests=crates/nd_test_ledger/out/nd_test_ledger_tests
 number=1
 refused=0
 quiet=0

@@ -1,6 +1,6 @@
 -- What the calls on derivation texts answer.
 -- Public clauses cite this.
-use Rattle.std.specs.Prelude.{ℕ, ◌<◌, ◌≤◌, List, length}
+use Rattle.std.specs.Prelude.{◌≡◌, ℕ, ◌<◌, ◌≤◌, List, length, Result, MatchResult}
 use Rattle.nd_aterm.specs.declared.records.Parts.{Parts}
 use Rattle.nd_aterm.specs.declared.derivations.Derivation.{Derivation}
 use Rattle.nd_aterm.specs.declared.fault.AtermError.{AtermError}
@@ -28,3 +28,7 @@ IsUnwritten p TooLong = (bytes : List ℕ) → Text p bytes → text_limit < len
 IsUnwritten p NotDerivation = ⊥
 IsUnwritten p Order = ⊥
 IsUnwritten p Memory = Unit {0}
+
+-- the answer is so, unless memory runs out
+abbrev pub OkUnlessMemory : {A : Type 0} → Result A AtermError → (A → Type 0) → Type 0
+OkUnlessMemory answer IsSo = MatchResult answer IsSo (λ e. e ≡ Memory)

@@ -1,11 +1,11 @@
 //! Reading and writing of whole derivation texts.
 
-ghost use Rattle.std.specs.Prelude.{◌≡◌, ℕ, ◌≤◌, ◌<◌, List, [], ◌++◌, codes, length, IfOk, IfErr, OnOk, MatchOption, MatchResult};
+ghost use Rattle.std.specs.Prelude.{◌≡◌, ℕ, ◌≤◌, ◌<◌, List, [], ◌++◌, codes, length, IfOk, IfErr, OnOk, MatchOption};
 ghost use Rattle.nd_aterm.specs.declared.records.Parts.{Parts};
 ghost use Rattle.nd_aterm.specs.Derivations.{derivation, Loose, Text};
 ghost use Rattle.nd_aterm.specs.Refusals.{Refuses};
 ghost use Rattle.nd_aterm.specs.Sections.{paths, command, joined};
-ghost use Rattle.nd_aterm.specs.Texts.{parts_of, text_limit, IsRefused, IsUnwritten};
+ghost use Rattle.nd_aterm.specs.Texts.{parts_of, text_limit, IsRefused, IsUnwritten, OkUnlessMemory};
 
 use crate::derivations::Derivation;
 use crate::fault::AtermError;
@@ -147,7 +147,7 @@ pub fn parse(alloc: Global, bytes: &[u8]) -> Result<Derivation, AtermError>
     ensures found { IfOk result (λ d. (length bytes.now ≤ text_limit) × Text (parts_of d) bytes.now) }
     // What has this text is read, unless memory runs out.
     ensures exactly { (p : Parts) → length bytes.now ≤ text_limit → Text p bytes.now
-        → MatchResult result (λ d. parts_of d ≡ p) (λ e. e ≡ AtermError.Memory) }
+        → OkUnlessMemory result (λ d. parts_of d ≡ p) }
     // When each refusal comes.
     ensures refused { IfErr result (IsRefused bytes.now) }
     ensures too_long { text_limit < length bytes.now → result ≡ Err AtermError.TooLong }
@@ -188,7 +188,7 @@ pub fn write(alloc: Global, derivation: &Derivation) -> Result<Vec<u8>, AtermErr
     // A text that isn't too long is written, unless memory runs out.
     ensures exactly { (bytes : List ℕ) → length bytes ≤ text_limit
         → Text (parts_of derivation.now) bytes
-        → MatchResult result (λ text. text.items ≡ bytes) (λ e. e ≡ AtermError.Memory) }
+        → OkUnlessMemory result (λ text. text.items ≡ bytes) }
     // When each refusal comes.
     ensures refused { IfErr result (IsUnwritten (parts_of derivation.now)) }
 {

@@ -1,5 +1,5 @@
 -- What the program reads of an input, and whose fault an answer is. Public clauses cite this.
-use Rattle.std.specs.Prelude.{◌≡◌, ℕ, ◌≤◌, ◌+◌, Bool, true, false, List, length, Option, Result, Ok, Err}
+use Rattle.std.specs.Prelude.{◌≡◌, ℕ, ◌≤◌, ◌+◌, Bool, true, false, List, length, Option, Result, Ok, Err, MatchResult}
 use Rattle.std.specs.Io.KnownBytes.{Consumes, IsAtEnd}
 use Rattle.nd_cli.specs.declared.fault.CliFault.{CliFault}
 use Rattle.nd_cli.specs.declared.fault.CliFault.TheVariants.{Read, Write, Memory}
@@ -39,3 +39,7 @@ is_read_failure (Err e) = is_read_fault e
 abbrev pub is_write_failure : {A : Type 0} → Result A CliFault → Bool
 is_write_failure (Ok _) = false
 is_write_failure (Err e) = is_write_fault e
+
+-- the answer is so, unless memory runs out
+abbrev pub OkUnlessMemory : {A : Type 0} → Result A CliFault → (A → Type 0) → Type 0
+OkUnlessMemory answer IsSo = MatchResult answer IsSo (λ e. e ≡ Memory)

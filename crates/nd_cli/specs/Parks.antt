@@ -1,6 +1,6 @@
 -- What the options and the bundle describe: the graph, the park with its local machine and its builders, and the references
 -- of paths. The clauses of `read_park` and of each engine cite this.
-use Rattle.std.specs.Prelude.{◌≡◌, ◌≢◌, ◌⊎◌, ℕ, ◌<◌, ◌≤◌, List, length, Ok, Err}
+use Rattle.std.specs.Prelude.{◌≡◌, ◌≢◌, ◌⊎◌, ℕ, ◌<◌, ◌≤◌, List, length, Result, Ok, Err}
 use Rattle.nd_machines.specs.Builders.{Builder}
 use Rattle.nd_machines.specs.BuildersList.{builders}
 use Rattle.nd_machines.specs.FeatureSets.{listed}
@@ -11,8 +11,9 @@ use Rattle.nd_graph.specs.declared.fault.GraphError.{GraphError}
 use Rattle.nd_bytes.specs.Lines.{lines_of}
 use Rattle.nd_closure.specs.Info.{AreListed, IsRefused}
 use Rattle.nd_closure.specs.declared.info_error.InfoError.{InfoError}
-use Rattle.nd_cli.specs.Inputs.{limit}
+use Rattle.nd_cli.specs.Inputs.{limit, OkUnlessMemory}
 use Rattle.nd_cli.specs.declared.options.ParkOptions.{ParkOptions}
+use Rattle.nd_cli.specs.declared.park.Park.{Park}
 use Rattle.nd_cli.specs.declared.fault.Place.{Place}
 use Rattle.nd_cli.specs.declared.fault.CliFault.{CliFault}
 use Rattle.nd_cli.specs.declared.fault.CliFault.TheVariants.{Drvs, Builders, Info, TooLarge, Memory}
@@ -77,6 +78,12 @@ pub record AreSameParts (graph same_graph : Nodes) (machines same_machines : Lis
   pub graphs : graph ≡ same_graph
   pub builders : machines ≡ same_machines
   pub references : info ≡ same_info
+
+-- where each of them is accepted, the answer is a park of these parts, unless memory runs out
+abbrev pub AnswersAcceptedPark : ParkOptions → List ℕ → Result Park CliFault → Type 0
+AnswersAcceptedPark options text answer =
+    (graph : Nodes) (machines : List Builder) (info : List (List ℕ × List (List ℕ))) → HasPark options text graph machines info
+    → OkUnlessMemory answer (λ park. AreSameParts park.graph graph park.machines.items machines park.info.entries info)
 
 -- each of them is accepted
 pub record IsParkAccepted (options : ParkOptions) (text : List ℕ) : Type 0 where

@@ -4,8 +4,9 @@ use Rattle.std.specs.Prelude.{◌≡◌, ℕ, ◌<◌, ◌≤◌, Bool, true, Li
 use Rattle.std.specs.Io.KnownBytes.{Appends}
 use Rattle.nd_graph.specs.declared.fault.GraphError.{GraphError}
 use Rattle.nd_graph.specs.DrvPaths.{IsDrvPath, HasNoDrvPath}
+use Rattle.nd_hook.specs.Watched.{Watched}
 use Rattle.nd_hook.specs.Written.{WritesPart}
-use Rattle.nd_cli.specs.Inputs.{limit, ReadsWhole}
+use Rattle.nd_cli.specs.Inputs.{limit, ReadsWhole, is_write_fault}
 use Rattle.nd_cli.specs.declared.fault.Place.{Place}
 use Rattle.nd_cli.specs.declared.fault.DerivationRefusal.{DerivationRefusal}
 use Rattle.nd_cli.specs.declared.fault.DerivationRefusal.TheVariants.{BadPath, BadDerivation}
@@ -18,22 +19,27 @@ pub record HasPath (name text path : List ℕ) : Type 0 where
   pub is : IsDrvPath name text path
 
 -- the path and a newline were written, of a whole input within the limit
-pub record AnswersPath (name : List ℕ) (unread left written_before written : Option (List ℕ)) : Type 0 where
+pub record AnswersPath {R W : Type 0} (name : List ℕ) (remaining : R → Option (List ℕ)) (reader reader_after : Watched R) (contents : W → Option (List ℕ)) (writer writer_after : Watched W) : Type 0 where
   pub text : List ℕ
   pub path : List ℕ
-  pub read : ReadsWhole unread left text
+  pub read : ReadsWhole (remaining reader.device) (remaining reader_after.device) text
   pub within : length text ≤ limit
   pub is : IsDrvPath name text path
-  pub written_is : Appends written_before written (path ++ 10 ∷ [])
+  pub written_is : Appends (contents writer.device) (contents writer_after.device) (path ++ 10 ∷ [])
 
 -- a part of them was written, from the beginning
-pub record AnswersPathInPart (name : List ℕ) (unread left written_before written : Option (List ℕ)) : Type 0 where
+pub record AnswersPathInPart {R W : Type 0} (name : List ℕ) (remaining : R → Option (List ℕ)) (reader reader_after : Watched R) (contents : W → Option (List ℕ)) (writer writer_after : Watched W) : Type 0 where
   pub text : List ℕ
   pub path : List ℕ
-  pub read : ReadsWhole unread left text
+  pub read : ReadsWhole (remaining reader.device) (remaining reader_after.device) text
   pub within : length text ≤ limit
   pub is : IsDrvPath name text path
-  pub part : WritesPart written_before written (path ++ 10 ∷ [])
+  pub part : WritesPart (contents writer.device) (contents writer_after.device) (path ++ 10 ∷ [])
+
+-- what a fault leaves: the writer's, a part of the line
+abbrev pub LeavesPath : {R W : Type 0} → List ℕ → (R → Option (List ℕ)) → Watched R → Watched R → (W → Option (List ℕ)) → Watched W → Watched W → CliFault → Type 0
+LeavesPath name remaining reader reader_after contents writer writer_after e =
+    is_write_fault e ≡ true → AnswersPathInPart name remaining reader reader_after contents writer writer_after
 
 -- why a text within the limit has no path under this name
 abbrev pub as_graph_error : DerivationRefusal → GraphError
@@ -64,18 +70,18 @@ pub record RefusesText (name : List ℕ) (unread left : Option (List ℕ)) (faul
   pub refused : IsTextFault name text fault
 
 -- Why there is no answer: the text is refused, a device failed and is marked, or memory ran out.
-abbrev pub IsPathFault : List ℕ → Option (List ℕ) → Option (List ℕ) → Bool → Bool → CliFault → Type 0
-IsPathFault name unread left reader_marked writer_marked (Derivation refusal) = RefusesText name unread left (Derivation refusal)
-IsPathFault name unread left reader_marked writer_marked (Drvs e) = ⊥
-IsPathFault name unread left reader_marked writer_marked (Builders e) = ⊥
-IsPathFault name unread left reader_marked writer_marked (Info e) = ⊥
-IsPathFault name unread left reader_marked writer_marked (Script e) = ⊥
-IsPathFault name unread left reader_marked writer_marked (Stand e) = ⊥
-IsPathFault name unread left reader_marked writer_marked (History e) = ⊥
-IsPathFault name unread left reader_marked writer_marked (TooLarge place) = RefusesText name unread left (TooLarge place)
-IsPathFault name unread left reader_marked writer_marked TooManySlots = ⊥
-IsPathFault name unread left reader_marked writer_marked Read = reader_marked ≡ true
-IsPathFault name unread left reader_marked writer_marked Write = writer_marked ≡ true
-IsPathFault name unread left reader_marked writer_marked Memory = Unit {0}
-IsPathFault name unread left reader_marked writer_marked Thread = ⊥
-IsPathFault name unread left reader_marked writer_marked Receipts = ⊥
+abbrev pub IsPathFault : {R : Type 0} → List ℕ → (R → Option (List ℕ)) → Watched R → Watched R → Bool → CliFault → Type 0
+IsPathFault name remaining reader reader_after writer_marked (Derivation refusal) = RefusesText name (remaining reader.device) (remaining reader_after.device) (Derivation refusal)
+IsPathFault name remaining reader reader_after writer_marked (Drvs e) = ⊥
+IsPathFault name remaining reader reader_after writer_marked (Builders e) = ⊥
+IsPathFault name remaining reader reader_after writer_marked (Info e) = ⊥
+IsPathFault name remaining reader reader_after writer_marked (Script e) = ⊥
+IsPathFault name remaining reader reader_after writer_marked (Stand e) = ⊥
+IsPathFault name remaining reader reader_after writer_marked (History e) = ⊥
+IsPathFault name remaining reader reader_after writer_marked (TooLarge place) = RefusesText name (remaining reader.device) (remaining reader_after.device) (TooLarge place)
+IsPathFault name remaining reader reader_after writer_marked TooManySlots = ⊥
+IsPathFault name remaining reader reader_after writer_marked Read = reader_after.is_marked ≡ true
+IsPathFault name remaining reader reader_after writer_marked Write = writer_marked ≡ true
+IsPathFault name remaining reader reader_after writer_marked Memory = Unit {0}
+IsPathFault name remaining reader reader_after writer_marked Thread = ⊥
+IsPathFault name remaining reader reader_after writer_marked Receipts = ⊥

@@ -1,5 +1,5 @@
 -- The status that the program ends with where a command gave no answer (this project's own choice). Public clauses cite this.
-use Rattle.std.specs.Prelude.{ℕ}
+use Rattle.std.specs.Prelude.{◌≡◌, ℕ, Result, IfErr}
 use Rattle.nd_cli.specs.declared.fault.CliFault.{CliFault}
 use Rattle.nd_cli.specs.declared.fault.CliFault.TheVariants.{Derivation, Drvs, Builders, Info, Script, Stand, History, TooLarge, TooManySlots, Read, Write, Memory, Thread, Receipts}
 
@@ -19,3 +19,7 @@ exit_status Write = 5
 exit_status Memory = 5
 exit_status Thread = 5
 exit_status Receipts = 5
+
+-- no input is refused: where there is no answer, a device, the memory or a run failed
+abbrev pub RefusesNoInput : {A : Type 0} → Result A CliFault → Type 0
+RefusesNoInput answer = IfErr answer (λ e. exit_status e ≡ 5)

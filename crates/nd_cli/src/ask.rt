@@ -1,9 +1,9 @@
 //! The command `ask`.
 
-ghost use Rattle.std.specs.Prelude.{◌≡◌, ℕ, List, Some, true, false, IfOk, IfErr, OnOk};
+ghost use Rattle.std.specs.Prelude.{◌≡◌, ℕ, List, Some, false, IfOk, IfErr, OnOk};
 ghost use Rattle.nd_cli.specs.Parks.{IsParkAccepted};
-ghost use Rattle.nd_cli.specs.Statuses.{exit_status};
-ghost use Rattle.nd_cli.specs.Asked.{AnswersAsk, AnswersAskInPart, IsAskFault};
+ghost use Rattle.nd_cli.specs.Statuses.{RefusesNoInput};
+ghost use Rattle.nd_cli.specs.Asked.{AnswersAsk, LeavesAsk, IsAskFault};
 ghost use Rattle.nd_cli.specs.Inputs.{is_write_fault, is_read_failure, is_write_failure};
 
 use crate::asks::write_replies;
@@ -35,13 +35,13 @@ pub fn ask_engine<R: Read, W: Write>(
     requires reader { input.old.is_marked ≡ false }
     requires writer { output.old.is_marked ≡ false }
     ensures status { IfOk result (λ status. status ≡ 0) }
-    ensures answer { OnOk result (AnswersAsk options.now (R.remaining input.old.device) (R.remaining input.new.device) (W.contents output.old.device) (W.contents output.new.device)) }
-    ensures fault { IfErr result (IsAskFault options.now (R.remaining input.old.device) (R.remaining input.new.device) input.new.is_marked output.new.is_marked) }
+    ensures answer { OnOk result (AnswersAsk options.now R.remaining input.old input.new W.contents output.old output.new) }
+    ensures fault { IfErr result (IsAskFault options.now R.remaining input.old input.new output.new.is_marked) }
     ensures reader_mark { input.new.is_marked ≡ is_read_failure result }
     ensures writer_mark { output.new.is_marked ≡ is_write_failure result }
-    ensures exactly { (text : List ℕ) → R.remaining input.old.device ≡ Some text → IsParkAccepted options.now text → IfErr result (λ e. exit_status e ≡ 5) }
+    ensures exactly { (text : List ℕ) → R.remaining input.old.device ≡ Some text → IsParkAccepted options.now text → RefusesNoInput result }
     ensures untouched { IfErr result (λ e. is_write_fault e ≡ false → output.new ≡ output.old) }
-    ensures partly { IfErr result (λ e. is_write_fault e ≡ true → AnswersAskInPart options.now (R.remaining input.old.device) (R.remaining input.new.device) (W.contents output.old.device) (W.contents output.new.device)) }
+    ensures partly { IfErr result (LeavesAsk options.now R.remaining input.old input.new W.contents output.old output.new) }
 {
     let text = match read_input(alloc, input) {
         Ok(text) => text,

@@ -1,11 +1,11 @@
 //! What the command line and the bundle describe: the graph, the local machine and the builders, and
 //! the references of paths.
 
-ghost use Rattle.std.specs.Prelude.{◌≡◌, ◌≤◌, ℕ, List, length, IfOk, IfErr, MatchResult};
+ghost use Rattle.std.specs.Prelude.{◌≡◌, ◌≤◌, ℕ, List, length, IfOk, IfErr};
 ghost use Rattle.nd_machines.specs.Builders.{Builder};
 ghost use Rattle.nd_graph.specs.Graphs.{Nodes};
-ghost use Rattle.nd_cli.specs.declared.fault.CliFault.{CliFault};
-ghost use Rattle.nd_cli.specs.Parks.{AreSameParts, HasGraph, HasBuilders, HasInfo, HasPark, IsBundleFault, IsBuildersFault, IsInfoFault, IsParkFault, local_of};
+ghost use Rattle.nd_cli.specs.Inputs.{OkUnlessMemory};
+ghost use Rattle.nd_cli.specs.Parks.{AnswersAcceptedPark, HasGraph, HasBuilders, HasInfo, HasPark, IsBundleFault, IsBuildersFault, IsInfoFault, IsParkFault, local_of};
 
 use crate::fault::{CliFault, Place};
 use crate::input::LIMIT;
@@ -45,8 +45,7 @@ pub fn read_park(
     ensures local { IfOk result (λ park. park.local ≡ local_of options.now) }
     ensures few { IfOk result (λ park. length park.machines.items ≤ 1024) }
     ensures refused { IfErr result (IsParkFault options.now text.now) }
-    ensures exactly { (graph : Nodes) (machines : List Builder) (info : List (List ℕ × List (List ℕ))) → HasPark options.now text.now graph machines info
-        → MatchResult result (λ park. AreSameParts park.graph graph park.machines.items machines park.info.entries info) (λ e. e ≡ CliFault.Memory) }
+    ensures exactly { AnswersAcceptedPark options.now text.now result }
 {
     let graph = match read_graph(rt, alloc, options, text) {
         Ok(graph) => graph,
@@ -94,7 +93,7 @@ fn read_graph(
 ) -> Result<Graph, CliFault>
     ensures read { IfOk result (HasGraph options.now text.now) }
     ensures refused { IfErr result (IsBundleFault options.now text.now) }
-    ensures exactly { (graph : Nodes) → HasGraph options.now text.now graph → MatchResult result (λ read. read ≡ graph) (λ e. e ≡ CliFault.Memory) }
+    ensures exactly { (graph : Nodes) → HasGraph options.now text.now graph → OkUnlessMemory result (λ read. read ≡ graph) }
 {
     if text.len() > LIMIT {
         return Err(CliFault::TooLarge(Place::Drvs));
@@ -113,7 +112,7 @@ fn read_builders(alloc: Global, options: &ParkOptions) -> Result<Vec<Machine>, C
     ensures read { IfOk result (λ machines. HasBuilders options.now machines.items) }
     ensures few { IfOk result (λ machines. length machines.items ≤ 1024) }
     ensures refused { IfErr result (IsBuildersFault options.now) }
-    ensures exactly { (machines : List Builder) → HasBuilders options.now machines → MatchResult result (λ read. read.items ≡ machines) (λ e. e ≡ CliFault.Memory) }
+    ensures exactly { (machines : List Builder) → HasBuilders options.now machines → OkUnlessMemory result (λ read. read.items ≡ machines) }
 {
     if options.builders.len() > LIMIT {
         return Err(CliFault::TooLarge(Place::Builders));
@@ -135,7 +134,7 @@ fn read_builders(alloc: Global, options: &ParkOptions) -> Result<Vec<Machine>, C
 fn read_info(alloc: Global, options: &ParkOptions) -> Result<RefTable, CliFault>
     ensures read { IfOk result (λ info. HasInfo options.now info.entries) }
     ensures refused { IfErr result (IsInfoFault options.now) }
-    ensures exactly { (info : List (List ℕ × List (List ℕ))) → HasInfo options.now info → MatchResult result (λ read. read.entries ≡ info) (λ e. e ≡ CliFault.Memory) }
+    ensures exactly { (info : List (List ℕ × List (List ℕ))) → HasInfo options.now info → OkUnlessMemory result (λ read. read.entries ≡ info) }
 {
     if options.info.len() > LIMIT {
         return Err(CliFault::TooLarge(Place::Info));

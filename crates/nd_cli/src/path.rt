@@ -1,13 +1,12 @@
 //! The command `path`.
 
-ghost use Rattle.std.specs.Prelude.{◌≡◌, ◌≤◌, ℕ, List, Some, MatchResult, ◌++◌, ◌∷◌, ◌||◌, [], true, false, length, is_err, IfOk, IfErr, OnOk, OnErr};
+ghost use Rattle.std.specs.Prelude.{◌≡◌, ◌≤◌, ℕ, List, Some, ◌++◌, ◌∷◌, ◌||◌, [], false, length, is_err, IfOk, IfErr, OnOk, OnErr};
 ghost use Rattle.std.specs.Io.KnownBytes.{Appends};
 ghost use Rattle.nd_graph.specs.DrvPaths.{IsDrvPath};
 ghost use Rattle.nd_hook.specs.Written.{WritesPart};
-ghost use Rattle.nd_cli.specs.declared.fault.CliFault.{CliFault};
-ghost use Rattle.nd_cli.specs.Statuses.{exit_status};
-ghost use Rattle.nd_cli.specs.Inputs.{limit, is_write_fault, is_read_failure, is_write_failure};
-ghost use Rattle.nd_cli.specs.Paths.{HasPath, AnswersPath, AnswersPathInPart, IsPathFault, IsTextFault};
+ghost use Rattle.nd_cli.specs.Statuses.{RefusesNoInput};
+ghost use Rattle.nd_cli.specs.Inputs.{limit, OkUnlessMemory, is_write_fault, is_read_failure, is_write_failure};
+ghost use Rattle.nd_cli.specs.Paths.{HasPath, AnswersPath, LeavesPath, IsPathFault, IsTextFault};
 
 use crate::fault::{CliFault, DerivationRefusal, Place};
 use crate::input::{LIMIT, read_input};
@@ -33,12 +32,12 @@ pub fn path_engine<R: Read, W: Write>(
     requires reader { input.old.is_marked ≡ false }
     requires writer { output.old.is_marked ≡ false }
     ensures status { IfOk result (λ status. status ≡ 0) }
-    ensures answer { OnOk result (AnswersPath name.now (R.remaining input.old.device) (R.remaining input.new.device) (W.contents output.old.device) (W.contents output.new.device)) }
-    ensures fault { IfErr result (IsPathFault name.now (R.remaining input.old.device) (R.remaining input.new.device) input.new.is_marked output.new.is_marked) }
+    ensures answer { OnOk result (AnswersPath name.now R.remaining input.old input.new W.contents output.old output.new) }
+    ensures fault { IfErr result (IsPathFault name.now R.remaining input.old input.new output.new.is_marked) }
     ensures reader_mark { input.new.is_marked ≡ is_read_failure result }
     ensures writer_mark { output.new.is_marked ≡ is_write_failure result }
-    ensures partly { IfErr result (λ e. is_write_fault e ≡ true → AnswersPathInPart name.now (R.remaining input.old.device) (R.remaining input.new.device) (W.contents output.old.device) (W.contents output.new.device)) }
-    ensures exactly { (text path : List ℕ) → R.remaining input.old.device ≡ Some text → HasPath name.now text path → IfErr result (λ e. exit_status e ≡ 5) }
+    ensures partly { IfErr result (LeavesPath name.now R.remaining input.old input.new W.contents output.old output.new) }
+    ensures exactly { (text path : List ℕ) → R.remaining input.old.device ≡ Some text → HasPath name.now text path → RefusesNoInput result }
     ensures untouched { IfErr result (λ e. is_write_fault e ≡ false → output.new ≡ output.old) }
 {
     let text = match read_input(alloc, input) {
@@ -66,7 +65,7 @@ fn derivation_path(alloc: Global, name: &[u8], text: &[u8]) -> Result<StorePath,
     ensures found { IfOk result (IsDrvPath name.now text.now) }
     ensures within { OnOk result (length text.now ≤ limit) }
     ensures refused { IfErr result (IsTextFault name.now text.now) }
-    ensures exactly { (path : List ℕ) → HasPath name.now text.now path → MatchResult result (λ p. p ≡ path) (λ e. e ≡ CliFault.Memory) }
+    ensures exactly { (path : List ℕ) → HasPath name.now text.now path → OkUnlessMemory result (λ p. p ≡ path) }
 {
     if text.len() > LIMIT {
         return Err(CliFault::TooLarge(Place::Derivation));

@@ -1,7 +1,7 @@
 -- The info text: what it lists, and its first bad line.
 -- The form is this project's own: lines separated by newlines, each a store path and its references separated by single spaces.
 -- Public clauses cite this.
-use Rattle.std.specs.Prelude.{◌≡◌, ◌==◌, ℕ, ◌-◌, ◌<◌, ◌≤◌, false, List, [], ◌∷◌, length, take, slice_index_or}
+use Rattle.std.specs.Prelude.{◌≡◌, ◌==◌, ℕ, ◌-◌, ◌<◌, ◌≤◌, false, List, [], ◌∷◌, length, take, slice_index_or, Result, MatchResult}
 use Rattle.std.specs.List.{slice_split, All}
 use Rattle.nd_bytes.specs.Lines.{lines_of}
 use Rattle.nd_path.specs.Refusals.{IsPath}
@@ -45,3 +45,7 @@ pub record IsFirstBad (lines : List (List ℕ)) (n : ℕ) : Type 0 where
 abbrev pub IsRefused : List ℕ → InfoError → Type 0
 IsRefused text (BadLine n) = IsFirstBad (lines_of text) n
 IsRefused text Memory = Unit {0}
+
+-- the answer is so, unless memory runs out
+abbrev pub OkUnlessMemory : {A : Type 0} → Result A InfoError → (A → Type 0) → Type 0
+OkUnlessMemory answer IsSo = MatchResult answer IsSo (λ e. e ≡ Memory)

@@ -1,9 +1,8 @@
 //! Reading an info text.
 
-ghost use Rattle.std.specs.Prelude.{◌≡◌, ℕ, List, IfOk, IfErr, MatchResult};
-ghost use Rattle.nd_closure.specs.declared.info_error.InfoError.{InfoError};
+ghost use Rattle.std.specs.Prelude.{◌≡◌, ℕ, List, IfOk, IfErr};
 ghost use Rattle.nd_bytes.specs.Lines.{lines_of};
-ghost use Rattle.nd_closure.specs.Info.{IsLine, AreListed, IsRefused};
+ghost use Rattle.nd_closure.specs.Info.{IsLine, AreListed, IsRefused, OkUnlessMemory};
 ghost use Rattle.nd_closure.specs.Lines.{IsBadFor, refusal_of};
 
 use crate::info_error::InfoError;
@@ -21,7 +20,7 @@ use std::alloc::Global;
 pub fn parse_info(alloc: Global, text: &[u8]) -> Result<RefTable, InfoError>
     ensures found { IfOk result (λ t. AreListed (lines_of text.now) t.entries) }
     ensures refused { IfErr result (IsRefused text.now) }
-    ensures exactly { (entries : List (List ℕ × List (List ℕ))) → AreListed (lines_of text.now) entries → MatchResult result (λ t. t.entries ≡ entries) (λ e. e ≡ InfoError.Memory) }
+    ensures exactly { (entries : List (List ℕ × List (List ℕ))) → AreListed (lines_of text.now) entries → OkUnlessMemory result (λ t. t.entries ≡ entries) }
 {
     let mut table = RefTable::new(alloc);
     let mut left = text;

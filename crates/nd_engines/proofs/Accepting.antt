@@ -6,6 +6,7 @@ use Rattle.nd_graph.proofs.OneBundle.{one_graph, never_both, is_refused}
 use Rattle.nd_bytes.specs.Lines.{lines_of}
 use Rattle.nd_closure.proofs.Once.{table_once, memory_alone}
 use Rattle.nd_history.specs.Premises.{Premises}
+use Rattle.nd_hook.specs.Watched.{Watched}
 use Rattle.nd_history.specs.Choices.{machines_in}
 use Rattle.nd_ledger.specs.Worlds.{World}
 use Rattle.nd_script.specs.declared.command.Command.{Command}
@@ -149,34 +150,34 @@ script_free options script unread left text i commands e known accepts refused =
     let same = read_once options unread left text i refused.inputs known accepts.has refused.reads in
     script_fault_free i script commands e accepts.says (subst (λ (j : Premises). IsScriptFault j script e) same refused.refused)
 
-pub sim_free : (options : ParkOptions) (script : List ℕ) (unread left : Option (List ℕ)) (reader_marked writer_marked : Bool) (text : List ℕ) (i : Premises) (commands : List Command) (e : CliFault)
-    → unread ≡ Some text → AcceptsSim options script text i commands → IsSimFault options script unread left reader_marked writer_marked e → IsNoRefusal e
-sim_free options script unread left reader_marked writer_marked text i commands (Drvs e) known accepts fault = park_free options unread left text i (Drvs e) known accepts.has fault
-sim_free options script unread left reader_marked writer_marked text i commands (Builders e) known accepts fault = park_free options unread left text i (Builders e) known accepts.has fault
-sim_free options script unread left reader_marked writer_marked text i commands (Info e) known accepts fault = park_free options unread left text i (Info e) known accepts.has fault
-sim_free options script unread left reader_marked writer_marked text i commands (Script e) known accepts fault = script_free options script unread left text i commands (Script e) known accepts fault
-sim_free options script unread left reader_marked writer_marked text i commands (TooLarge place) known accepts fault =
+pub sim_free : {R : Type 0} (options : ParkOptions) (script : List ℕ) (remaining : R → Option (List ℕ)) (reader reader_after : Watched R) (writer_marked : Bool) (text : List ℕ) (i : Premises) (commands : List Command) (e : CliFault)
+    → remaining reader.device ≡ Some text → AcceptsSim options script text i commands → IsSimFault options script remaining reader reader_after writer_marked e → IsNoRefusal e
+sim_free options script remaining reader reader_after writer_marked text i commands (Drvs e) known accepts fault = park_free options (remaining reader.device) (remaining reader_after.device) text i (Drvs e) known accepts.has fault
+sim_free options script remaining reader reader_after writer_marked text i commands (Builders e) known accepts fault = park_free options (remaining reader.device) (remaining reader_after.device) text i (Builders e) known accepts.has fault
+sim_free options script remaining reader reader_after writer_marked text i commands (Info e) known accepts fault = park_free options (remaining reader.device) (remaining reader_after.device) text i (Info e) known accepts.has fault
+sim_free options script remaining reader reader_after writer_marked text i commands (Script e) known accepts fault = script_free options script (remaining reader.device) (remaining reader_after.device) text i commands (Script e) known accepts fault
+sim_free options script remaining reader reader_after writer_marked text i commands (TooLarge place) known accepts fault =
     elim fault [
-      | inl park ↦ park_free options unread left text i (TooLarge place) known accepts.has park
-      | inr said ↦ script_free options script unread left text i commands (TooLarge place) known accepts said
+      | inl park ↦ park_free options (remaining reader.device) (remaining reader_after.device) text i (TooLarge place) known accepts.has park
+      | inr said ↦ script_free options script (remaining reader.device) (remaining reader_after.device) text i commands (TooLarge place) known accepts said
     ]
-sim_free options script unread left reader_marked writer_marked text i commands Memory known accepts fault = tt
-sim_free options script unread left reader_marked writer_marked text i commands Read known accepts fault = tt
-sim_free options script unread left reader_marked writer_marked text i commands Write known accepts fault = tt
-sim_free options script unread left reader_marked writer_marked text i commands (Derivation e) known accepts fault = fault
-sim_free options script unread left reader_marked writer_marked text i commands (Stand e) known accepts fault = fault
-sim_free options script unread left reader_marked writer_marked text i commands (History e) known accepts fault = fault
-sim_free options script unread left reader_marked writer_marked text i commands TooManySlots known accepts fault = fault
-sim_free options script unread left reader_marked writer_marked text i commands Thread known accepts fault = fault
-sim_free options script unread left reader_marked writer_marked text i commands Receipts known accepts fault = fault
+sim_free options script remaining reader reader_after writer_marked text i commands Memory known accepts fault = tt
+sim_free options script remaining reader reader_after writer_marked text i commands Read known accepts fault = tt
+sim_free options script remaining reader reader_after writer_marked text i commands Write known accepts fault = tt
+sim_free options script remaining reader reader_after writer_marked text i commands (Derivation e) known accepts fault = fault
+sim_free options script remaining reader reader_after writer_marked text i commands (Stand e) known accepts fault = fault
+sim_free options script remaining reader reader_after writer_marked text i commands (History e) known accepts fault = fault
+sim_free options script remaining reader reader_after writer_marked text i commands TooManySlots known accepts fault = fault
+sim_free options script remaining reader reader_after writer_marked text i commands Thread known accepts fault = fault
+sim_free options script remaining reader reader_after writer_marked text i commands Receipts known accepts fault = fault
 
 -- ---- what was simulated is what is accepted
 
-pub sim_accepted : (options : ParkOptions) (script : List ℕ) (unread left before written : Option (List ℕ)) (dispatch : World) (said : List Command) (status : ℕ) (text : List ℕ) (i : Premises)
-    (commands : List Command) → IsSimGiven options script unread left dispatch said → WritesSimulation dispatch.inputs said status before written → unread ≡ Some text
-    → AcceptsSim options script text i commands → WritesSimulation i commands status before written
-sim_accepted options script unread left before written dispatch said status text i commands given simulated known accepts =
-    let inputs = read_once options unread left text i dispatch.inputs known accepts.has given.reads in
+pub sim_accepted : {R W : Type 0} (options : ParkOptions) (script : List ℕ) (remaining : R → Option (List ℕ)) (reader reader_after : Watched R) (contents : W → Option (List ℕ)) (writer writer_after : Watched W) (dispatch : World) (said : List Command) (status : ℕ) (text : List ℕ) (i : Premises)
+    (commands : List Command) → IsSimGiven options script remaining reader reader_after dispatch said → WritesSimulation dispatch.inputs said status (contents writer.device) (contents writer_after.device) → remaining reader.device ≡ Some text
+    → AcceptsSim options script text i commands → WritesSimulation i commands status (contents writer.device) (contents writer_after.device)
+sim_accepted options script remaining reader reader_after contents writer writer_after dispatch said status text i commands given simulated known accepts =
+    let inputs = read_once options (remaining reader.device) (remaining reader_after.device) text i dispatch.inputs known accepts.has given.reads in
     let has = subst (λ (j : Premises). HasScript j script said) inputs given.says in
     let same = script_once i script said commands has accepts.says in
-    subst (λ (cs : List Command). WritesSimulation i cs status before written) same (subst (λ (j : Premises). WritesSimulation j said status before written) inputs simulated)
+    subst (λ (cs : List Command). WritesSimulation i cs status (contents writer.device) (contents writer_after.device)) same (subst (λ (j : Premises). WritesSimulation j said status (contents writer.device) (contents writer_after.device)) inputs simulated)

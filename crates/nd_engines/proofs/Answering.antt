@@ -1,10 +1,11 @@
 -- What the parts of an engine make together.
-use Rattle.std.proofs.Common.{◌≡◌, ◌||◌, ℕ, Bool, true, false, List, [], length, reverse, Option, Result, Ok, Err, IfOk, IfErr, OnOk, OnErr, is_err, refl, sym, ap, subst, ◌∙◌, arith, inl, inr}
+use Rattle.std.proofs.Common.{◌≡◌, ◌⊎◌, ◌||◌, ℕ, Bool, true, false, List, [], length, reverse, Option, Result, Ok, Err, IfOk, IfErr, OnOk, OnErr, is_err, refl, sym, ap, subst, ◌∙◌, arith, inl, inr}
 use Rattle.std.specs.Io.KnownBytes.{Appends, Keeps}
 use Rattle.std.proofs.KnownBytes.{Appends-kept}
 use Rattle.nd_machines.specs.Builders.{Builder}
 use Rattle.nd_eligible.specs.Settings.{Settings}
 use Rattle.nd_graph.specs.Graphs.{Nodes}
+use Rattle.nd_hook.specs.Watched.{Watched}
 use Rattle.nd_hook.specs.Written.{WritesPart}
 use Rattle.nd_hook.proofs.Pieces.{part_of_first, part_after, written_after, kept_part, kept_as_part}
 use Rattle.nd_history.specs.declared.entry.Entry.{Entry}
@@ -26,8 +27,8 @@ use Rattle.nd_sim.specs.RunParts.{IsSimulationPart}
 use Rattle.nd_sim.specs.Written.{WritesSimulation, WritesSimulationPart}
 use Rattle.nd_engines.specs.Opened.{inputs_of, HasInputs, IsOpened, ReadsInputs}
 use Rattle.nd_engines.specs.Scripts.{HasScript, IsScriptFault}
-use Rattle.nd_engines.specs.Simulated.{IsSimGiven, AnswersSim, LeavesSim, IsSimFault}
-use Rattle.nd_engines.specs.Audited.{HasHistory, IsHistoryFault, legal_line, illegal_line, WritesVerdict, WritesVerdictPart, AnswersAudit, AnswersAuditInPart, IsAuditFault, IsVerdictFault}
+use Rattle.nd_engines.specs.Simulated.{IsSimGiven, AnswersSim, AnswersSimInPart, IsSimFault}
+use Rattle.nd_engines.specs.Audited.{HasHistory, IsHistoryFault, legal_line, illegal_line, WritesVerdict, WritesVerdictPart, LeavesVerdict, AnswersAudit, AnswersAuditInPart, IsAuditFault, IsVerdictFault}
 
 -- ---- a writer passes on what it holds back
 
@@ -123,18 +124,18 @@ park_read options unread left text graph machines local info read has is_local =
 
 -- ---- a simulation
 
-pub sim_given : (options : ParkOptions) (script : List ℕ) (unread left : Option (List ℕ)) (text : List ℕ) (dispatch : World) (commands : List Command) → ReadsWhole unread left text
-    → IsOpened options text dispatch → HasScript dispatch.inputs script commands → IsSimGiven options script unread left dispatch commands
-sim_given options script unread left text dispatch commands read opened says = record {
-  reads = inputs_read options unread left text dispatch read opened;
+pub sim_given : {R : Type 0} (options : ParkOptions) (script : List ℕ) (remaining : R → Option (List ℕ)) (reader reader_after : Watched R) (text : List ℕ) (dispatch : World) (commands : List Command) → ReadsWhole (remaining reader.device) (remaining reader_after.device) text
+    → IsOpened options text dispatch → HasScript dispatch.inputs script commands → IsSimGiven options script remaining reader reader_after dispatch commands
+sim_given options script remaining reader reader_after text dispatch commands read opened says = record {
+  reads = inputs_read options (remaining reader.device) (remaining reader_after.device) text dispatch read opened;
   empty = opened.empty;
   says = says;
 }
 
-pub sim_answered : (options : ParkOptions) (script : List ℕ) (status : ℕ) (unread left before written : Option (List ℕ)) (dispatch : World) (commands : List Command)
-    → IsSimGiven options script unread left dispatch commands → WritesSimulation dispatch.inputs commands status before written
-    → AnswersSim options script status unread left before written
-sim_answered options script status unread left before written dispatch commands given simulated = record {
+pub sim_answered : {R W : Type 0} (options : ParkOptions) (script : List ℕ) (status : ℕ) (remaining : R → Option (List ℕ)) (reader reader_after : Watched R) (contents : W → Option (List ℕ)) (writer writer_after : Watched W) (dispatch : World) (commands : List Command)
+    → IsSimGiven options script remaining reader reader_after dispatch commands → WritesSimulation dispatch.inputs commands status (contents writer.device) (contents writer_after.device)
+    → AnswersSim options script status remaining reader reader_after contents writer writer_after
+sim_answered options script status remaining reader reader_after contents writer writer_after dispatch commands given simulated = record {
   inputs = dispatch.inputs;
   reads = given.reads;
   commands = commands;
@@ -142,9 +143,9 @@ sim_answered options script status unread left before written dispatch commands 
   simulated = simulated;
 }
 
-pub sim_begun : (options : ParkOptions) (script : List ℕ) (unread left before written : Option (List ℕ)) (dispatch : World) (commands : List Command)
-    → IsSimGiven options script unread left dispatch commands → WritesSimulationPart dispatch.inputs commands before written → LeavesSim options script unread left before written
-sim_begun options script unread left before written dispatch commands given begun = inr (record {
+pub sim_begun : {R W : Type 0} (options : ParkOptions) (script : List ℕ) (remaining : R → Option (List ℕ)) (reader reader_after : Watched R) (contents : W → Option (List ℕ)) (writer writer_after : Watched W) (dispatch : World) (commands : List Command)
+    → IsSimGiven options script remaining reader reader_after dispatch commands → WritesSimulationPart dispatch.inputs commands (contents writer.device) (contents writer_after.device) → (contents writer_after.device ≡ contents writer.device) ⊎ AnswersSimInPart options script remaining reader reader_after contents writer writer_after
+sim_begun options script remaining reader reader_after contents writer writer_after dispatch commands given begun = inr (record {
   inputs = dispatch.inputs;
   reads = given.reads;
   commands = commands;
@@ -153,81 +154,81 @@ sim_begun options script unread left before written dispatch commands given begu
 })
 
 -- the input wasn't read
-pub sim_unread : (options : ParkOptions) (script : List ℕ) (unread left : Option (List ℕ)) (reader_marked writer_marked : Bool) (e : CliFault) → IsReadFault reader_marked e
-    → IsSimFault options script unread left reader_marked writer_marked e
-sim_unread options script unread left reader_marked writer_marked (Derivation e) fault = absurd fault
-sim_unread options script unread left reader_marked writer_marked (Drvs e) fault = absurd fault
-sim_unread options script unread left reader_marked writer_marked (Builders e) fault = absurd fault
-sim_unread options script unread left reader_marked writer_marked (Info e) fault = absurd fault
-sim_unread options script unread left reader_marked writer_marked (Script e) fault = absurd fault
-sim_unread options script unread left reader_marked writer_marked (History e) fault = absurd fault
-sim_unread options script unread left reader_marked writer_marked (TooLarge place) fault = absurd fault
-sim_unread options script unread left reader_marked writer_marked Read fault = fault
-sim_unread options script unread left reader_marked writer_marked Write fault = absurd fault
-sim_unread options script unread left reader_marked writer_marked (Stand e) fault = absurd fault
-sim_unread options script unread left reader_marked writer_marked TooManySlots fault = absurd fault
-sim_unread options script unread left reader_marked writer_marked Thread fault = absurd fault
-sim_unread options script unread left reader_marked writer_marked Receipts fault = absurd fault
-sim_unread options script unread left reader_marked writer_marked Memory fault = tt
+pub sim_unread : {R : Type 0} (options : ParkOptions) (script : List ℕ) (remaining : R → Option (List ℕ)) (reader reader_after : Watched R) (writer_marked : Bool) (e : CliFault) → IsReadFault reader_after.is_marked e
+    → IsSimFault options script remaining reader reader_after writer_marked e
+sim_unread options script remaining reader reader_after writer_marked (Derivation e) fault = absurd fault
+sim_unread options script remaining reader reader_after writer_marked (Drvs e) fault = absurd fault
+sim_unread options script remaining reader reader_after writer_marked (Builders e) fault = absurd fault
+sim_unread options script remaining reader reader_after writer_marked (Info e) fault = absurd fault
+sim_unread options script remaining reader reader_after writer_marked (Script e) fault = absurd fault
+sim_unread options script remaining reader reader_after writer_marked (History e) fault = absurd fault
+sim_unread options script remaining reader reader_after writer_marked (TooLarge place) fault = absurd fault
+sim_unread options script remaining reader reader_after writer_marked Read fault = fault
+sim_unread options script remaining reader reader_after writer_marked Write fault = absurd fault
+sim_unread options script remaining reader reader_after writer_marked (Stand e) fault = absurd fault
+sim_unread options script remaining reader reader_after writer_marked TooManySlots fault = absurd fault
+sim_unread options script remaining reader reader_after writer_marked Thread fault = absurd fault
+sim_unread options script remaining reader reader_after writer_marked Receipts fault = absurd fault
+sim_unread options script remaining reader reader_after writer_marked Memory fault = tt
 
-pub sim_park_refused : (options : ParkOptions) (script : List ℕ) (unread left : Option (List ℕ)) (reader_marked writer_marked : Bool) (text : List ℕ) (e : CliFault) → ReadsWhole unread left text
-    → IsParkFault options text e → IsSimFault options script unread left reader_marked writer_marked e
-sim_park_refused options script unread left reader_marked writer_marked text (Derivation e) read fault = elim fault [ inl a ↦ absurd a | inr b ↦ elim b [ inl c ↦ absurd c.1 | inr d ↦ absurd d.2 ] ]
-sim_park_refused options script unread left reader_marked writer_marked text (Drvs e) read fault = record { text = text; read = read; refused = fault }
-sim_park_refused options script unread left reader_marked writer_marked text (Builders e) read fault = record { text = text; read = read; refused = fault }
-sim_park_refused options script unread left reader_marked writer_marked text (Info e) read fault = record { text = text; read = read; refused = fault }
-sim_park_refused options script unread left reader_marked writer_marked text (Script e) read fault = elim fault [ inl a ↦ absurd a | inr b ↦ elim b [ inl c ↦ absurd c.1 | inr d ↦ absurd d.2 ] ]
-sim_park_refused options script unread left reader_marked writer_marked text (History e) read fault = elim fault [ inl a ↦ absurd a | inr b ↦ elim b [ inl c ↦ absurd c.1 | inr d ↦ absurd d.2 ] ]
-sim_park_refused options script unread left reader_marked writer_marked text (TooLarge place) read fault = inl (record { text = text; read = read; refused = fault })
-sim_park_refused options script unread left reader_marked writer_marked text Read read fault = elim fault [ inl a ↦ absurd a | inr b ↦ elim b [ inl c ↦ absurd c.1 | inr d ↦ absurd d.2 ] ]
-sim_park_refused options script unread left reader_marked writer_marked text Write read fault = elim fault [ inl a ↦ absurd a | inr b ↦ elim b [ inl c ↦ absurd c.1 | inr d ↦ absurd d.2 ] ]
-sim_park_refused options script unread left reader_marked writer_marked text (Stand e) read fault = elim fault [ inl a ↦ absurd a | inr b ↦ elim b [ inl c ↦ absurd c.1 | inr d ↦ absurd d.2 ] ]
-sim_park_refused options script unread left reader_marked writer_marked text TooManySlots read fault = elim fault [ inl a ↦ absurd a | inr b ↦ elim b [ inl c ↦ absurd c.1 | inr d ↦ absurd d.2 ] ]
-sim_park_refused options script unread left reader_marked writer_marked text Thread read fault = elim fault [ inl a ↦ absurd a | inr b ↦ elim b [ inl c ↦ absurd c.1 | inr d ↦ absurd d.2 ] ]
-sim_park_refused options script unread left reader_marked writer_marked text Receipts read fault = elim fault [ inl a ↦ absurd a | inr b ↦ elim b [ inl c ↦ absurd c.1 | inr d ↦ absurd d.2 ] ]
-sim_park_refused options script unread left reader_marked writer_marked text Memory read fault = tt
+pub sim_park_refused : {R : Type 0} (options : ParkOptions) (script : List ℕ) (remaining : R → Option (List ℕ)) (reader reader_after : Watched R) (writer_marked : Bool) (text : List ℕ) (e : CliFault) → ReadsWhole (remaining reader.device) (remaining reader_after.device) text
+    → IsParkFault options text e → IsSimFault options script remaining reader reader_after writer_marked e
+sim_park_refused options script remaining reader reader_after writer_marked text (Derivation e) read fault = elim fault [ inl a ↦ absurd a | inr b ↦ elim b [ inl c ↦ absurd c.1 | inr d ↦ absurd d.2 ] ]
+sim_park_refused options script remaining reader reader_after writer_marked text (Drvs e) read fault = record { text = text; read = read; refused = fault }
+sim_park_refused options script remaining reader reader_after writer_marked text (Builders e) read fault = record { text = text; read = read; refused = fault }
+sim_park_refused options script remaining reader reader_after writer_marked text (Info e) read fault = record { text = text; read = read; refused = fault }
+sim_park_refused options script remaining reader reader_after writer_marked text (Script e) read fault = elim fault [ inl a ↦ absurd a | inr b ↦ elim b [ inl c ↦ absurd c.1 | inr d ↦ absurd d.2 ] ]
+sim_park_refused options script remaining reader reader_after writer_marked text (History e) read fault = elim fault [ inl a ↦ absurd a | inr b ↦ elim b [ inl c ↦ absurd c.1 | inr d ↦ absurd d.2 ] ]
+sim_park_refused options script remaining reader reader_after writer_marked text (TooLarge place) read fault = inl (record { text = text; read = read; refused = fault })
+sim_park_refused options script remaining reader reader_after writer_marked text Read read fault = elim fault [ inl a ↦ absurd a | inr b ↦ elim b [ inl c ↦ absurd c.1 | inr d ↦ absurd d.2 ] ]
+sim_park_refused options script remaining reader reader_after writer_marked text Write read fault = elim fault [ inl a ↦ absurd a | inr b ↦ elim b [ inl c ↦ absurd c.1 | inr d ↦ absurd d.2 ] ]
+sim_park_refused options script remaining reader reader_after writer_marked text (Stand e) read fault = elim fault [ inl a ↦ absurd a | inr b ↦ elim b [ inl c ↦ absurd c.1 | inr d ↦ absurd d.2 ] ]
+sim_park_refused options script remaining reader reader_after writer_marked text TooManySlots read fault = elim fault [ inl a ↦ absurd a | inr b ↦ elim b [ inl c ↦ absurd c.1 | inr d ↦ absurd d.2 ] ]
+sim_park_refused options script remaining reader reader_after writer_marked text Thread read fault = elim fault [ inl a ↦ absurd a | inr b ↦ elim b [ inl c ↦ absurd c.1 | inr d ↦ absurd d.2 ] ]
+sim_park_refused options script remaining reader reader_after writer_marked text Receipts read fault = elim fault [ inl a ↦ absurd a | inr b ↦ elim b [ inl c ↦ absurd c.1 | inr d ↦ absurd d.2 ] ]
+sim_park_refused options script remaining reader reader_after writer_marked text Memory read fault = tt
 
-pub script_fault : (options : ParkOptions) (script : List ℕ) (unread left : Option (List ℕ)) (reader_marked writer_marked : Bool) (text : List ℕ) (dispatch : World) (e : CliFault) → ReadsWhole unread left text
-    → IsOpened options text dispatch → IsScriptFault dispatch.inputs script e → IsSimFault options script unread left reader_marked writer_marked e
-script_fault options script unread left reader_marked writer_marked text dispatch (Derivation e) read opened fault = absurd fault
-script_fault options script unread left reader_marked writer_marked text dispatch (Drvs e) read opened fault = absurd fault
-script_fault options script unread left reader_marked writer_marked text dispatch (Builders e) read opened fault = absurd fault
-script_fault options script unread left reader_marked writer_marked text dispatch (Info e) read opened fault = absurd fault
-script_fault options script unread left reader_marked writer_marked text dispatch (Script e) read opened fault = record {
+pub script_fault : {R : Type 0} (options : ParkOptions) (script : List ℕ) (remaining : R → Option (List ℕ)) (reader reader_after : Watched R) (writer_marked : Bool) (text : List ℕ) (dispatch : World) (e : CliFault) → ReadsWhole (remaining reader.device) (remaining reader_after.device) text
+    → IsOpened options text dispatch → IsScriptFault dispatch.inputs script e → IsSimFault options script remaining reader reader_after writer_marked e
+script_fault options script remaining reader reader_after writer_marked text dispatch (Derivation e) read opened fault = absurd fault
+script_fault options script remaining reader reader_after writer_marked text dispatch (Drvs e) read opened fault = absurd fault
+script_fault options script remaining reader reader_after writer_marked text dispatch (Builders e) read opened fault = absurd fault
+script_fault options script remaining reader reader_after writer_marked text dispatch (Info e) read opened fault = absurd fault
+script_fault options script remaining reader reader_after writer_marked text dispatch (Script e) read opened fault = record {
   inputs = dispatch.inputs;
-  reads = inputs_read options unread left text dispatch read opened;
+  reads = inputs_read options (remaining reader.device) (remaining reader_after.device) text dispatch read opened;
   refused = fault;
 }
-script_fault options script unread left reader_marked writer_marked text dispatch (History e) read opened fault = absurd fault
-script_fault options script unread left reader_marked writer_marked text dispatch (TooLarge place) read opened fault = inr (record {
+script_fault options script remaining reader reader_after writer_marked text dispatch (History e) read opened fault = absurd fault
+script_fault options script remaining reader reader_after writer_marked text dispatch (TooLarge place) read opened fault = inr (record {
   inputs = dispatch.inputs;
-  reads = inputs_read options unread left text dispatch read opened;
+  reads = inputs_read options (remaining reader.device) (remaining reader_after.device) text dispatch read opened;
   refused = fault;
 })
-script_fault options script unread left reader_marked writer_marked text dispatch Read read opened fault = absurd fault
-script_fault options script unread left reader_marked writer_marked text dispatch Write read opened fault = absurd fault
-script_fault options script unread left reader_marked writer_marked text dispatch (Stand e) read opened fault = absurd fault
-script_fault options script unread left reader_marked writer_marked text dispatch TooManySlots read opened fault = absurd fault
-script_fault options script unread left reader_marked writer_marked text dispatch Thread read opened fault = absurd fault
-script_fault options script unread left reader_marked writer_marked text dispatch Receipts read opened fault = absurd fault
-script_fault options script unread left reader_marked writer_marked text dispatch Memory read opened fault = tt
+script_fault options script remaining reader reader_after writer_marked text dispatch Read read opened fault = absurd fault
+script_fault options script remaining reader reader_after writer_marked text dispatch Write read opened fault = absurd fault
+script_fault options script remaining reader reader_after writer_marked text dispatch (Stand e) read opened fault = absurd fault
+script_fault options script remaining reader reader_after writer_marked text dispatch TooManySlots read opened fault = absurd fault
+script_fault options script remaining reader reader_after writer_marked text dispatch Thread read opened fault = absurd fault
+script_fault options script remaining reader reader_after writer_marked text dispatch Receipts read opened fault = absurd fault
+script_fault options script remaining reader reader_after writer_marked text dispatch Memory read opened fault = tt
 
 -- ---- an audit
 
 -- what was said of a legal history
-pub said_legal : (answer : Result ℕ CliFault) (i : Premises) (entries : List Entry) (count : ℕ) (before written : Option (List ℕ)) → count ≡ length entries → IsLegal i (reverse entries)
-    → IfOk answer (λ status. status ≡ 0) → OnOk answer (Appends before written (legal_line count)) → IfOk answer (λ status. WritesVerdict i entries status before written)
-said_legal (Ok status) i entries count before written all legal is_status appended = record {
+pub said_legal : {W : Type 0} (answer : Result ℕ CliFault) (i : Premises) (entries : List Entry) (count : ℕ) (contents : W → Option (List ℕ)) (writer writer_after : Watched W) → count ≡ length entries → IsLegal i (reverse entries)
+    → IfOk answer (λ status. status ≡ 0) → OnOk answer (Appends (contents writer.device) (contents writer_after.device) (legal_line count)) → IfOk answer (λ status. WritesVerdict i entries status contents writer writer_after)
+said_legal (Ok status) i entries count contents writer writer_after all legal is_status appended = record {
   text = legal_line count;
   says = inl (record { legal = legal; status_is = is_status; is = ap legal_line all });
   appended = appended;
 }
-said_legal (Err e) i entries count before written all legal is_status appended = tt
+said_legal (Err e) i entries count contents writer writer_after all legal is_status appended = tt
 
-pub said_legal_part : (answer : Result ℕ CliFault) (i : Premises) (entries : List Entry) (count : ℕ) (before written : Option (List ℕ)) → count ≡ length entries → IsLegal i (reverse entries)
-    → OnErr answer (WritesPart before written (legal_line count)) → IfErr answer (λ e. is_write_fault e ≡ true → WritesVerdictPart i entries before written)
-said_legal_part (Ok status) i entries count before written all legal part = tt
-said_legal_part (Err e) i entries count before written all legal part = λ is_write. record {
+pub said_legal_part : {W : Type 0} (answer : Result ℕ CliFault) (i : Premises) (entries : List Entry) (count : ℕ) (contents : W → Option (List ℕ)) (writer writer_after : Watched W) → count ≡ length entries → IsLegal i (reverse entries)
+    → OnErr answer (WritesPart (contents writer.device) (contents writer_after.device) (legal_line count)) → IfErr answer (LeavesVerdict i entries contents writer writer_after)
+said_legal_part (Ok status) i entries count contents writer writer_after all legal part = tt
+said_legal_part (Err e) i entries count contents writer writer_after all legal part = λ is_write. record {
   status = 0;
   text = legal_line count;
   says = inl (record { legal = legal; status_is = refl; is = ap legal_line all });
@@ -235,19 +236,19 @@ said_legal_part (Err e) i entries count before written all legal part = λ is_wr
 }
 
 -- .. and of one that isn't
-pub said_illegal : (answer : Result ℕ CliFault) (i : Premises) (entries : List Entry) (index : ℕ) (rule : Rule) (before written : Option (List ℕ)) → IsFirstIllegal i entries index rule
-    → IfOk answer (λ status. status ≡ 4) → OnOk answer (Appends before written (illegal_line index rule)) → IfOk answer (λ status. WritesVerdict i entries status before written)
-said_illegal (Ok status) i entries index rule before written illegal is_status appended = record {
+pub said_illegal : {W : Type 0} (answer : Result ℕ CliFault) (i : Premises) (entries : List Entry) (index : ℕ) (rule : Rule) (contents : W → Option (List ℕ)) (writer writer_after : Watched W) → IsFirstIllegal i entries index rule
+    → IfOk answer (λ status. status ≡ 4) → OnOk answer (Appends (contents writer.device) (contents writer_after.device) (illegal_line index rule)) → IfOk answer (λ status. WritesVerdict i entries status contents writer writer_after)
+said_illegal (Ok status) i entries index rule contents writer writer_after illegal is_status appended = record {
   text = illegal_line index rule;
   says = inr (record { index = index; rule = rule; illegal = illegal; status_is = is_status; is = refl });
   appended = appended;
 }
-said_illegal (Err e) i entries index rule before written illegal is_status appended = tt
+said_illegal (Err e) i entries index rule contents writer writer_after illegal is_status appended = tt
 
-pub said_illegal_part : (answer : Result ℕ CliFault) (i : Premises) (entries : List Entry) (index : ℕ) (rule : Rule) (before written : Option (List ℕ)) → IsFirstIllegal i entries index rule
-    → OnErr answer (WritesPart before written (illegal_line index rule)) → IfErr answer (λ e. is_write_fault e ≡ true → WritesVerdictPart i entries before written)
-said_illegal_part (Ok status) i entries index rule before written illegal part = tt
-said_illegal_part (Err e) i entries index rule before written illegal part = λ is_write. record {
+pub said_illegal_part : {W : Type 0} (answer : Result ℕ CliFault) (i : Premises) (entries : List Entry) (index : ℕ) (rule : Rule) (contents : W → Option (List ℕ)) (writer writer_after : Watched W) → IsFirstIllegal i entries index rule
+    → OnErr answer (WritesPart (contents writer.device) (contents writer_after.device) (illegal_line index rule)) → IfErr answer (LeavesVerdict i entries contents writer writer_after)
+said_illegal_part (Ok status) i entries index rule contents writer writer_after illegal part = tt
+said_illegal_part (Err e) i entries index rule contents writer writer_after illegal part = λ is_write. record {
   status = 4;
   text = illegal_line index rule;
   says = inr (record { index = index; rule = rule; illegal = illegal; status_is = refl; is = refl });
@@ -271,9 +272,9 @@ pub unsaid_write : (answer : Result ℕ CliFault) (P : Type 0) → IfErr answer 
 unsaid_write (Ok status) P is = tt
 unsaid_write (Err e) P is = λ no_write. absurd (true_or_false (subst (λ (f : CliFault). is_write_fault f ≡ false) is no_write))
 
-pub audit_answered : (options : ParkOptions) (history : List ℕ) (status : ℕ) (unread left before written : Option (List ℕ)) (i : Premises) (entries : List Entry) → ReadsInputs options unread left i
-    → HasHistory history entries → WritesVerdict i entries status before written → AnswersAudit options history status unread left before written
-audit_answered options history status unread left before written i entries reads has verdict = record {
+pub audit_answered : {R W : Type 0} (options : ParkOptions) (history : List ℕ) (status : ℕ) (remaining : R → Option (List ℕ)) (reader reader_after : Watched R) (contents : W → Option (List ℕ)) (writer writer_after : Watched W) (i : Premises) (entries : List Entry) → ReadsInputs options (remaining reader.device) (remaining reader_after.device) i
+    → HasHistory history entries → WritesVerdict i entries status contents writer writer_after → AnswersAudit options history status remaining reader reader_after contents writer writer_after
+audit_answered options history status remaining reader reader_after contents writer writer_after i entries reads has verdict = record {
   inputs = i;
   reads = reads;
   entries = entries;
@@ -281,9 +282,9 @@ audit_answered options history status unread left before written i entries reads
   verdict = verdict;
 }
 
-pub audit_begun : (options : ParkOptions) (history : List ℕ) (unread left before written : Option (List ℕ)) (i : Premises) (entries : List Entry) → ReadsInputs options unread left i
-    → HasHistory history entries → WritesVerdictPart i entries before written → AnswersAuditInPart options history unread left before written
-audit_begun options history unread left before written i entries reads has verdict = record {
+pub audit_begun : {R W : Type 0} (options : ParkOptions) (history : List ℕ) (remaining : R → Option (List ℕ)) (reader reader_after : Watched R) (contents : W → Option (List ℕ)) (writer writer_after : Watched W) (i : Premises) (entries : List Entry) → ReadsInputs options (remaining reader.device) (remaining reader_after.device) i
+    → HasHistory history entries → WritesVerdictPart i entries contents writer writer_after → AnswersAuditInPart options history remaining reader reader_after contents writer writer_after
+audit_begun options history remaining reader reader_after contents writer writer_after i entries reads has verdict = record {
   inputs = i;
   reads = reads;
   entries = entries;
@@ -291,118 +292,118 @@ audit_begun options history unread left before written i entries reads has verdi
   verdict = verdict;
 }
 
-pub audit_unread : (options : ParkOptions) (history : List ℕ) (unread left : Option (List ℕ)) (reader_marked writer_marked : Bool) (e : CliFault) → IsReadFault reader_marked e
-    → IsAuditFault options history unread left reader_marked writer_marked e
-audit_unread options history unread left reader_marked writer_marked (Derivation e) fault = absurd fault
-audit_unread options history unread left reader_marked writer_marked (Drvs e) fault = absurd fault
-audit_unread options history unread left reader_marked writer_marked (Builders e) fault = absurd fault
-audit_unread options history unread left reader_marked writer_marked (Info e) fault = absurd fault
-audit_unread options history unread left reader_marked writer_marked (Script e) fault = absurd fault
-audit_unread options history unread left reader_marked writer_marked (History e) fault = absurd fault
-audit_unread options history unread left reader_marked writer_marked (TooLarge place) fault = absurd fault
-audit_unread options history unread left reader_marked writer_marked Read fault = fault
-audit_unread options history unread left reader_marked writer_marked Write fault = absurd fault
-audit_unread options history unread left reader_marked writer_marked (Stand e) fault = absurd fault
-audit_unread options history unread left reader_marked writer_marked TooManySlots fault = absurd fault
-audit_unread options history unread left reader_marked writer_marked Thread fault = absurd fault
-audit_unread options history unread left reader_marked writer_marked Receipts fault = absurd fault
-audit_unread options history unread left reader_marked writer_marked Memory fault = tt
+pub audit_unread : {R : Type 0} (options : ParkOptions) (history : List ℕ) (remaining : R → Option (List ℕ)) (reader reader_after : Watched R) (writer_marked : Bool) (e : CliFault) → IsReadFault reader_after.is_marked e
+    → IsAuditFault options history remaining reader reader_after writer_marked e
+audit_unread options history remaining reader reader_after writer_marked (Derivation e) fault = absurd fault
+audit_unread options history remaining reader reader_after writer_marked (Drvs e) fault = absurd fault
+audit_unread options history remaining reader reader_after writer_marked (Builders e) fault = absurd fault
+audit_unread options history remaining reader reader_after writer_marked (Info e) fault = absurd fault
+audit_unread options history remaining reader reader_after writer_marked (Script e) fault = absurd fault
+audit_unread options history remaining reader reader_after writer_marked (History e) fault = absurd fault
+audit_unread options history remaining reader reader_after writer_marked (TooLarge place) fault = absurd fault
+audit_unread options history remaining reader reader_after writer_marked Read fault = fault
+audit_unread options history remaining reader reader_after writer_marked Write fault = absurd fault
+audit_unread options history remaining reader reader_after writer_marked (Stand e) fault = absurd fault
+audit_unread options history remaining reader reader_after writer_marked TooManySlots fault = absurd fault
+audit_unread options history remaining reader reader_after writer_marked Thread fault = absurd fault
+audit_unread options history remaining reader reader_after writer_marked Receipts fault = absurd fault
+audit_unread options history remaining reader reader_after writer_marked Memory fault = tt
 
-pub audit_park_refused : (options : ParkOptions) (history : List ℕ) (unread left : Option (List ℕ)) (reader_marked writer_marked : Bool) (text : List ℕ) (e : CliFault) → ReadsWhole unread left text
-    → IsParkFault options text e → IsAuditFault options history unread left reader_marked writer_marked e
-audit_park_refused options history unread left reader_marked writer_marked text (Derivation e) read fault = elim fault [ inl a ↦ absurd a | inr b ↦ elim b [ inl c ↦ absurd c.1 | inr d ↦ absurd d.2 ] ]
-audit_park_refused options history unread left reader_marked writer_marked text (Drvs e) read fault = record { text = text; read = read; refused = fault }
-audit_park_refused options history unread left reader_marked writer_marked text (Builders e) read fault = record { text = text; read = read; refused = fault }
-audit_park_refused options history unread left reader_marked writer_marked text (Info e) read fault = record { text = text; read = read; refused = fault }
-audit_park_refused options history unread left reader_marked writer_marked text (Script e) read fault = elim fault [ inl a ↦ absurd a | inr b ↦ elim b [ inl c ↦ absurd c.1 | inr d ↦ absurd d.2 ] ]
-audit_park_refused options history unread left reader_marked writer_marked text (History e) read fault = elim fault [ inl a ↦ absurd a | inr b ↦ elim b [ inl c ↦ absurd c.1 | inr d ↦ absurd d.2 ] ]
-audit_park_refused options history unread left reader_marked writer_marked text (TooLarge place) read fault = inl (record { text = text; read = read; refused = fault })
-audit_park_refused options history unread left reader_marked writer_marked text Read read fault = elim fault [ inl a ↦ absurd a | inr b ↦ elim b [ inl c ↦ absurd c.1 | inr d ↦ absurd d.2 ] ]
-audit_park_refused options history unread left reader_marked writer_marked text Write read fault = elim fault [ inl a ↦ absurd a | inr b ↦ elim b [ inl c ↦ absurd c.1 | inr d ↦ absurd d.2 ] ]
-audit_park_refused options history unread left reader_marked writer_marked text (Stand e) read fault = elim fault [ inl a ↦ absurd a | inr b ↦ elim b [ inl c ↦ absurd c.1 | inr d ↦ absurd d.2 ] ]
-audit_park_refused options history unread left reader_marked writer_marked text TooManySlots read fault = elim fault [ inl a ↦ absurd a | inr b ↦ elim b [ inl c ↦ absurd c.1 | inr d ↦ absurd d.2 ] ]
-audit_park_refused options history unread left reader_marked writer_marked text Thread read fault = elim fault [ inl a ↦ absurd a | inr b ↦ elim b [ inl c ↦ absurd c.1 | inr d ↦ absurd d.2 ] ]
-audit_park_refused options history unread left reader_marked writer_marked text Receipts read fault = elim fault [ inl a ↦ absurd a | inr b ↦ elim b [ inl c ↦ absurd c.1 | inr d ↦ absurd d.2 ] ]
-audit_park_refused options history unread left reader_marked writer_marked text Memory read fault = tt
+pub audit_park_refused : {R : Type 0} (options : ParkOptions) (history : List ℕ) (remaining : R → Option (List ℕ)) (reader reader_after : Watched R) (writer_marked : Bool) (text : List ℕ) (e : CliFault) → ReadsWhole (remaining reader.device) (remaining reader_after.device) text
+    → IsParkFault options text e → IsAuditFault options history remaining reader reader_after writer_marked e
+audit_park_refused options history remaining reader reader_after writer_marked text (Derivation e) read fault = elim fault [ inl a ↦ absurd a | inr b ↦ elim b [ inl c ↦ absurd c.1 | inr d ↦ absurd d.2 ] ]
+audit_park_refused options history remaining reader reader_after writer_marked text (Drvs e) read fault = record { text = text; read = read; refused = fault }
+audit_park_refused options history remaining reader reader_after writer_marked text (Builders e) read fault = record { text = text; read = read; refused = fault }
+audit_park_refused options history remaining reader reader_after writer_marked text (Info e) read fault = record { text = text; read = read; refused = fault }
+audit_park_refused options history remaining reader reader_after writer_marked text (Script e) read fault = elim fault [ inl a ↦ absurd a | inr b ↦ elim b [ inl c ↦ absurd c.1 | inr d ↦ absurd d.2 ] ]
+audit_park_refused options history remaining reader reader_after writer_marked text (History e) read fault = elim fault [ inl a ↦ absurd a | inr b ↦ elim b [ inl c ↦ absurd c.1 | inr d ↦ absurd d.2 ] ]
+audit_park_refused options history remaining reader reader_after writer_marked text (TooLarge place) read fault = inl (record { text = text; read = read; refused = fault })
+audit_park_refused options history remaining reader reader_after writer_marked text Read read fault = elim fault [ inl a ↦ absurd a | inr b ↦ elim b [ inl c ↦ absurd c.1 | inr d ↦ absurd d.2 ] ]
+audit_park_refused options history remaining reader reader_after writer_marked text Write read fault = elim fault [ inl a ↦ absurd a | inr b ↦ elim b [ inl c ↦ absurd c.1 | inr d ↦ absurd d.2 ] ]
+audit_park_refused options history remaining reader reader_after writer_marked text (Stand e) read fault = elim fault [ inl a ↦ absurd a | inr b ↦ elim b [ inl c ↦ absurd c.1 | inr d ↦ absurd d.2 ] ]
+audit_park_refused options history remaining reader reader_after writer_marked text TooManySlots read fault = elim fault [ inl a ↦ absurd a | inr b ↦ elim b [ inl c ↦ absurd c.1 | inr d ↦ absurd d.2 ] ]
+audit_park_refused options history remaining reader reader_after writer_marked text Thread read fault = elim fault [ inl a ↦ absurd a | inr b ↦ elim b [ inl c ↦ absurd c.1 | inr d ↦ absurd d.2 ] ]
+audit_park_refused options history remaining reader reader_after writer_marked text Receipts read fault = elim fault [ inl a ↦ absurd a | inr b ↦ elim b [ inl c ↦ absurd c.1 | inr d ↦ absurd d.2 ] ]
+audit_park_refused options history remaining reader reader_after writer_marked text Memory read fault = tt
 
-pub history_fault : (options : ParkOptions) (history : List ℕ) (unread left : Option (List ℕ)) (reader_marked writer_marked : Bool) (text : List ℕ) (graph : Nodes) (machines : List Builder) (local : Settings) (info : List (List ℕ × List (List ℕ)))
-    (e : CliFault) → ReadsWhole unread left text → HasPark options text graph machines info → local ≡ local_of options → IsHistoryFault history e
-    → IsAuditFault options history unread left reader_marked writer_marked e
-history_fault options history unread left reader_marked writer_marked text graph machines local info (Derivation e) read has is_local fault = absurd fault
-history_fault options history unread left reader_marked writer_marked text graph machines local info (Drvs e) read has is_local fault = absurd fault
-history_fault options history unread left reader_marked writer_marked text graph machines local info (Builders e) read has is_local fault = absurd fault
-history_fault options history unread left reader_marked writer_marked text graph machines local info (Info e) read has is_local fault = absurd fault
-history_fault options history unread left reader_marked writer_marked text graph machines local info (Script e) read has is_local fault = absurd fault
-history_fault options history unread left reader_marked writer_marked text graph machines local info (History e) read has is_local fault = record {
+pub history_fault : {R : Type 0} (options : ParkOptions) (history : List ℕ) (remaining : R → Option (List ℕ)) (reader reader_after : Watched R) (writer_marked : Bool) (text : List ℕ) (graph : Nodes) (machines : List Builder) (local : Settings) (info : List (List ℕ × List (List ℕ)))
+    (e : CliFault) → ReadsWhole (remaining reader.device) (remaining reader_after.device) text → HasPark options text graph machines info → local ≡ local_of options → IsHistoryFault history e
+    → IsAuditFault options history remaining reader reader_after writer_marked e
+history_fault options history remaining reader reader_after writer_marked text graph machines local info (Derivation e) read has is_local fault = absurd fault
+history_fault options history remaining reader reader_after writer_marked text graph machines local info (Drvs e) read has is_local fault = absurd fault
+history_fault options history remaining reader reader_after writer_marked text graph machines local info (Builders e) read has is_local fault = absurd fault
+history_fault options history remaining reader reader_after writer_marked text graph machines local info (Info e) read has is_local fault = absurd fault
+history_fault options history remaining reader reader_after writer_marked text graph machines local info (Script e) read has is_local fault = absurd fault
+history_fault options history remaining reader reader_after writer_marked text graph machines local info (History e) read has is_local fault = record {
   inputs = inputs_of options graph machines local info;
-  reads = park_read options unread left text graph machines local info read has is_local;
+  reads = park_read options (remaining reader.device) (remaining reader_after.device) text graph machines local info read has is_local;
   refused = fault;
 }
-history_fault options history unread left reader_marked writer_marked text graph machines local info (TooLarge place) read has is_local fault = inr (record {
+history_fault options history remaining reader reader_after writer_marked text graph machines local info (TooLarge place) read has is_local fault = inr (record {
   inputs = inputs_of options graph machines local info;
-  reads = park_read options unread left text graph machines local info read has is_local;
+  reads = park_read options (remaining reader.device) (remaining reader_after.device) text graph machines local info read has is_local;
   refused = fault;
 })
-history_fault options history unread left reader_marked writer_marked text graph machines local info Read read has is_local fault = absurd fault
-history_fault options history unread left reader_marked writer_marked text graph machines local info Write read has is_local fault = absurd fault
-history_fault options history unread left reader_marked writer_marked text graph machines local info (Stand e) read has is_local fault = absurd fault
-history_fault options history unread left reader_marked writer_marked text graph machines local info TooManySlots read has is_local fault = absurd fault
-history_fault options history unread left reader_marked writer_marked text graph machines local info Thread read has is_local fault = absurd fault
-history_fault options history unread left reader_marked writer_marked text graph machines local info Receipts read has is_local fault = absurd fault
-history_fault options history unread left reader_marked writer_marked text graph machines local info Memory read has is_local fault = tt
+history_fault options history remaining reader reader_after writer_marked text graph machines local info Read read has is_local fault = absurd fault
+history_fault options history remaining reader reader_after writer_marked text graph machines local info Write read has is_local fault = absurd fault
+history_fault options history remaining reader reader_after writer_marked text graph machines local info (Stand e) read has is_local fault = absurd fault
+history_fault options history remaining reader reader_after writer_marked text graph machines local info TooManySlots read has is_local fault = absurd fault
+history_fault options history remaining reader reader_after writer_marked text graph machines local info Thread read has is_local fault = absurd fault
+history_fault options history remaining reader reader_after writer_marked text graph machines local info Receipts read has is_local fault = absurd fault
+history_fault options history remaining reader reader_after writer_marked text graph machines local info Memory read has is_local fault = tt
 
-pub verdict_fault : (options : ParkOptions) (history : List ℕ) (unread left : Option (List ℕ)) (reader_marked writer_marked : Bool) (e : CliFault) → IsVerdictFault writer_marked e
-    → IsAuditFault options history unread left reader_marked writer_marked e
-verdict_fault options history unread left reader_marked writer_marked (Derivation e) fault = absurd fault
-verdict_fault options history unread left reader_marked writer_marked (Drvs e) fault = absurd fault
-verdict_fault options history unread left reader_marked writer_marked (Builders e) fault = absurd fault
-verdict_fault options history unread left reader_marked writer_marked (Info e) fault = absurd fault
-verdict_fault options history unread left reader_marked writer_marked (Script e) fault = absurd fault
-verdict_fault options history unread left reader_marked writer_marked (History e) fault = absurd fault
-verdict_fault options history unread left reader_marked writer_marked (TooLarge place) fault = absurd fault
-verdict_fault options history unread left reader_marked writer_marked Read fault = absurd fault
-verdict_fault options history unread left reader_marked writer_marked Write fault = fault
-verdict_fault options history unread left reader_marked writer_marked (Stand e) fault = absurd fault
-verdict_fault options history unread left reader_marked writer_marked TooManySlots fault = absurd fault
-verdict_fault options history unread left reader_marked writer_marked Thread fault = absurd fault
-verdict_fault options history unread left reader_marked writer_marked Receipts fault = absurd fault
-verdict_fault options history unread left reader_marked writer_marked Memory fault = tt
+pub verdict_fault : {R : Type 0} (options : ParkOptions) (history : List ℕ) (remaining : R → Option (List ℕ)) (reader reader_after : Watched R) (writer_marked : Bool) (e : CliFault) → IsVerdictFault writer_marked e
+    → IsAuditFault options history remaining reader reader_after writer_marked e
+verdict_fault options history remaining reader reader_after writer_marked (Derivation e) fault = absurd fault
+verdict_fault options history remaining reader reader_after writer_marked (Drvs e) fault = absurd fault
+verdict_fault options history remaining reader reader_after writer_marked (Builders e) fault = absurd fault
+verdict_fault options history remaining reader reader_after writer_marked (Info e) fault = absurd fault
+verdict_fault options history remaining reader reader_after writer_marked (Script e) fault = absurd fault
+verdict_fault options history remaining reader reader_after writer_marked (History e) fault = absurd fault
+verdict_fault options history remaining reader reader_after writer_marked (TooLarge place) fault = absurd fault
+verdict_fault options history remaining reader reader_after writer_marked Read fault = absurd fault
+verdict_fault options history remaining reader reader_after writer_marked Write fault = fault
+verdict_fault options history remaining reader reader_after writer_marked (Stand e) fault = absurd fault
+verdict_fault options history remaining reader reader_after writer_marked TooManySlots fault = absurd fault
+verdict_fault options history remaining reader reader_after writer_marked Thread fault = absurd fault
+verdict_fault options history remaining reader reader_after writer_marked Receipts fault = absurd fault
+verdict_fault options history remaining reader reader_after writer_marked Memory fault = tt
 
 false_or_true : false ≡ true → ⊥
 false_or_true same = cc
 
 -- what holds whether or not a writer is marked is no fault of the writer
-pub read_no_write : (options : ParkOptions) (history : List ℕ) (unread left : Option (List ℕ)) (reader_marked : Bool) (e : CliFault)
-    → ((writer_marked : Bool) → IsAuditFault options history unread left reader_marked writer_marked e) → is_write_fault e ≡ true → ⊥
-read_no_write options history unread left reader_marked Write fault is_write = false_or_true (fault false)
-read_no_write options history unread left reader_marked (Derivation e) fault is_write = false_or_true is_write
-read_no_write options history unread left reader_marked (Drvs e) fault is_write = false_or_true is_write
-read_no_write options history unread left reader_marked (Builders e) fault is_write = false_or_true is_write
-read_no_write options history unread left reader_marked (Info e) fault is_write = false_or_true is_write
-read_no_write options history unread left reader_marked (Script e) fault is_write = false_or_true is_write
-read_no_write options history unread left reader_marked (History e) fault is_write = false_or_true is_write
-read_no_write options history unread left reader_marked (TooLarge place) fault is_write = false_or_true is_write
-read_no_write options history unread left reader_marked Read fault is_write = false_or_true is_write
-read_no_write options history unread left reader_marked (Stand e) fault is_write = false_or_true is_write
-read_no_write options history unread left reader_marked TooManySlots fault is_write = false_or_true is_write
-read_no_write options history unread left reader_marked Thread fault is_write = false_or_true is_write
-read_no_write options history unread left reader_marked Receipts fault is_write = false_or_true is_write
-read_no_write options history unread left reader_marked Memory fault is_write = false_or_true is_write
+pub read_no_write : {R : Type 0} (options : ParkOptions) (history : List ℕ) (remaining : R → Option (List ℕ)) (reader reader_after : Watched R) (e : CliFault)
+    → ((writer_marked : Bool) → IsAuditFault options history remaining reader reader_after writer_marked e) → is_write_fault e ≡ true → ⊥
+read_no_write options history remaining reader reader_after Write fault is_write = false_or_true (fault false)
+read_no_write options history remaining reader reader_after (Derivation e) fault is_write = false_or_true is_write
+read_no_write options history remaining reader reader_after (Drvs e) fault is_write = false_or_true is_write
+read_no_write options history remaining reader reader_after (Builders e) fault is_write = false_or_true is_write
+read_no_write options history remaining reader reader_after (Info e) fault is_write = false_or_true is_write
+read_no_write options history remaining reader reader_after (Script e) fault is_write = false_or_true is_write
+read_no_write options history remaining reader reader_after (History e) fault is_write = false_or_true is_write
+read_no_write options history remaining reader reader_after (TooLarge place) fault is_write = false_or_true is_write
+read_no_write options history remaining reader reader_after Read fault is_write = false_or_true is_write
+read_no_write options history remaining reader reader_after (Stand e) fault is_write = false_or_true is_write
+read_no_write options history remaining reader reader_after TooManySlots fault is_write = false_or_true is_write
+read_no_write options history remaining reader reader_after Thread fault is_write = false_or_true is_write
+read_no_write options history remaining reader reader_after Receipts fault is_write = false_or_true is_write
+read_no_write options history remaining reader reader_after Memory fault is_write = false_or_true is_write
 
 -- what holds whether or not a writer is marked, for each way to end without an answer
 not_true : (b : Bool) → (b ≡ true → ⊥) → b ≡ false
 not_true true not = absurd (not refl)
 not_true false not = refl
 
-pub audit_read_no_write : (options : ParkOptions) (history : List ℕ) (unread left : Option (List ℕ)) (reader_marked : Bool) (e : CliFault)
-    → ((writer_marked : Bool) → IsAuditFault options history unread left reader_marked writer_marked e) → is_write_fault e ≡ false
-audit_read_no_write options history unread left reader_marked e fault =
-    not_true (is_write_fault e) (read_no_write options history unread left reader_marked e fault)
+pub audit_read_no_write : {R : Type 0} (options : ParkOptions) (history : List ℕ) (remaining : R → Option (List ℕ)) (reader reader_after : Watched R) (e : CliFault)
+    → ((writer_marked : Bool) → IsAuditFault options history remaining reader reader_after writer_marked e) → is_write_fault e ≡ false
+audit_read_no_write options history remaining reader reader_after e fault =
+    not_true (is_write_fault e) (read_no_write options history remaining reader reader_after e fault)
 
-pub sim_read_no_write : (options : ParkOptions) (script : List ℕ) (unread left : Option (List ℕ)) (reader_marked : Bool) (e : CliFault)
-    → ((writer_marked : Bool) → IsSimFault options script unread left reader_marked writer_marked e) → is_write_fault e ≡ false
-sim_read_no_write options script unread left reader_marked Write fault = absurd (false_or_true (fault false))
-sim_read_no_write options script unread left reader_marked _ fault = refl
+pub sim_read_no_write : {R : Type 0} (options : ParkOptions) (script : List ℕ) (remaining : R → Option (List ℕ)) (reader reader_after : Watched R) (e : CliFault)
+    → ((writer_marked : Bool) → IsSimFault options script remaining reader reader_after writer_marked e) → is_write_fault e ≡ false
+sim_read_no_write options script remaining reader reader_after Write fault = absurd (false_or_true (fault false))
+sim_read_no_write options script remaining reader reader_after _ fault = refl
 
 -- a verdict that isn't out is no refusal of an input
 pub verdict_ends : (marked : Bool) (e : CliFault) → IsVerdictFault marked e → exit_status e ≡ 5

@@ -1,9 +1,10 @@
 -- What `audit` answers: whether the history is legal, and else the first entry that isn't allowed with the first rule that refuses it.
--- The clauses of `audit_engine` cite this, but for `WritesVerdict`, `WritesVerdictPart` and `IsVerdictFault`, which serve private ones.
+-- The clauses of `audit_engine` cite this, but for `LeavesVerdict` and `IsVerdictFault`, which serve private ones.
 use Rattle.std.specs.Prelude.{◌≡◌, ◌⊎◌, ℕ, ◌<◌, ◌≤◌, Bool, true, false, List, ◌∷◌, ◌++◌, length, reverse, codes, Option}
 use Rattle.std.specs.Fmt.{decimal}
 use Rattle.std.specs.Io.KnownBytes.{Appends}
 use Rattle.nd_hook.specs.ReplyText.{line}
+use Rattle.nd_hook.specs.Watched.{Watched}
 use Rattle.nd_hook.specs.Written.{WritesPart}
 use Rattle.nd_history.specs.declared.entry.Entry.{Entry}
 use Rattle.nd_history.specs.declared.rule.Rule.{Rule}
@@ -13,7 +14,7 @@ use Rattle.nd_history.specs.Audit.{rule_name}
 use Rattle.nd_texts.specs.Sound.{IsHistoryText, IsRefused}
 use Rattle.nd_report.specs.Audits.{IsFirstIllegal}
 use Rattle.nd_texts.specs.declared.history_error.HistoryError.{HistoryError}
-use Rattle.nd_cli.specs.Inputs.{limit}
+use Rattle.nd_cli.specs.Inputs.{limit, is_write_fault}
 use Rattle.nd_cli.specs.Parks.{IsParkAccepted}
 use Rattle.nd_cli.specs.Asked.{RefusesPark}
 use Rattle.nd_cli.specs.declared.options.ParkOptions.{ParkOptions}
@@ -51,9 +52,13 @@ verdict_word false = codes "illegal "
 unfoldable pub legal_line : ℕ → List ℕ
 legal_line count = line (verdict_word true ++ decimal count)
 
+-- an entry's place, and the rule that refuses it
+abbrev pub refusal_words : ℕ → Rule → List ℕ
+refusal_words index rule = decimal index ++ 32 ∷ rule_name rule
+
 -- the line for one whose entry at this place is refused by this rule
 unfoldable pub illegal_line : ℕ → Rule → List ℕ
-illegal_line index rule = line (verdict_word false ++ (decimal index ++ 32 ∷ rule_name rule))
+illegal_line index rule = line (verdict_word false ++ refusal_words index rule)
 
 -- the history is legal: status 0
 pub record SaysLegal (i : Premises) (entries : List Entry) (status : ℕ) (text : List ℕ) : Type 0 where
@@ -73,33 +78,42 @@ abbrev pub SaysAudit : Premises → List Entry → ℕ → List ℕ → Type 0
 SaysAudit i entries status text = SaysLegal i entries status text ⊎ SaysIllegal i entries status text
 
 -- the verdict was written
-pub record WritesVerdict (i : Premises) (entries : List Entry) (status : ℕ) (before written : Option (List ℕ)) : Type 0 where
+pub record WritesVerdict {W : Type 0} (i : Premises) (entries : List Entry) (status : ℕ) (contents : W → Option (List ℕ)) (writer writer_after : Watched W) : Type 0 where
   pub text : List ℕ
   pub says : SaysAudit i entries status text
-  pub appended : Appends before written text
+  pub appended : Appends (contents writer.device) (contents writer_after.device) text
 
 -- a part of it was written, from its beginning
-pub record WritesVerdictPart (i : Premises) (entries : List Entry) (before written : Option (List ℕ)) : Type 0 where
+pub record WritesVerdictPart {W : Type 0} (i : Premises) (entries : List Entry) (contents : W → Option (List ℕ)) (writer writer_after : Watched W) : Type 0 where
   pub status : ℕ
   pub text : List ℕ
   pub says : SaysAudit i entries status text
-  pub part : WritesPart before written text
+  pub part : WritesPart (contents writer.device) (contents writer_after.device) text
+
+-- what a fault leaves of a verdict: the writer's, a part of it
+abbrev pub LeavesVerdict : {W : Type 0} → Premises → List Entry → (W → Option (List ℕ)) → Watched W → Watched W → CliFault → Type 0
+LeavesVerdict i entries contents writer writer_after e = is_write_fault e ≡ true → WritesVerdictPart i entries contents writer writer_after
 
 -- the inputs are accepted, and the verdict was written
-pub record AnswersAudit (options : ParkOptions) (history : List ℕ) (status : ℕ) (unread left before written : Option (List ℕ)) : Type 0 where
+pub record AnswersAudit {R W : Type 0} (options : ParkOptions) (history : List ℕ) (status : ℕ) (remaining : R → Option (List ℕ)) (reader reader_after : Watched R) (contents : W → Option (List ℕ)) (writer writer_after : Watched W) : Type 0 where
   pub inputs : Premises
-  pub reads : ReadsInputs options unread left inputs
+  pub reads : ReadsInputs options (remaining reader.device) (remaining reader_after.device) inputs
   pub entries : List Entry
   pub has : HasHistory history entries
-  pub verdict : WritesVerdict inputs entries status before written
+  pub verdict : WritesVerdict inputs entries status contents writer writer_after
 
 -- .. or a part of it
-pub record AnswersAuditInPart (options : ParkOptions) (history : List ℕ) (unread left before written : Option (List ℕ)) : Type 0 where
+pub record AnswersAuditInPart {R W : Type 0} (options : ParkOptions) (history : List ℕ) (remaining : R → Option (List ℕ)) (reader reader_after : Watched R) (contents : W → Option (List ℕ)) (writer writer_after : Watched W) : Type 0 where
   pub inputs : Premises
-  pub reads : ReadsInputs options unread left inputs
+  pub reads : ReadsInputs options (remaining reader.device) (remaining reader_after.device) inputs
   pub entries : List Entry
   pub has : HasHistory history entries
-  pub verdict : WritesVerdictPart inputs entries before written
+  pub verdict : WritesVerdictPart inputs entries contents writer writer_after
+
+-- what a fault leaves: the writer's, a part of the verdict
+abbrev pub LeavesAudit : {R W : Type 0} → ParkOptions → List ℕ → (R → Option (List ℕ)) → Watched R → Watched R → (W → Option (List ℕ)) → Watched W → Watched W → CliFault → Type 0
+LeavesAudit options history remaining reader reader_after contents writer writer_after e =
+    is_write_fault e ≡ true → AnswersAuditInPart options history remaining reader reader_after contents writer writer_after
 
 -- each input is accepted
 pub record IsAuditAccepted (options : ParkOptions) (text history : List ℕ) : Type 0 where
@@ -118,21 +132,21 @@ abbrev pub RefusesAudit : ParkOptions → List ℕ → Option (List ℕ) → Opt
 RefusesAudit options history unread left fault = RefusesPark options unread left fault ⊎ RefusesHistory options history unread left fault
 
 -- Why there is no answer: an input is refused, a device failed and is marked, or memory ran out.
-abbrev pub IsAuditFault : ParkOptions → List ℕ → Option (List ℕ) → Option (List ℕ) → Bool → Bool → CliFault → Type 0
-IsAuditFault options history unread left reader_marked writer_marked (Derivation e) = ⊥
-IsAuditFault options history unread left reader_marked writer_marked (Drvs e) = RefusesPark options unread left (Drvs e)
-IsAuditFault options history unread left reader_marked writer_marked (Builders e) = RefusesPark options unread left (Builders e)
-IsAuditFault options history unread left reader_marked writer_marked (Info e) = RefusesPark options unread left (Info e)
-IsAuditFault options history unread left reader_marked writer_marked (Script e) = ⊥
-IsAuditFault options history unread left reader_marked writer_marked (History e) = RefusesHistory options history unread left (History e)
-IsAuditFault options history unread left reader_marked writer_marked (Stand e) = ⊥
-IsAuditFault options history unread left reader_marked writer_marked (TooLarge place) = RefusesAudit options history unread left (TooLarge place)
-IsAuditFault options history unread left reader_marked writer_marked TooManySlots = ⊥
-IsAuditFault options history unread left reader_marked writer_marked Read = reader_marked ≡ true
-IsAuditFault options history unread left reader_marked writer_marked Write = writer_marked ≡ true
-IsAuditFault options history unread left reader_marked writer_marked Memory = Unit {0}
-IsAuditFault options history unread left reader_marked writer_marked Thread = ⊥
-IsAuditFault options history unread left reader_marked writer_marked Receipts = ⊥
+abbrev pub IsAuditFault : {R : Type 0} → ParkOptions → List ℕ → (R → Option (List ℕ)) → Watched R → Watched R → Bool → CliFault → Type 0
+IsAuditFault options history remaining reader reader_after writer_marked (Derivation e) = ⊥
+IsAuditFault options history remaining reader reader_after writer_marked (Drvs e) = RefusesPark options (remaining reader.device) (remaining reader_after.device) (Drvs e)
+IsAuditFault options history remaining reader reader_after writer_marked (Builders e) = RefusesPark options (remaining reader.device) (remaining reader_after.device) (Builders e)
+IsAuditFault options history remaining reader reader_after writer_marked (Info e) = RefusesPark options (remaining reader.device) (remaining reader_after.device) (Info e)
+IsAuditFault options history remaining reader reader_after writer_marked (Script e) = ⊥
+IsAuditFault options history remaining reader reader_after writer_marked (History e) = RefusesHistory options history (remaining reader.device) (remaining reader_after.device) (History e)
+IsAuditFault options history remaining reader reader_after writer_marked (Stand e) = ⊥
+IsAuditFault options history remaining reader reader_after writer_marked (TooLarge place) = RefusesAudit options history (remaining reader.device) (remaining reader_after.device) (TooLarge place)
+IsAuditFault options history remaining reader reader_after writer_marked TooManySlots = ⊥
+IsAuditFault options history remaining reader reader_after writer_marked Read = reader_after.is_marked ≡ true
+IsAuditFault options history remaining reader reader_after writer_marked Write = writer_marked ≡ true
+IsAuditFault options history remaining reader reader_after writer_marked Memory = Unit {0}
+IsAuditFault options history remaining reader reader_after writer_marked Thread = ⊥
+IsAuditFault options history remaining reader reader_after writer_marked Receipts = ⊥
 
 -- why no verdict is out: the writer failed and is marked, or memory ran out
 abbrev pub IsVerdictFault : Bool → CliFault → Type 0

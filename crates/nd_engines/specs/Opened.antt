@@ -1,17 +1,23 @@
 -- The dispatch over what a command was given. The engines' clauses cite this, but for `IsOpened`, which serves a private one.
-use Rattle.std.specs.Prelude.{◌≡◌, ℕ, List, [], Option}
+use Rattle.std.specs.Prelude.{◌≡◌, ℕ, Bool, List, [], Option}
 use Rattle.nd_machines.specs.Builders.{Builder}
 use Rattle.nd_eligible.specs.Settings.{Settings}
 use Rattle.nd_graph.specs.Graphs.{Nodes}
+use Rattle.nd_hook.specs.Watched.{Watched}
 use Rattle.nd_history.specs.Premises.{Premises, premises}
 use Rattle.nd_ledger.specs.Worlds.{World}
 use Rattle.nd_cli.specs.Inputs.{ReadsWhole}
 use Rattle.nd_cli.specs.Parks.{HasPark, local_of}
 use Rattle.nd_cli.specs.declared.options.ParkOptions.{ParkOptions}
+use Rattle.nd_cli.specs.declared.park.Park.{Park}
 
 -- the five inputs of a dispatch over these derivations, machines and references
 abbrev pub inputs_of : ParkOptions → Nodes → List Builder → Settings → List (List ℕ × List (List ℕ)) → Premises
 inputs_of options graph machines local info = premises graph machines local info options.keep_going
+
+-- the five inputs of a dispatch over this park
+abbrev pub park_inputs : Park → Bool → Premises
+park_inputs park keep_going = premises park.graph park.machines.items park.local park.info.entries keep_going
 
 -- the five inputs that the bundle and the options describe
 pub record HasInputs (options : ParkOptions) (text : List ℕ) (i : Premises) : Type 0 where
@@ -29,3 +35,7 @@ pub record ReadsInputs (options : ParkOptions) (unread left : Option (List ℕ))
   pub text : List ℕ
   pub read : ReadsWhole unread left text
   pub has : HasInputs options text i
+
+-- .. of this reader, and they are those of this park
+abbrev pub IsParkGiven : {R : Type 0} → ParkOptions → (R → Option (List ℕ)) → Watched R → Watched R → Park → Type 0
+IsParkGiven options remaining reader reader_after park = ReadsInputs options (remaining reader.device) (remaining reader_after.device) (park_inputs park options.keep_going)

@@ -1,13 +1,13 @@
 //! The command `audit`.
 
-ghost use Rattle.std.specs.Prelude.{◌≡◌, ◌≤◌, ◌||◌, ℕ, List, Some, true, false, length, is_err, IfOk, IfErr, OnOk, OnErr};
+ghost use Rattle.std.specs.Prelude.{◌≡◌, ◌≤◌, ◌||◌, ℕ, List, Some, false, length, is_err, IfOk, IfErr, OnOk, OnErr};
 ghost use Rattle.std.specs.Io.KnownBytes.{Appends};
 ghost use Rattle.nd_hook.specs.Written.{WritesPart};
 ghost use Rattle.nd_cli.specs.declared.fault.CliFault.{CliFault};
-ghost use Rattle.nd_cli.specs.Statuses.{exit_status};
+ghost use Rattle.nd_cli.specs.Statuses.{RefusesNoInput};
 ghost use Rattle.nd_cli.specs.Inputs.{is_write_fault, is_read_failure, is_write_failure};
-ghost use Rattle.nd_report.specs.Audits.{premises};
-ghost use Rattle.nd_engines.specs.Audited.{IsAuditAccepted, AnswersAudit, AnswersAuditInPart, IsAuditFault, WritesVerdict, WritesVerdictPart, IsVerdictFault, legal_line, illegal_line};
+ghost use Rattle.nd_engines.specs.Opened.{park_inputs};
+ghost use Rattle.nd_engines.specs.Audited.{IsAuditAccepted, AnswersAudit, LeavesAudit, IsAuditFault, WritesVerdict, LeavesVerdict, IsVerdictFault, legal_line, illegal_line};
 
 use crate::reading::read_audit_inputs;
 use crate::verdict::{write_illegal, write_legal};
@@ -42,13 +42,13 @@ pub fn audit_engine<R: Read, W: Write>(
 ) -> Result<u8, CliFault>
     requires reader { input.old.is_marked ≡ false }
     requires writer { output.old.is_marked ≡ false }
-    ensures answer { IfOk result (λ status. AnswersAudit options.now history.now status (R.remaining input.old.device) (R.remaining input.new.device) (W.contents output.old.device) (W.contents output.new.device)) }
-    ensures fault { IfErr result (IsAuditFault options.now history.now (R.remaining input.old.device) (R.remaining input.new.device) input.new.is_marked output.new.is_marked) }
+    ensures answer { IfOk result (λ status. AnswersAudit options.now history.now status R.remaining input.old input.new W.contents output.old output.new) }
+    ensures fault { IfErr result (IsAuditFault options.now history.now R.remaining input.old input.new output.new.is_marked) }
     ensures reader_mark { input.new.is_marked ≡ is_read_failure result }
     ensures writer_mark { output.new.is_marked ≡ is_write_failure result }
-    ensures exactly { (text : List ℕ) → R.remaining input.old.device ≡ Some text → IsAuditAccepted options.now text history.now → IfErr result (λ e. exit_status e ≡ 5) }
+    ensures exactly { (text : List ℕ) → R.remaining input.old.device ≡ Some text → IsAuditAccepted options.now text history.now → RefusesNoInput result }
     ensures untouched { IfErr result (λ e. is_write_fault e ≡ false → output.new ≡ output.old) }
-    ensures partly { IfErr result (λ e. is_write_fault e ≡ true → AnswersAuditInPart options.now history.now (R.remaining input.old.device) (R.remaining input.new.device) (W.contents output.old.device) (W.contents output.new.device)) }
+    ensures partly { IfErr result (LeavesAudit options.now history.now R.remaining input.old input.new W.contents output.old output.new) }
 {
     let given = match read_audit_inputs(rt, alloc, options, history, input) {
         Ok(given) => given,
@@ -75,8 +75,8 @@ fn write_verdict<W: Write>(
     output: &mut Told<W>,
 ) -> Result<u8, CliFault>
     requires few { length park.now.machines.items ≤ 1024 }
-    ensures written { IfOk result (λ status. WritesVerdict (premises park.now.graph park.now.machines.items park.now.local park.now.info keep_going) entries.now status (W.contents output.old.device) (W.contents output.new.device)) }
-    ensures partly { IfErr result (λ e. is_write_fault e ≡ true → WritesVerdictPart (premises park.now.graph park.now.machines.items park.now.local park.now.info keep_going) entries.now (W.contents output.old.device) (W.contents output.new.device)) }
+    ensures written { IfOk result (λ status. WritesVerdict (park_inputs park.now keep_going) entries.now status W.contents output.old output.new) }
+    ensures partly { IfErr result (LeavesVerdict (park_inputs park.now keep_going) entries.now W.contents output.old output.new) }
     ensures fault { IfErr result (IsVerdictFault output.new.is_marked) }
     ensures mark { output.new.is_marked ≡ (output.old.is_marked || is_write_failure result) }
     ensures untouched { IfErr result (λ e. is_write_fault e ≡ false → output.new ≡ output.old) }

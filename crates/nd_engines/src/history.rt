@@ -1,8 +1,8 @@
 //! The history text of an audit.
 
-ghost use Rattle.std.specs.Prelude.{◌≡◌, List, IfOk, IfErr, MatchResult};
+ghost use Rattle.std.specs.Prelude.{◌≡◌, List, IfOk, IfErr};
 ghost use Rattle.nd_history.specs.declared.entry.Entry.{Entry};
-ghost use Rattle.nd_cli.specs.declared.fault.CliFault.{CliFault};
+ghost use Rattle.nd_cli.specs.Inputs.{OkUnlessMemory};
 ghost use Rattle.nd_engines.specs.Audited.{HasHistory, IsHistoryFault};
 
 use nd_cli::{CliFault, HistoryRefusal, LIMIT, Place};
@@ -16,7 +16,7 @@ use std::alloc::Global;
 pub(crate) fn read_entries(alloc: Global, history: &[u8]) -> Result<Vec<Entry>, CliFault>
     ensures read { IfOk result (λ entries. HasHistory history.now entries.items) }
     ensures refused { IfErr result (IsHistoryFault history.now) }
-    ensures exactly { (entries : List Entry) → HasHistory history.now entries → MatchResult result (λ read. read.items ≡ entries) (λ e. e ≡ CliFault.Memory) }
+    ensures exactly { (entries : List Entry) → HasHistory history.now entries → OkUnlessMemory result (λ read. read.items ≡ entries) }
 {
     if history.len() > LIMIT {
         return Err(CliFault::TooLarge(Place::History));

@@ -1,8 +1,8 @@
 //! The dispatch over what a command was given, from its making to its end.
 
-ghost use Rattle.std.specs.Prelude.{◌≡◌, IfOk, IfErr, MatchResult};
+ghost use Rattle.std.specs.Prelude.{◌≡◌, IfOk, IfErr};
 ghost use Rattle.nd_history.specs.Premises.{Premises};
-ghost use Rattle.nd_cli.specs.declared.fault.CliFault.{CliFault};
+ghost use Rattle.nd_cli.specs.Inputs.{OkUnlessMemory};
 ghost use Rattle.nd_cli.specs.Parks.{IsParkFault};
 ghost use Rattle.nd_engines.specs.Opened.{HasInputs, IsOpened};
 
@@ -24,7 +24,7 @@ pub(crate) fn open_dispatch(
 ) -> Result<Dispatch, CliFault>
     ensures opened { IfOk result (IsOpened options.now text.now) }
     ensures refused { IfErr result (IsParkFault options.now text.now) }
-    ensures exactly { (inputs : Premises) → HasInputs options.now text.now inputs → MatchResult result (λ dispatch. dispatch.inputs ≡ inputs) (λ e. e ≡ CliFault.Memory) }
+    ensures exactly { (inputs : Premises) → HasInputs options.now text.now inputs → OkUnlessMemory result (λ dispatch. dispatch.inputs ≡ inputs) }
 {
     let park = match read_park(rt, alloc, options, text) {
         Ok(park) => park,

@@ -3,9 +3,9 @@
 ghost use Rattle.std.specs.Prelude.{◌≡◌, ◌≤◌, ℕ, List, Some, Bool, false, length, IfOk, IfErr};
 ghost use Rattle.std.specs.List.{All};
 ghost use Rattle.nd_cli.specs.Inputs.{is_read_failure};
-ghost use Rattle.nd_cli.specs.Statuses.{exit_status};
+ghost use Rattle.nd_cli.specs.Statuses.{RefusesNoInput};
 ghost use Rattle.nd_sim.specs.Answers.{IsNamed};
-ghost use Rattle.nd_engines.specs.Opened.{inputs_of, ReadsInputs};
+ghost use Rattle.nd_engines.specs.Opened.{IsParkGiven};
 ghost use Rattle.nd_engines.specs.Simulated.{IsSimAccepted, IsSimGiven, IsSimFault};
 ghost use Rattle.nd_engines.specs.Audited.{HasHistory, IsAuditAccepted, IsAuditFault};
 
@@ -50,11 +50,11 @@ pub(crate) fn read_sim_inputs<R: Read>(
     input: &mut Told<R>,
 ) -> Result<SimInputs, CliFault>
     requires reader { input.old.is_marked ≡ false }
-    ensures read { IfOk result (λ given. IsSimGiven options.now script.now (R.remaining input.old.device) (R.remaining input.new.device) given.dispatch given.commands.items) }
+    ensures read { IfOk result (λ given. IsSimGiven options.now script.now R.remaining input.old input.new given.dispatch given.commands.items) }
     ensures named { IfOk result (λ given. All (IsNamed given.dispatch.inputs) given.commands.items) }
     ensures mark { input.new.is_marked ≡ is_read_failure result }
-    ensures exactly { (text : List ℕ) → R.remaining input.old.device ≡ Some text → IsSimAccepted options.now text script.now → IfErr result (λ e. exit_status e ≡ 5) }
-    ensures fault { IfErr result (λ e. (writer_marked : Bool) → IsSimFault options.now script.now (R.remaining input.old.device) (R.remaining input.new.device) input.new.is_marked writer_marked e) }
+    ensures exactly { (text : List ℕ) → R.remaining input.old.device ≡ Some text → IsSimAccepted options.now text script.now → RefusesNoInput result }
+    ensures fault { IfErr result (λ e. (writer_marked : Bool) → IsSimFault options.now script.now R.remaining input.old input.new writer_marked e) }
 {
     let text = match read_input(alloc, input) {
         Ok(text) => text,
@@ -87,12 +87,12 @@ pub(crate) fn read_audit_inputs<R: Read>(
     input: &mut Told<R>,
 ) -> Result<AuditInputs, CliFault>
     requires reader { input.old.is_marked ≡ false }
-    ensures read { IfOk result (λ given. ReadsInputs options.now (R.remaining input.old.device) (R.remaining input.new.device) (inputs_of options.now given.park.graph given.park.machines.items given.park.local given.park.info.entries)) }
+    ensures read { IfOk result (λ given. IsParkGiven options.now R.remaining input.old input.new given.park) }
     ensures entries { IfOk result (λ given. HasHistory history.now given.entries.items) }
     ensures few { IfOk result (λ given. length given.park.machines.items ≤ 1024) }
     ensures mark { input.new.is_marked ≡ is_read_failure result }
-    ensures exactly { (text : List ℕ) → R.remaining input.old.device ≡ Some text → IsAuditAccepted options.now text history.now → IfErr result (λ e. exit_status e ≡ 5) }
-    ensures fault { IfErr result (λ e. (writer_marked : Bool) → IsAuditFault options.now history.now (R.remaining input.old.device) (R.remaining input.new.device) input.new.is_marked writer_marked e) }
+    ensures exactly { (text : List ℕ) → R.remaining input.old.device ≡ Some text → IsAuditAccepted options.now text history.now → RefusesNoInput result }
+    ensures fault { IfErr result (λ e. (writer_marked : Bool) → IsAuditFault options.now history.now R.remaining input.old input.new writer_marked e) }
 {
     let text = match read_input(alloc, input) {
         Ok(text) => text,

@@ -1,8 +1,8 @@
 //! The script of a simulation.
 
-ghost use Rattle.std.specs.Prelude.{◌≡◌, List, length, IfOk, IfErr, MatchResult};
+ghost use Rattle.std.specs.Prelude.{◌≡◌, List, length, IfOk, IfErr};
 ghost use Rattle.nd_script.specs.declared.command.Command.{Command};
-ghost use Rattle.nd_cli.specs.declared.fault.CliFault.{CliFault};
+ghost use Rattle.nd_cli.specs.Inputs.{OkUnlessMemory};
 ghost use Rattle.std.specs.List.{All};
 ghost use Rattle.nd_history.specs.Choices.{machines_in};
 ghost use Rattle.nd_sim.specs.Answers.{IsNamed};
@@ -24,7 +24,7 @@ pub(crate) fn read_script(
     ensures read { IfOk result (λ commands. HasScript dispatch.now.inputs script.now commands.items) }
     ensures named { IfOk result (λ commands. All (IsNamed dispatch.now.inputs) commands.items) }
     ensures refused { IfErr result (IsScriptFault dispatch.now.inputs script.now) }
-    ensures exactly { (commands : List Command) → HasScript dispatch.now.inputs script.now commands → MatchResult result (λ read. read.items ≡ commands) (λ e. e ≡ CliFault.Memory) }
+    ensures exactly { (commands : List Command) → HasScript dispatch.now.inputs script.now commands → OkUnlessMemory result (λ read. read.items ≡ commands) }
 {
     if script.len() > LIMIT {
         return Err(CliFault::TooLarge(Place::Script));

@@ -1,12 +1,11 @@
 //! The command `sim`.
 
-ghost use Rattle.std.specs.Prelude.{◌≡◌, ◌||◌, true, false, [], IfOk, IfErr, OnErr};
+ghost use Rattle.std.specs.Prelude.{◌≡◌, ◌||◌, false, [], IfOk, IfErr, OnErr};
 ghost use Rattle.std.specs.List.{All};
 ghost use Rattle.nd_sim.specs.Answers.{IsNamed};
 ghost use Rattle.nd_cli.specs.Inputs.{is_read_failure, is_write_failure};
-ghost use Rattle.nd_sim.specs.Written.{WritesSimulation, WritesSimulationPart};
 ghost use Rattle.nd_sim.specs.Written.{is_write_failure as is_writer_failure};
-ghost use Rattle.nd_engines.specs.Simulated.{AnswersSim, AnswersAccepted, LeavesSim, IsSimFault, may_have_begun};
+ghost use Rattle.nd_engines.specs.Simulated.{AnswersSim, AnswersAccepted, LeavesSim, IsSimFault, WritesGiven, WritesGivenPart, may_have_begun};
 
 use crate::opening::close_dispatch;
 use crate::reading::{SimInputs, read_sim_inputs};
@@ -38,13 +37,13 @@ pub fn sim_engine<R: Read, W: Write>(
 ) -> Result<u8, CliFault>
     requires reader { input.old.is_marked ≡ false }
     requires writer { output.old.is_marked ≡ false }
-    ensures answer { IfOk result (λ status. AnswersSim options.now script.now status (R.remaining input.old.device) (R.remaining input.new.device) (W.contents output.old.device) (W.contents output.new.device)) }
-    ensures accepted { AnswersAccepted options.now script.now (R.remaining input.old.device) (W.contents output.old.device) (W.contents output.new.device) result }
-    ensures fault { IfErr result (IsSimFault options.now script.now (R.remaining input.old.device) (R.remaining input.new.device) input.new.is_marked output.new.is_marked) }
+    ensures answer { IfOk result (λ status. AnswersSim options.now script.now status R.remaining input.old input.new W.contents output.old output.new) }
+    ensures accepted { AnswersAccepted options.now script.now R.remaining input.old W.contents output.old output.new result }
+    ensures fault { IfErr result (IsSimFault options.now script.now R.remaining input.old input.new output.new.is_marked) }
     ensures reader_mark { input.new.is_marked ≡ is_read_failure result }
     ensures writer_mark { output.new.is_marked ≡ is_write_failure result }
     ensures untouched { IfErr result (λ e. may_have_begun e ≡ false → output.new ≡ output.old) }
-    ensures partly { IfErr result (λ e. may_have_begun e ≡ true → LeavesSim options.now script.now (R.remaining input.old.device) (R.remaining input.new.device) (W.contents output.old.device) (W.contents output.new.device)) }
+    ensures partly { IfErr result (LeavesSim options.now script.now R.remaining input.old input.new W.contents output.old output.new) }
 {
     let given = match read_sim_inputs(rt, alloc, options, script, input) {
         Ok(given) => given,
@@ -61,8 +60,8 @@ pub fn sim_engine<R: Read, W: Write>(
 fn perform<W: Write>(alloc: Global, given: SimInputs, output: &mut Told<W>) -> Result<u8, SimFault>
     requires begun { given.dispatch.history ≡ [] }
     requires named { All (IsNamed given.dispatch.inputs) given.commands.items }
-    ensures written { IfOk result (λ status. WritesSimulation given.dispatch.inputs given.commands.items status (W.contents output.old.device) (W.contents output.new.device)) }
-    ensures partly { OnErr result (WritesSimulationPart given.dispatch.inputs given.commands.items (W.contents output.old.device) (W.contents output.new.device)) }
+    ensures written { IfOk result (λ status. WritesGiven given status W.contents output.old output.new) }
+    ensures partly { OnErr result (WritesGivenPart given W.contents output.old output.new) }
     ensures mark { output.new.is_marked ≡ (output.old.is_marked || is_writer_failure result) }
 {
     let SimInputs {

@@ -5,7 +5,7 @@ ghost use Rattle.std.specs.Fmt.{decimal};
 ghost use Rattle.std.specs.Io.KnownBytes.{Appends};
 ghost use Rattle.nd_hook.specs.Written.{WritesPart};
 ghost use Rattle.nd_history.specs.Audit.{rule_name};
-ghost use Rattle.nd_engines.specs.Audited.{legal_line, illegal_line, verdict_word};
+ghost use Rattle.nd_engines.specs.Audited.{legal_line, illegal_line, refusal_words, verdict_word};
 
 use itoa::Buffer;
 use nd_hook::{Fault, Told};
@@ -65,8 +65,8 @@ fn put_legal<W: Write>(count: usize, output: &mut Told<W>) -> Result<(), Fault>
 /// Writes the words for a history that isn't legal.
 #[tactic(auto, using(nd_hook::proofs::Pieces::writes))]
 fn put_illegal<W: Write>(index: usize, rule: Rule, output: &mut Told<W>) -> Result<(), Fault>
-    ensures written { OnOk result (Appends (W.contents output.old.device) (W.contents output.new.device) (verdict_word false ++ (decimal index ++ 32 ∷ rule_name rule))) }
-    ensures partly { OnErr result (WritesPart (W.contents output.old.device) (W.contents output.new.device) (verdict_word false ++ (decimal index ++ 32 ∷ rule_name rule))) }
+    ensures written { OnOk result (Appends (W.contents output.old.device) (W.contents output.new.device) (verdict_word false ++ refusal_words index rule)) }
+    ensures partly { OnErr result (WritesPart (W.contents output.old.device) (W.contents output.new.device) (verdict_word false ++ refusal_words index rule)) }
     ensures mark { output.new.is_marked ≡ (output.old.is_marked || is_err result) }
 {
     output.put_all(word(false))?;
@@ -76,8 +76,8 @@ fn put_illegal<W: Write>(index: usize, rule: Rule, output: &mut Told<W>) -> Resu
 /// Writes a place and a rule.
 #[tactic(auto, using(nd_hook::proofs::Pieces::writes))]
 fn put_cause<W: Write>(index: usize, rule: Rule, output: &mut Told<W>) -> Result<(), Fault>
-    ensures written { OnOk result (Appends (W.contents output.old.device) (W.contents output.new.device) (decimal index ++ 32 ∷ rule_name rule)) }
-    ensures partly { OnErr result (WritesPart (W.contents output.old.device) (W.contents output.new.device) (decimal index ++ 32 ∷ rule_name rule)) }
+    ensures written { OnOk result (Appends (W.contents output.old.device) (W.contents output.new.device) (refusal_words index rule)) }
+    ensures partly { OnErr result (WritesPart (W.contents output.old.device) (W.contents output.new.device) (refusal_words index rule)) }
     ensures mark { output.new.is_marked ≡ (output.old.is_marked || is_err result) }
 {
     put_number(index, output)?;

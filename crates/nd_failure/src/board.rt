@@ -213,6 +213,13 @@ impl Board {
         self.stop = true;
     }
 
+    /// Whether a stop was asked for.
+    pub fn has_stop(&self) -> bool
+        ensures { result ≡ self.now.stop }
+    {
+        self.stop
+    }
+
     /// Whether some node has failed.
     fn has_failure(&self) -> bool
         ensures { MatchBool result (HasFailure self.now.marks) (HasFailure self.now.marks → ⊥) }

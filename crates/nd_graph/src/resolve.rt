@@ -52,7 +52,7 @@ fn number_row(
     requires there { HasInputs paths.now.keys wants.now }
     requires sized { length names.now ≡ length paths.now.keys }
     requires rising { AllNamesRise names.now }
-    ensures { IfOk result (λ row. MatchOption row (LacksOutput paths.now.keys names.now wants.now) (λ inputs. AreNumbered paths.now.keys names.now wants.now inputs)) }
+    ensures { IfOk result (λ row. MatchOption row (LacksOutput paths.now.keys names.now wants.now) (AreNumbered paths.now.keys names.now wants.now)) }
 {
     let mut row = Vec::with_capacity(alloc, wants.len())?;
     for want in wants {

@@ -3,9 +3,10 @@ use Rattle.std.proofs.Common.{◌≡◌, ◌⊎◌, ℕ, zero, suc, ◌<◌, Boo
 use Rattle.std.specs.List.{list_any, filter, find}
 use Rattle.nd_history.specs.declared.entry.Entry.{Entry}
 use Rattle.nd_history.specs.declared.entry.Entry.TheVariants.{Chosen, NoBuilder, Started, Down, Built, Failed, Stop, Drain, Enable}
-use Rattle.nd_history.specs.declared.entry.Ticket.{Ticket}
+use Rattle.nd_leases.specs.declared.ticket.Ticket.{Ticket}
 use Rattle.nd_history.specs.Premises.{Premises}
-use Rattle.nd_history.specs.History.{live, is_on, is_taken}
+use Rattle.nd_history.specs.History.{live, is_taken}
+use Rattle.nd_leases.specs.Tickets.{is_on}
 use Rattle.nd_history.specs.Choices.{jobs_of}
 use Rattle.nd_history.specs.Legal.{IsLegal, IsPlaceFor}
 use Rattle.nd_history.specs.Headline.{SlotsAreLeases, LeasesAreInOrder, StartsAreEligible, IsChosenIn, IsFitFor, ChoicesAreBest}

@@ -5,9 +5,10 @@ use Rattle.std.proofs.lemmas.Bool.{cases_eq, ne_eqb}
 use Rattle.std.specs.List.{list_any}
 use Rattle.nd_history.specs.declared.entry.Entry.{Entry}
 use Rattle.nd_history.specs.declared.entry.Entry.TheVariants.{Chosen, NoBuilder, Started, Down, Built, Failed, Stop, Drain, Enable}
-use Rattle.nd_history.specs.declared.entry.Ticket.{Ticket}
+use Rattle.nd_leases.specs.declared.ticket.Ticket.{Ticket}
 use Rattle.nd_history.specs.Premises.{Premises}
-use Rattle.nd_history.specs.History.{live, without, is_leased, is_built, is_failed, builds, fails}
+use Rattle.nd_history.specs.History.{live, is_leased, is_built, is_failed, builds, fails}
+use Rattle.nd_leases.specs.Tickets.{without}
 use Rattle.nd_history.specs.Standing.{drvs_in, AreInputsBuilt, IsReady}
 use Rattle.nd_history.specs.Legal.{IsLegal, IsAllowed}
 

@@ -1,12 +1,13 @@
 pub mod Alike
+pub mod Boards
 pub mod Closing
 pub mod Following
 pub mod Headline
 pub mod IdleReplies
 pub mod Legality
+pub mod Marking
 pub mod OneChoice
 pub mod Provisions
-pub mod Readiness
 pub mod Reported
 pub mod Resting
 pub mod Rules

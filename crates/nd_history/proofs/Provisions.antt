@@ -7,7 +7,7 @@ use Rattle.std.proofs.lemmas.List.Elements.{Contains-append_left, Contains-appen
 use Rattle.nd_closure.specs.Tables.{is_listed, refs_of}
 use Rattle.nd_history.specs.declared.entry.Entry.{Entry}
 use Rattle.nd_history.specs.declared.entry.Entry.TheVariants.{Started, Built}
-use Rattle.nd_history.specs.declared.entry.Ticket.{Ticket}
+use Rattle.nd_leases.specs.declared.ticket.Ticket.{Ticket}
 use Rattle.nd_history.specs.Premises.{Premises}
 use Rattle.nd_history.specs.History.{live, lease_of, is_leased, is_built}
 use Rattle.nd_history.specs.Standing.{AreInputsBuilt}

@@ -18,7 +18,7 @@ use Rattle.nd_hook.specs.declared.kinds.Reply.{Reply}
 use Rattle.nd_hook.specs.declared.kinds.Reply.TheVariants.{Accept, Postpone, Decline, DeclinePermanently}
 use Rattle.nd_hook.specs.declared.kinds.Decision.TheVariants.{Local, Wait}
 use Rattle.nd_history.specs.declared.entry.Entry.{Entry}
-use Rattle.nd_history.specs.declared.entry.Ticket.{Ticket}
+use Rattle.nd_leases.specs.declared.ticket.Ticket.{Ticket}
 use Rattle.nd_history.specs.Premises.{Premises}
 use Rattle.nd_history.specs.History.{live, load, is_leased, is_built, is_failed}
 use Rattle.nd_history.specs.Standing.{drvs_in, needed_by, IsWaiting}

@@ -2,18 +2,19 @@
 -- may build at once.
 use Rattle.std.proofs.Common.{◌≡◌, ℕ, zero, suc, ◌+◌, ◌<◌, ◌≤◌, Bool, true, false, not, ◌==◌, ◌&&◌, eqb, cond, List, [], ◌∷◌, length, map, count_by, refl, sym, ◌∙◌, subst, arith, inl, inr, add-one}
 use Rattle.std.proofs.lemmas.Grind.{common_steps}
-use Rattle.std.proofs.lemmas.Bool.{cases_eq, ne_eqb}
+use Rattle.std.proofs.lemmas.Bool.{cases_eq, cases_lt, ne_eqb}
 use Rattle.std.proofs.lemmas.List.{length-map}
 use Rattle.std.proofs.lemmas.List.Sums.{length-filter}
 use Rattle.std.proofs.lemmas.Map.Steps.{le-length_from_below}
 use Rattle.std.specs.List.{list_any, filter}
 use Rattle.nd_history.specs.declared.entry.Entry.{Entry}
 use Rattle.nd_history.specs.declared.entry.Entry.TheVariants.{Chosen, NoBuilder, Started, Down, Built, Failed, Stop, Drain, Enable}
-use Rattle.nd_history.specs.declared.entry.Ticket.{Ticket}
+use Rattle.nd_leases.specs.declared.ticket.Ticket.{Ticket}
 use Rattle.nd_history.specs.Premises.{Premises}
-use Rattle.nd_history.specs.History.{live, load, is_on, is_taken, is_leased}
+use Rattle.nd_history.specs.History.{live, load, is_taken, is_leased}
+use Rattle.nd_leases.specs.Tickets.{is_on}
 use Rattle.nd_history.specs.Choices.{machines_in, jobs_of}
-use Rattle.nd_history.specs.Legal.{IsLegal, IsPlaceFor}
+use Rattle.nd_history.specs.Legal.{IsLegal, IsPlaceFor, IsLeastFree}
 use Rattle.nd_history.proofs.OneChoice.{local_free, best_has_room}
 
 -- one more item counts where it passes
@@ -128,3 +129,18 @@ pub full : (past : List Entry) (m n : ℕ) → ((k : ℕ) → k < n → is_taken
 full past m n taken =
     let long = le-length_from_below (slots_on m (live past)) n (λ q lt. on_slots m q (live past) ∙ taken q lt) in
     rw (slots_counted m (live past)) at long
+
+-- a machine has one least free slot
+pub least_once : (past : List Entry) (m s k : ℕ) → IsLeastFree past m s → IsLeastFree past m k → s ≡ k
+least_once past m s k one other =
+    elim (cases_lt s k) [
+      | inl lt ↦ let no_way : ⊥ = cc (one.free, other.least s lt) in absurd no_way
+      | inr ge ↦ elim (cases_lt k s) [
+        | inl lt ↦ let no_way : ⊥ = cc (other.free, one.least k lt) in absurd no_way
+        | inr le ↦ omega (arith, ge, le)
+      ]
+    ]
+
+-- .. which is at most its load
+pub within_load : (past : List Entry) (m s : ℕ) → IsLeastFree past m s → s ≤ load m past
+within_load past m s least = full past m s least.least

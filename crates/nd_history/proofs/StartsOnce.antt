@@ -6,7 +6,8 @@ use Rattle.std.specs.List.{list_any}
 use Rattle.nd_history.specs.declared.entry.Entry.{Entry}
 use Rattle.nd_history.specs.declared.entry.Entry.TheVariants.{Chosen, NoBuilder, Started, Down, Built, Failed, Stop, Drain, Enable}
 use Rattle.nd_history.specs.Premises.{Premises}
-use Rattle.nd_history.specs.History.{live, without, is_leased, is_built, is_failed, is_started, builds, fails}
+use Rattle.nd_history.specs.History.{live, is_leased, is_built, is_failed, is_started, builds, fails}
+use Rattle.nd_leases.specs.Tickets.{without}
 use Rattle.nd_history.specs.Legal.{IsLegal}
 use Rattle.nd_history.specs.Headline.{starts, StartsAreOnce}
 use Rattle.nd_history.proofs.Legality.{gone, leased_fresh}

@@ -10,9 +10,10 @@ use Rattle.nd_failure.specs.declared.status.Status.{Status}
 use Rattle.nd_hook.specs.declared.kinds.Decision.TheVariants.{Local}
 use Rattle.nd_history.specs.declared.entry.Entry.{Entry}
 use Rattle.nd_history.specs.declared.entry.Entry.TheVariants.{Chosen, Started}
-use Rattle.nd_history.specs.declared.entry.Ticket.{Ticket}
+use Rattle.nd_leases.specs.declared.ticket.Ticket.{Ticket}
 use Rattle.nd_history.specs.Premises.{Premises}
-use Rattle.nd_history.specs.History.{live, load, is_on, is_taken, lease_of}
+use Rattle.nd_history.specs.History.{live, load, is_taken, lease_of}
+use Rattle.nd_leases.specs.Tickets.{is_on}
 use Rattle.nd_history.specs.Standing.{drvs_in, AreInputsBuilt}
 use Rattle.nd_history.specs.Statuses.{HasStatusIn, AreCountsIn}
 use Rattle.nd_history.specs.Choices.{jobs_of, HasDecision, IsBestFor}

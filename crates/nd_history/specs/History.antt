@@ -10,13 +10,10 @@ use Rattle.std.specs.Prelude.{ℕ, Bool, true, false, not, ◌&&◌, ◌||◌, �
 use Rattle.std.specs.List.{filter, find, list_any}
 use Rattle.nd_history.specs.declared.entry.Entry.{Entry}
 use Rattle.nd_history.specs.declared.entry.Entry.TheVariants.{Chosen, NoBuilder, Started, Down, Built, Failed, Stop, Drain, Enable}
-use Rattle.nd_history.specs.declared.entry.Ticket.{Ticket}
+use Rattle.nd_leases.specs.declared.ticket.Ticket.{Ticket}
+use Rattle.nd_leases.specs.Tickets.{without, is_on}
 
 -- ---- leases
-
--- a derivation's lease taken out of a list of leases
-abbrev pub without : ℕ → List Ticket → List Ticket
-without d leases = filter (λ t. not (d == t.drv)) leases
 
 -- the live leases, newest first: the choices with no later end of the same derivation
 abbrev pub live : List Entry → List Ticket
@@ -43,14 +40,7 @@ is_leased d past = list_any (λ t. d == t.drv) (live past)
 abbrev pub load : ℕ → List Entry → ℕ
 load m past = count_by (λ t. m == t.machine) (live past)
 
--- two places, each a machine and a slot of it, are one
-abbrev pub same_place : ℕ × ℕ → ℕ × ℕ → Bool
-same_place p q = (p.0 == q.0) && (p.1 == q.1)
-
 -- a live lease is on slot s of machine m
-abbrev pub is_on : ℕ → ℕ → Ticket → Bool
-is_on m s t = same_place (m, s) (t.machine, t.slot)
-
 abbrev pub is_taken : ℕ → ℕ → List Entry → Bool
 is_taken m s past = list_any (is_on m s) (live past)
 

@@ -9,6 +9,7 @@ pub mod Headline
 pub mod History
 pub mod Kept
 pub mod Legal
+pub mod Marks
 pub mod Premises
 pub mod Pumping
 pub mod References

@@ -2,11 +2,11 @@
 
 ghost use Rattle.std.specs.Prelude.{◌≡◌, ◌+◌, ◌<◌, ◌≤◌, ◌↔◌, IsTrue, length, reverse};
 ghost use Rattle.nd_history.specs.Premises.{premises_of};
-ghost use Rattle.nd_history.specs.History.{is_taken};
 ghost use Rattle.nd_history.specs.Standing.{drvs_in, IsReady};
 ghost use Rattle.nd_history.specs.Choices.{machines_in, jobs_of};
 ghost use Rattle.nd_history.specs.Legal.{IsInRange, IsLeastFree};
 ghost use Rattle.nd_history.specs.Fitting.{FitTogether};
+ghost use Rattle.nd_history.specs.Marks.{AreMarked};
 ghost use Rattle.nd_history.specs.Audit.{IsJudged, IsSlotJudged};
 
 use crate::book::Book;
@@ -14,7 +14,7 @@ use crate::deciding::decide_now;
 use crate::entry::Entry;
 use crate::inputs::Inputs;
 use crate::rule::Rule;
-use crate::standing::is_ready;
+use nd_failure::Board;
 use nd_hook::Decision;
 
 /// Whether there is a derivation with this number.
@@ -75,22 +75,17 @@ pub fn is_in_range(inputs: &Inputs, entry: &Entry) -> bool
 }
 
 /// Whether this is the least slot of the machine that no live lease is on.
+#[tactic(auto, using(crate::proofs::Slots::least_once))]
 fn is_least_free(book: &Book, machine: u32, slot: u32) -> bool
+    requires { machine < book.now.machines }
     ensures { IsTrue result ↔ IsLeastFree (reverse book.now.entries) machine slot }
 {
-    if book.is_taken(machine, slot) {
-        return false;
-    }
-    for earlier in 0..slot {
-        if !book.is_taken(machine, earlier) {
-            return false;
-        }
-    }
-    true
+    book.least_free(machine) == slot as usize
 }
 
 /// Refuses with `Slot` a slot that isn't the machine's least free one.
 fn check_slot(book: &Book, machine: u32, slot: u32) -> Result<(), Rule>
+    requires { machine < book.now.machines }
     ensures { IsSlotJudged (reverse book.now.entries) machine slot result }
 {
     if is_least_free(book, machine, slot) {
@@ -136,18 +131,21 @@ fn check_ready_choice(
 
 /// Tests the choice of a slot, all that it names being there: it is refused with the first rule that
 /// it breaks. It takes no memory.
+#[tactic(auto, using(crate::proofs::Boards::unready_told, crate::proofs::Boards::on_board))]
 pub fn check_choice(
     inputs: &Inputs,
     book: &Book,
+    board: &Board,
     drv: u32,
     machine: u32,
     slot: u32,
 ) -> Result<(), Rule>
     requires fit { FitTogether (premises_of inputs.now) book.now }
+    requires marked { AreMarked (premises_of inputs.now) (reverse book.now.entries) board.now }
     requires ranged { IsInRange (premises_of inputs.now) (Entry.Chosen drv machine slot) }
     ensures { IsJudged (premises_of inputs.now) (reverse book.now.entries) (Entry.Chosen drv machine slot) result }
 {
-    if !is_ready(inputs, book, drv) {
+    if !board.is_ready(drv as usize) {
         return Err(Rule::Ready);
     }
     check_ready_choice(inputs, book, drv, machine, slot)
@@ -169,12 +167,14 @@ fn check_ready_no_builder(inputs: &Inputs, book: &Book, drv: u32) -> Result<(), 
 
 /// Tests the word that nothing can build a derivation, which is there: it is refused with the first
 /// rule that it breaks. It takes no memory.
-pub fn check_no_builder(inputs: &Inputs, book: &Book, drv: u32) -> Result<(), Rule>
+#[tactic(auto, using(crate::proofs::Boards::unready_told, crate::proofs::Boards::on_board))]
+pub fn check_no_builder(inputs: &Inputs, book: &Book, board: &Board, drv: u32) -> Result<(), Rule>
     requires fit { FitTogether (premises_of inputs.now) book.now }
+    requires marked { AreMarked (premises_of inputs.now) (reverse book.now.entries) board.now }
     requires ranged { drv < drvs_in (premises_of inputs.now) }
     ensures { IsJudged (premises_of inputs.now) (reverse book.now.entries) (Entry.NoBuilder drv) result }
 {
-    if !is_ready(inputs, book, drv) {
+    if !board.is_ready(drv as usize) {
         return Err(Rule::Ready);
     }
     check_ready_no_builder(inputs, book, drv)

@@ -1,34 +1,28 @@
 //! The entries so far, and what follows from them for leases and machines.
 
-ghost use Rattle.std.specs.Prelude.{◌≡◌, ◌+◌, ◌<◌, ◌≤◌, ◌^◌, ◌++◌, [], ◌∷◌, length, reverse, vec_capacity, ◌↔◌, IsTrue, IfOk, OnOk};
-ghost use Rattle.nd_history.specs.History.{live, lease_of, current_of, load, is_taken, is_started, is_up, has_stop, is_leased, is_built, is_failed, is_failure};
+ghost use Rattle.std.specs.Prelude.{◌≡◌, ℕ, ◌+◌, ◌<◌, ◌≤◌, ◌^◌, ◌++◌, [], ◌∷◌, length, reverse, slice_index_or, vec_capacity, ◌↔◌, IsTrue, IfOk, OnOk};
+ghost use Rattle.nd_history.specs.History.{live, lease_of, current_of, load, is_started, is_up};
+ghost use Rattle.nd_history.specs.Legal.{IsLeastFree};
+ghost use Rattle.nd_history.specs.Books.{CanRecord, MayRecord};
 ghost use Rattle.nd_history.specs.Sameness.{BeginsWith};
-ghost use Rattle.std.specs.List.{list_any};
 
-use crate::entry::{Entry, Ticket};
-use crate::finding::{count_on, is_any_of, is_any_on, newest_of, newest_on};
+use crate::entry::Entry;
 use crate::sameness::begins_with;
-use crate::tables::{
-    follow_built, follow_failed, follow_failure, follow_leases, follow_started, follow_stop,
-    follow_ups,
-};
+use crate::tables::{follow_leases, follow_ups};
+use nd_leases::{Leases, Ticket};
 use std::alloc::{AllocError, Global};
 use std::marker::Model;
 
 /// A history with the tables that follow it: the live leases, which derivations were started since
-/// their newest choice, and which machines are up. No question is answered by a search of the
-/// entries. Contracts see the entries oldest first, how many more can be recorded without memory,
-/// and the numbers of derivations and machines.
+/// their newest choice, and which machines are up. What is ready, built or failed, and whether there
+/// was a stop, a board says. No question is answered by a search of the entries. Contracts see the
+/// entries oldest first, how many more can be recorded without memory, the numbers of derivations and
+/// machines, and how many slots of each machine the tables have.
 #[derive(Drop, Debug)]
 pub struct Book {
     entries: Vec<Entry>,
-    leases: Vec<Ticket>,
-    started: Vec<bool>,
+    leases: Leases,
     ups: Vec<bool>,
-    built: Vec<bool>,
-    failed: Vec<bool>,
-    failure: bool,
-    stop: bool,
 }
 
 impl Model for Book {
@@ -46,19 +40,15 @@ impl Model for Book {
 impl Book {
     /// Records one more entry. It takes no memory.
     pub fn record(&mut self, entry: Entry)
-        requires { 0 < self.old.room }
+        requires room { 0 < self.old.room }
+        requires can { CanRecord self.old entry }
         ensures entries { self.new.entries ≡ self.old.entries ++ entry ∷ [] }
         ensures room { self.old.room ≤ self.new.room + 1 }
         ensures drvs { self.new.drvs ≡ self.old.drvs }
         ensures machines { self.new.machines ≡ self.old.machines }
     {
-        follow_ups(&mut self.ups, self.leases.as_slice(), &entry);
-        follow_started(&mut self.started, &entry);
+        follow_ups(&mut self.ups, &self.leases, &entry);
         follow_leases(&mut self.leases, self.entries.len(), &entry);
-        follow_built(&mut self.built, &entry);
-        follow_failed(&mut self.failed, &entry);
-        self.failure = follow_failure(self.failure, &entry);
-        self.stop = follow_stop(self.stop, &entry);
         self.entries.push_reserved(entry);
     }
 
@@ -72,13 +62,8 @@ impl Book {
     {
         Ok(Book {
             entries: Vec::with_capacity(alloc, 1)?,
-            leases: Vec::with_capacity(alloc, 1)?,
-            started: vec![in alloc; false; drvs]?,
+            leases: Leases::new(alloc, drvs, machines)?,
             ups: vec![in alloc; true; machines]?,
-            built: vec![in alloc; false; drvs]?,
-            failed: vec![in alloc; false; drvs]?,
-            failure: false,
-            stop: false,
         })
     }
 
@@ -89,19 +74,12 @@ impl Book {
         ensures machines { IfOk result (λ copy. copy.machines ≡ self.now.machines) }
         ensures room { IfOk result (λ copy. length (live (reverse self.now.entries)) + 1 ≤ copy.room) }
     {
-        let more = self.leases.len() + 1;
+        let more = self.live_len() + 1;
         let entries = copy_entries(alloc, self.entries.as_slice(), more)?;
-        let mut leases = Vec::from_slice(alloc, self.leases.as_slice())?;
-        leases.reserve(more)?;
         Ok(Book {
             entries,
-            leases,
-            started: Vec::from_slice(alloc, self.started.as_slice())?,
+            leases: self.leases.try_clone(alloc)?,
             ups: Vec::from_slice(alloc, self.ups.as_slice())?,
-            built: Vec::from_slice(alloc, self.built.as_slice())?,
-            failed: Vec::from_slice(alloc, self.failed.as_slice())?,
-            failure: self.failure,
-            stop: self.stop,
         })
     }
 
@@ -120,8 +98,24 @@ impl Book {
         ensures kept { self.old.room ≤ self.new.room }
         ensures made { OnOk result (more ≤ self.new.room) }
     {
-        self.entries.reserve(more)?;
-        self.leases.reserve(more)
+        self.entries.reserve(more)
+    }
+
+    /// Makes the slot that a choice takes, where the entry is one.
+    pub fn make_slot(&mut self, entry: &Entry) -> Result<(), AllocError>
+        requires { MayRecord self.old entry.now }
+        ensures entries { self.new.entries ≡ self.old.entries }
+        ensures drvs { self.new.drvs ≡ self.old.drvs }
+        ensures machines { self.new.machines ≡ self.old.machines }
+        ensures kept { self.new.room ≡ self.old.room }
+        ensures made { OnOk result (CanRecord self.new entry.now) }
+    {
+        match entry {
+            Entry::Chosen { machine, .. } => self.leases.make_slot(*machine),
+            Entry::NoBuilder { .. } | Entry::Started { .. } | Entry::Down { .. } => Ok(()),
+            Entry::Built { .. } | Entry::Failed { .. } | Entry::Stop => Ok(()),
+            Entry::Drain { .. } | Entry::Enable { .. } => Ok(()),
+        }
     }
 
     /// The entries, oldest first.
@@ -143,68 +137,37 @@ impl Book {
     pub fn lease(&self, drv: u32) -> Option<Ticket>
         ensures { result ≡ lease_of drv (reverse self.now.entries) }
     {
-        newest_of(self.leases.as_slice(), drv)
+        self.leases.lease(drv)
     }
 
     /// The live lease on this slot of this machine.
     pub fn current(&self, machine: u32, slot: u32) -> Option<Ticket>
         ensures { result ≡ current_of machine slot (reverse self.now.entries) }
     {
-        newest_on(self.leases.as_slice(), machine, slot)
+        self.leases.current(machine, slot)
     }
 
     /// The load of this machine: the number of its live leases.
-    #[tactic(auto, using(crate::proofs::Turned::count_reverse))]
     pub fn load(&self, machine: u32) -> usize
         ensures { result ≡ load machine (reverse self.now.entries) }
     {
-        count_on(self.leases.as_slice(), machine)
+        self.leases.load(machine) as usize
     }
 
-    /// Whether a live lease is on this slot of this machine.
-    #[tactic(auto, using(crate::proofs::Following::any_reverse))]
-    pub(crate) fn is_taken(&self, machine: u32, slot: u32) -> bool
-        ensures { result ≡ is_taken machine slot (reverse self.now.entries) }
+    /// The loads of all machines, the local one's first.
+    pub(crate) fn loads(&self) -> &[u32]
+        ensures sized { length result.now ≡ self.now.machines }
+        ensures each { (m : ℕ) → slice_index_or result.now m 0 ≡ load m (reverse self.now.entries) }
     {
-        is_any_on(self.leases.as_slice(), machine, slot)
+        self.leases.loads()
     }
 
-    /// Whether derivation `drv` has a live lease.
-    #[tactic(auto, using(crate::proofs::Following::any_reverse))]
-    pub(crate) fn is_leased(&self, drv: u32) -> bool
-        ensures { result ≡ is_leased drv (reverse self.now.entries) }
+    /// The least slot of this machine that no live lease is on.
+    pub(crate) fn least_free(&self, machine: u32) -> usize
+        requires { machine < self.now.machines }
+        ensures { IsLeastFree (reverse self.now.entries) machine result }
     {
-        is_any_of(self.leases.as_slice(), drv)
-    }
-
-    /// Whether derivation `drv` is built.
-    pub(crate) fn is_built(&self, drv: usize) -> bool
-        requires { drv < self.now.drvs }
-        ensures { result ≡ is_built drv (reverse self.now.entries) }
-    {
-        self.built[drv]
-    }
-
-    /// Whether derivation `drv` failed.
-    pub(crate) fn is_failed(&self, drv: usize) -> bool
-        requires { drv < self.now.drvs }
-        ensures { result ≡ is_failed drv (reverse self.now.entries) }
-    {
-        self.failed[drv]
-    }
-
-    /// Whether any derivation failed.
-    pub(crate) fn has_failure(&self) -> bool
-        ensures { result ≡ list_any is_failure (reverse self.now.entries) }
-    {
-        self.failure
-    }
-
-    /// Whether a stop was asked for.
-    pub fn has_stop(&self) -> bool
-        ensures { result ≡ has_stop (reverse self.now.entries) }
-    {
-        self.stop
+        self.leases.least_free(machine)
     }
 
     /// Whether derivation `drv` was started since its newest choice.
@@ -212,7 +175,7 @@ impl Book {
         requires { drv < self.now.drvs }
         ensures { result ≡ is_started drv (reverse self.now.entries) }
     {
-        self.started[drv]
+        self.leases.is_started(drv)
     }
 
     /// Whether this machine is up.

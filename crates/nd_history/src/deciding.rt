@@ -17,16 +17,12 @@ use nd_hook::{Decision, Reply, decide, reply};
 pub const MOST_MACHINES: usize = 1024;
 
 /// The loads of the builders, in the order of their list.
-fn fill_loads(inputs: &Inputs, book: &Book, loads: &mut [u32])
-    requires sized { length loads.old ≡ length inputs.now.machines }
-    requires few { length inputs.now.machines ≤ 1024 }
-    requires fits { (m : ℕ) → load m (reverse book.now.entries) < 2 ^ 32 }
-    ensures { loads.new ≡ loads_of (premises_of inputs.now) (reverse book.now.entries) }
+fn builder_loads<'a>(inputs: &Inputs, book: &'a Book) -> &'a [u32]
+    requires { book.now.machines ≡ length inputs.now.machines + 1 }
+    ensures { result.now ≡ loads_of (premises_of inputs.now) (reverse book.now.entries) }
 {
-    for place in 0..loads.len() {
-        let load = book.load(place as u32 + 1);
-        loads[place] = load as u32;
-    }
+    let loads = book.loads();
+    &loads[1..]
 }
 
 /// Which builders are up, in the order of their list.
@@ -71,14 +67,11 @@ pub(crate) fn decide_now(inputs: &Inputs, book: &Book, drv: usize) -> Decision
     requires node { drv < length inputs.now.graph.paths }
     requires few { length inputs.now.machines ≤ 1024 }
     requires park { book.now.machines ≡ length inputs.now.machines + 1 }
-    requires fits { (m : ℕ) → load m (reverse book.now.entries) < 2 ^ 32 }
     ensures { HasDecision (premises_of inputs.now) (reverse book.now.entries) drv result }
 {
     let need = inputs.graph.need(drv);
     let machines = inputs.machines.as_slice();
-    let mut loads = [0; MOST_MACHINES];
-    let loads = &mut loads[..machines.len()];
-    fill_loads(inputs, book, loads);
+    let loads = builder_loads(inputs, book);
     let mut ups = [false; MOST_MACHINES];
     let ups = &mut ups[..machines.len()];
     fill_ups(inputs, book, ups);
@@ -93,14 +86,11 @@ pub fn reply_now(inputs: &Inputs, book: &Book, drv: usize) -> Reply
     requires node { drv < length inputs.now.graph.paths }
     requires few { length inputs.now.machines ≤ 1024 }
     requires park { book.now.machines ≡ length inputs.now.machines + 1 }
-    requires fits { (m : ℕ) → load m (reverse book.now.entries) < 2 ^ 32 }
     ensures { HasReply (premises_of inputs.now) (reverse book.now.entries) drv result }
 {
     let need = inputs.graph.need(drv);
     let machines = inputs.machines.as_slice();
-    let mut loads = [0; MOST_MACHINES];
-    let loads = &mut loads[..machines.len()];
-    fill_loads(inputs, book, loads);
+    let loads = builder_loads(inputs, book);
     let mut ups = [false; MOST_MACHINES];
     let ups = &mut ups[..machines.len()];
     fill_ups(inputs, book, ups);
@@ -110,14 +100,10 @@ pub fn reply_now(inputs: &Inputs, book: &Book, drv: usize) -> Reply
 
 /// The least slot of a machine that no live lease is on.
 pub(crate) fn free_slot(book: &Book, machine: u32, jobs: u32) -> u32
-    requires { load machine (reverse book.now.entries) < jobs }
+    requires park { machine < book.now.machines }
+    requires load { load machine (reverse book.now.entries) < jobs }
     ensures within { result < jobs }
     ensures least { IsLeastFree (reverse book.now.entries) machine result }
 {
-    for slot in 0..jobs {
-        if !book.is_taken(machine, slot) {
-            return slot;
-        }
-    }
-    unreachable!()
+    book.least_free(machine) as u32
 }

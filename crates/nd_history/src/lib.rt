@@ -5,17 +5,15 @@ pub mod auditing;
 pub mod book;
 pub mod deciding;
 pub mod entry;
-mod finding;
 pub mod inputs;
 pub mod laws;
 pub mod rule;
 mod sameness;
-mod standing;
 pub mod stepping;
 mod tables;
 
 pub use book::Book;
-pub use entry::{Entry, Ticket, Why};
+pub use entry::{Entry, Why};
 pub use inputs::{Inputs, Parts};
 pub use rule::Rule;
 pub use sameness::is_same_entry;

@@ -3,17 +3,18 @@
 ghost use Rattle.std.specs.Prelude.{◌≡◌, ℕ, ◌+◌, ◌<◌, ◌≤◌, length, reverse, MatchOption};
 ghost use Rattle.nd_graph.specs.Graphs.{IsSound};
 ghost use Rattle.nd_history.specs.Premises.{premises_of};
-ghost use Rattle.nd_history.specs.Standing.{drvs_in, IsReady};
+ghost use Rattle.nd_history.specs.Standing.{IsReady};
 ghost use Rattle.nd_history.specs.Choices.{AreSmall};
 ghost use Rattle.nd_history.specs.Legal.{IsLegal};
 ghost use Rattle.nd_history.specs.Pumping.{IsStepOrRest, AreAtRest, IsPumpStep};
 ghost use Rattle.nd_history.specs.Fitting.{FitTogether};
+ghost use Rattle.nd_history.specs.Marks.{AreMarked};
 
 use crate::book::Book;
 use crate::deciding::{decide_now, free_slot};
 use crate::entry::Entry;
 use crate::inputs::Inputs;
-use crate::standing::is_ready;
+use nd_failure::Board;
 use nd_hook::Decision;
 
 /// The step of derivation `drv`, which is ready, if its decision isn't to wait.
@@ -42,27 +43,19 @@ fn step_of_ready(inputs: &Inputs, book: &Book, drv: u32) -> Option<Entry>
     }
 }
 
-/// The step of derivation `drv`, if it is ready and its decision isn't to wait.
-fn step_of(inputs: &Inputs, book: &Book, drv: u32) -> Option<Entry>
+/// The step of the first derivation that has one. The board, which follows the book, says which
+/// derivations are ready.
+pub fn next_step(inputs: &Inputs, book: &Book, board: &Board) -> Option<Entry>
     requires fit { FitTogether (premises_of inputs.now) book.now }
-    requires node { drv < drvs_in (premises_of inputs.now) }
-    ensures { IsStepOrRest (premises_of inputs.now) (reverse book.now.entries) drv result }
-{
-    if !is_ready(inputs, book, drv) {
-        return None;
-    }
-    step_of_ready(inputs, book, drv)
-}
-
-/// The step of the first derivation that has one.
-pub fn next_step(inputs: &Inputs, book: &Book) -> Option<Entry>
-    requires fit { FitTogether (premises_of inputs.now) book.now }
+    requires marked { AreMarked (premises_of inputs.now) (reverse book.now.entries) board.now }
     ensures { MatchOption result (AreAtRest (premises_of inputs.now) (reverse book.now.entries)) (IsPumpStep (premises_of inputs.now) (reverse book.now.entries)) }
 {
-    for drv in 0..inputs.graph.len() {
-        if let Some(step) = step_of(inputs, book, drv as u32) {
+    let mut from = 0;
+    while let Some(drv) = board.first_ready(from) {
+        if let Some(step) = step_of_ready(inputs, book, drv as u32) {
             return Some(step);
         }
+        from = drv + 1;
     }
     None
 }

@@ -1,57 +1,41 @@
 //! Tables of leases and flags that follow a history entry by entry.
 
-ghost use Rattle.std.specs.Prelude.{◌≡◌, ◌||◌, ◌+◌, ◌<◌, ◌≤◌, length, vec_len, vec_capacity, slice_set};
-ghost use Rattle.nd_history.specs.Kept.{leases_after, started_after, built_after, failed_after, AreUpsAfter, AreLowered};
-ghost use Rattle.nd_history.specs.History.{without, is_stop, is_failure};
+ghost use Rattle.std.specs.Prelude.{◌≡◌, ◌<◌, ◌^◌, ◌+◌, List, length, slice_set};
+ghost use Rattle.nd_leases.specs.declared.ticket.Ticket.{Ticket};
+ghost use Rattle.nd_leases.specs.Tables.{AreTabled, Become};
+ghost use Rattle.nd_history.specs.Kept.{leases_after, started_after, AreUpsAfter, AreLowered, CanTable};
 
-use crate::entry::{Entry, Ticket};
+use crate::entry::Entry;
+use nd_leases::{Leases, Ticket};
 
-/// Follows the live leases, oldest first, over one more entry. `serial` is the number of entries
-/// before it.
-pub(crate) fn follow_leases(leases: &mut Vec<Ticket>, serial: usize, entry: &Entry)
-    requires { vec_len leases.old < vec_capacity leases.old }
-    ensures items { leases.new.items ≡ leases_after serial entry.now leases.old.items }
-    ensures len { vec_len leases.new ≤ vec_len leases.old + 1 }
-    ensures capacity { vec_capacity leases.new ≡ vec_capacity leases.old }
+/// Follows the live leases, and the marks of started derivations, over one more entry. `serial` is the
+/// number of entries before it.
+pub(crate) fn follow_leases(leases: &mut Leases, serial: usize, entry: &Entry)
+    requires { CanTable leases.old entry.now }
+    ensures tickets { Become leases.old leases.new (leases_after serial entry.now) }
+    ensures started { leases.new.started ≡ started_after entry.now leases.old.started }
+    ensures drvs { length leases.new.holders ≡ length leases.old.holders }
+    ensures machines { length leases.new.loads ≡ length leases.old.loads }
 {
     match entry {
-        Entry::Chosen { drv, machine, slot } => leases.push_reserved(Ticket {
+        Entry::Chosen { drv, machine, slot } => leases.begin(Ticket {
             machine: *machine,
             slot: *slot,
             drv: *drv,
             serial,
         }),
-        Entry::Down { drv } | Entry::Built { drv, .. } | Entry::Failed { drv, .. } => take_out(
-            leases, *drv,
+        Entry::Started { drv, .. } => leases.start(*drv),
+        Entry::Down { drv } | Entry::Built { drv, .. } | Entry::Failed { drv, .. } => leases.end(
+            *drv,
         ),
-        _ => {}
-    }
-}
-
-/// Takes the leases of derivation `drv` out.
-fn take_out(leases: &mut Vec<Ticket>, drv: u32)
-    ensures items { leases.new.items ≡ without drv leases.old.items }
-    ensures len { vec_len leases.new ≤ vec_len leases.old }
-    ensures capacity { vec_capacity leases.new ≡ vec_capacity leases.old }
-{
-    leases.retain(|ticket| drv != ticket.drv);
-}
-
-/// Follows the flags of started derivations over one more entry.
-pub(crate) fn follow_started(started: &mut Vec<bool>, entry: &Entry)
-    ensures { started.new.items ≡ started_after entry.now started.old.items }
-{
-    match entry {
-        Entry::Chosen { drv, .. } => put(started, *drv as usize, false),
-        Entry::Started { drv, .. } => put(started, *drv as usize, true),
-        _ => {}
+        Entry::NoBuilder { .. } | Entry::Stop | Entry::Drain { .. } | Entry::Enable { .. } => {}
     }
 }
 
 /// Follows the flags of machines that are up over one more entry. `leases` are the live leases
 /// before it.
-pub(crate) fn follow_ups(ups: &mut Vec<bool>, leases: &[Ticket], entry: &Entry)
-    ensures { AreUpsAfter entry.now leases.now ups.old.items ups.new.items }
+pub(crate) fn follow_ups(ups: &mut Vec<bool>, leases: &Leases, entry: &Entry)
+    ensures { (tickets : List Ticket) → AreTabled leases.now tickets → AreUpsAfter entry.now tickets ups.old.items ups.new.items }
 {
     match entry {
         Entry::Down { drv } => lower(ups, leases, *drv),
@@ -61,14 +45,12 @@ pub(crate) fn follow_ups(ups: &mut Vec<bool>, leases: &[Ticket], entry: &Entry)
     }
 }
 
-/// Takes down the flags of the machines that have a lease of derivation `drv`.
-fn lower(ups: &mut Vec<bool>, leases: &[Ticket], drv: u32)
-    ensures { AreLowered drv leases.now ups.old.items ups.new.items }
+/// Takes down the flag of the machine that the lease of derivation `drv` is on.
+fn lower(ups: &mut Vec<bool>, leases: &Leases, drv: u32)
+    ensures { (tickets : List Ticket) → AreTabled leases.now tickets → AreLowered drv tickets ups.old.items ups.new.items }
 {
-    for ticket in leases {
-        if drv == ticket.drv {
-            put(ups, ticket.machine as usize, false);
-        }
+    if let Some(ticket) = leases.lease(drv) {
+        put(ups, ticket.machine as usize, false);
     }
 }
 
@@ -78,44 +60,5 @@ fn put(flags: &mut Vec<bool>, place: usize, flag: bool)
 {
     if place < flags.len() {
         flags[place] = flag;
-    }
-}
-
-/// Follows whether a stop was asked for over one more entry.
-pub(crate) fn follow_stop(stop: bool, entry: &Entry) -> bool
-    ensures { result ≡ (is_stop entry.now || stop) }
-{
-    match entry {
-        Entry::Stop => true,
-        _ => stop,
-    }
-}
-
-/// Follows the flags of built derivations over one more entry.
-pub(crate) fn follow_built(built: &mut Vec<bool>, entry: &Entry)
-    ensures { built.new.items ≡ built_after entry.now built.old.items }
-{
-    if let Entry::Built { drv, .. } = entry {
-        put(built, *drv as usize, true);
-    }
-}
-
-/// Follows the flags of failed derivations over one more entry.
-pub(crate) fn follow_failed(failed: &mut Vec<bool>, entry: &Entry)
-    ensures { failed.new.items ≡ failed_after entry.now failed.old.items }
-{
-    match entry {
-        Entry::NoBuilder { drv } | Entry::Failed { drv, .. } => put(failed, *drv as usize, true),
-        _ => {}
-    }
-}
-
-/// Follows whether anything failed over one more entry.
-pub(crate) fn follow_failure(failure: bool, entry: &Entry) -> bool
-    ensures { result ≡ (is_failure entry.now || failure) }
-{
-    match entry {
-        Entry::NoBuilder { .. } | Entry::Failed { .. } => true,
-        _ => failure,
     }
 }

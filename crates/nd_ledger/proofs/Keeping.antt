@@ -5,12 +5,13 @@ use Rattle.std.specs.List.{list_any, filter, find}
 use Rattle.nd_ledger.specs.declared.dispatch.Dispatch.TheInside.{Inside}
 use Rattle.nd_history.specs.declared.entry.Entry.{Entry}
 use Rattle.nd_history.specs.declared.entry.Entry.TheVariants.{Chosen, NoBuilder, Started, Down, Built, Failed, Stop, Drain, Enable}
-use Rattle.nd_history.specs.declared.entry.Ticket.{Ticket}
+use Rattle.nd_leases.specs.declared.ticket.Ticket.{Ticket}
 use Rattle.nd_history.specs.declared.entry.Why.{Why}
 use Rattle.nd_history.specs.Books.{Recorded}
 use Rattle.nd_history.specs.Premises.{Premises, premises_of}
 use Rattle.nd_failure.specs.Progress.{Progress, IsLeased}
-use Rattle.nd_history.specs.History.{live, without, load, is_leased, lease_of, is_started, has_stop}
+use Rattle.nd_history.specs.History.{live, load, is_leased, lease_of, is_started, has_stop}
+use Rattle.nd_leases.specs.Tickets.{without}
 use Rattle.nd_graph.specs.Graphs.{IsSound}
 use Rattle.nd_history.specs.Standing.{drvs_in}
 use Rattle.nd_history.specs.Choices.{AreSmall}
@@ -21,12 +22,12 @@ use Rattle.nd_stores.specs.declared.copying.Additions.{Additions}
 use Rattle.nd_history.specs.Pumping.{step_drv}
 use Rattle.nd_ledger.specs.Moves.{IsRoomier, IsStepRecorded, IsReadyToStart, IsReadyToEnd}
 use Rattle.nd_ledger.specs.Inner.{IsKept, room_for}
-use Rattle.nd_ledger.specs.Marks.{AreMarked, board_after}
+use Rattle.nd_history.specs.Marks.{AreMarked, board_after}
 use Rattle.nd_history.proofs.Following.{newest_first}
 use Rattle.nd_history.proofs.Legality.{leased_ranged}
 use Rattle.nd_history.proofs.Slots.{load_within}
-use Rattle.nd_ledger.proofs.Boards.{leased_marked}
-use Rattle.nd_ledger.proofs.Marking.{followed}
+use Rattle.nd_history.proofs.Boards.{leased_marked}
+use Rattle.nd_history.proofs.Marking.{followed}
 use Rattle.nd_stores.proofs.Storing.{stored_quiet, stored_same, stored_start, stored_built}
 
 -- one more entry in the book and on the board
@@ -207,7 +208,7 @@ step_quiet e d h = refl
 pub kept_step : (d : Inside) (book : Recorded) (board : Progress) (e : Entry) → IsStepRecorded d.book book d.board board e → IsKept d → IsAllowed (premises_of d.inputs) e (reverse d.book.entries) → is_quiet e ≡ true → IsKept (record d { book = book; board = board })
 kept_step d book board e rec was allowed quiet =
     let had = rec.room in
-    let roomy : Recorded = record { entries = d.book.entries; room = book.room + 1; drvs = book.drvs; machines = book.machines } in
+    let roomy : Recorded = record { entries = d.book.entries; room = book.room + 1; drvs = book.drvs; machines = book.machines; rooms = book.rooms } in
     kept_more d roomy book board e 1
     (record { entries = refl; drvs = rec.drvs; machines = rec.machines; room = rec.kept; more = omega arith })
     (record { entries = rec.entries; room = omega arith; drvs = refl; machines = refl; board = rec.board })

@@ -7,7 +7,7 @@ use Rattle.nd_stores.specs.declared.copying.PathsFault.{PathsFault}
 use Rattle.nd_stores.specs.declared.copying.PathsFault.TheVariants.{Uncovered, Extra, Memory}
 use Rattle.nd_history.specs.declared.entry.Entry.{Entry}
 use Rattle.nd_history.specs.declared.entry.Entry.TheVariants.{Chosen}
-use Rattle.nd_history.specs.declared.entry.Ticket.{Ticket}
+use Rattle.nd_leases.specs.declared.ticket.Ticket.{Ticket}
 use Rattle.nd_history.specs.Books.{Recorded}
 use Rattle.nd_history.specs.Premises.{Premises}
 use Rattle.nd_history.specs.History.{is_started}

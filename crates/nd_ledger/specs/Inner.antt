@@ -10,7 +10,7 @@ use Rattle.nd_history.specs.Standing.{drvs_in}
 use Rattle.nd_history.specs.Choices.{AreSmall}
 use Rattle.nd_history.specs.Legal.{IsLegal}
 use Rattle.nd_stores.specs.Stored.{AreStored}
-use Rattle.nd_ledger.specs.Marks.{AreMarked}
+use Rattle.nd_history.specs.Marks.{AreMarked}
 
 abbrev pub seen : Inside → World
 seen d = record { inputs = premises_of d.inputs; history = d.book.entries }

@@ -1,6 +1,5 @@
 pub mod Admitting
 pub mod Inner
-pub mod Marks
 pub mod Moves
 pub mod Refusals
 pub mod Worlds

@@ -7,13 +7,13 @@ use Rattle.nd_stores.specs.declared.copying.Additions.{Additions}
 use Rattle.nd_stores.specs.declared.copying.PathsFault.{PathsFault}
 use Rattle.nd_stores.specs.declared.copying.PathsFault.TheVariants.{Uncovered as Bare, Extra as Beside, Memory as NoMemory}
 use Rattle.nd_history.specs.declared.entry.Entry.{Entry}
-use Rattle.nd_history.specs.declared.entry.Ticket.{Ticket}
+use Rattle.nd_leases.specs.declared.ticket.Ticket.{Ticket}
 use Rattle.nd_failure.specs.Progress.{Progress}
 use Rattle.nd_history.specs.Books.{Recorded}
 use Rattle.nd_history.specs.Premises.{Premises}
 use Rattle.nd_history.specs.History.{live as leases, is_started}
 use Rattle.nd_ledger.specs.Refusals.{IsLive}
-use Rattle.nd_ledger.specs.Marks.{board_after}
+use Rattle.nd_history.specs.Marks.{board_after}
 use Rattle.nd_history.specs.References.{ArePathsRight, AreReferencesRight}
 use Rattle.nd_stores.specs.Stored.{Stored, Fits, AreStartAdditions, AreBuiltAdditions, IsUncovered, IsExtra}
 

@@ -32,11 +32,12 @@ use nd_graph::Graph;
 use nd_history::auditing::{check_choice, check_no_builder, is_in_range};
 use nd_history::book::Book;
 use nd_history::deciding::reply_now;
-use nd_history::entry::{Entry, Ticket, Why};
+use nd_history::entry::{Entry, Why};
 use nd_history::inputs::{Inputs, Parts};
 use nd_history::rule::Rule;
 use nd_history::stepping::next_step;
 use nd_hook::Reply;
+use nd_leases::Ticket;
 use nd_machines::Machine;
 use nd_path::PathSet;
 use nd_stores::stores::Stores;
@@ -80,7 +81,7 @@ impl Dispatch {
         ensures err { OnErr result (HasPumped self.old.inputs self.old.history self.new.history) }
     {
         let before = self.book.entries().len();
-        while let Some(step) = next_step(&self.inputs, &self.book) {
+        while let Some(step) = next_step(&self.inputs, &self.book, &self.board) {
             record_step(&mut self.book, &mut self.board, step)?;
         }
         let _order = self.inputs.graph.order();
@@ -275,7 +276,7 @@ impl Dispatch {
         ensures err { OnErr result (self.new ≡ self.old) }
         ensures first { has_stop (reverse self.old.history) ≡ false → IsOk result }
     {
-        if self.book.has_stop() {
+        if self.board.has_stop() {
             return Err(Refusal::AlreadyStopped);
         }
         enter(&mut self.book, &mut self.board, Entry::Stop);
@@ -360,7 +361,7 @@ impl Dispatch {
         ensures refused { IfErr result (IsAdmitRefused self.old.inputs (reverse self.old.history) (Entry.Chosen drv machine slot)) }
         ensures err { OnErr result (self.new ≡ self.old) }
     {
-        if let Err(rule) = check_choice(&self.inputs, &self.book, drv, machine, slot) {
+        if let Err(rule) = check_choice(&self.inputs, &self.book, &self.board, drv, machine, slot) {
             return Err(AdmitError::Illegal(rule));
         }
         record_step(
@@ -378,7 +379,7 @@ impl Dispatch {
         ensures refused { IfErr result (IsAdmitRefused self.old.inputs (reverse self.old.history) (Entry.NoBuilder drv)) }
         ensures err { OnErr result (self.new ≡ self.old) }
     {
-        if let Err(rule) = check_no_builder(&self.inputs, &self.book, drv) {
+        if let Err(rule) = check_no_builder(&self.inputs, &self.book, &self.board, drv) {
             return Err(AdmitError::Illegal(rule));
         }
         record_step(&mut self.book, &mut self.board, Entry::NoBuilder { drv })?;

@@ -1,6 +1,6 @@
 //! What a worker needs to know of a lease.
 
-use nd_history::entry::Ticket;
+use nd_leases::Ticket;
 use nd_path::{PathSet, StorePath};
 
 /// A lease with what is to be built and what is to be copied first.

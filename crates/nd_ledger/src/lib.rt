@@ -12,5 +12,6 @@ pub use dispatch::Dispatch;
 pub use job::Job;
 pub use nd_closure::Refs;
 pub use nd_failure::{Counts, Status};
-pub use nd_history::{Entry, Inputs, Parts, Rule, Ticket, Why};
+pub use nd_history::{Entry, Inputs, Parts, Rule, Why};
+pub use nd_leases::Ticket;
 pub use refusal::{AdmitError, Refusal, Refused};

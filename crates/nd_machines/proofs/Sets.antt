@@ -3,96 +3,22 @@ use Rattle.std.proofs.Common.{◌≡◌, ℕ, Bool, true, false, ◌||◌, List,
 use Rattle.std.specs.Prelude.{Result, is_ok}
 use Rattle.std.specs.declared.cmp.Ordering.{Ordering}
 use Rattle.std.specs.declared.cmp.Ordering.TheVariants.{Less, Equal, Greater}
-use Rattle.std.specs.Ordering.{eq_by_cmp, is_eq, ordering_reverse, ordering_index, match_ordering}
-use Rattle.std.specs.List.{list_any, AllByRecursion, dedup}
+use Rattle.std.specs.Ordering.{eq_by_cmp, is_eq, ordering_reverse, ordering_index}
+use Rattle.std.specs.List.{AllByRecursion, dedup}
 use Rattle.std.specs.List.Sorted.{IsStrictlySortedBy, IsSorted, IsPermutation, IsNonDecreasingBy, IsBinarySearchResult, IsSearchInRange}
-use Rattle.std.specs.Cmp.{IsEquivalence, both_ways, tied_itself}
-use Rattle.std.specs.FinMap.{IsAntisymmetric, nat_cmp-IsAntisymmetric, slice_cmp-IsAntisymmetric}
-use Rattle.std.proofs.lemmas.Cmp.{eq_by_cmp_equiv}
+use Rattle.std.specs.Cmp.{both_ways, tied_itself}
 use Rattle.std.proofs.lemmas.Bool.{cases_lt}
 use Rattle.std.proofs.lemmas.List.Elements.{All-from_recursion}
 use Rattle.std.proofs.lemmas.List.Kept.{IsStrictlySortedBy-dedup, Contains-dedup, Contains-from_dedup}
 use Rattle.std.proofs.lemmas.List.Sorted.{Contains-permutation, IsPermutation-sym}
-use Rattle.std.proofs.lemmas.Map.Views.{list_any-from_Contains, Contains-from_any}
 use Rattle.nd_bytes.specs.Compared.{bytes_cmp, bytes_eq, bytes_ordered, bytes_ties, bytes_equal, bytes_same}
-use Rattle.nd_machines.specs.FeatureSets.{IsRising, IsSetOf, HasOneSet, put, set_of}
-
--- whether an item is in a list
-abbrev pub has : List ℕ → List (List ℕ) → Bool
-has x ys = list_any (eq_by_cmp bytes_cmp x) ys
-
-tied_same : IsAntisymmetric bytes_cmp
-tied_same = slice_cmp-IsAntisymmetric nat_cmp-IsAntisymmetric
-
-ties : IsEquivalence (eq_by_cmp bytes_cmp)
-ties = eq_by_cmp_equiv bytes_ordered
-
-each_weaker : (P Q : List ℕ → Type 0) → ((x : List ℕ) → P x → Q x) → (xs : List (List ℕ)) → AllByRecursion P xs → AllByRecursion Q xs
-each_weaker P Q f [] all = tt
-each_weaker P Q f (x ∷ xs) all = (f x all.0, each_weaker P Q f xs all.1)
-
--- an item that comes before another comes before those after the other
-each_after : (x y : List ℕ) (ys : List (List ℕ)) → bytes_cmp x y ≡ Less → AllByRecursion (λ z. bytes_cmp y z ≡ Less) ys → AllByRecursion (λ z. bytes_cmp x z ≡ Less) ys
-each_after x y ys e all = each_weaker (λ z. bytes_cmp y z ≡ Less) (λ z. bytes_cmp x z ≡ Less) (λ z f. bytes_ordered.trans x y z e f) ys all
+use Rattle.nd_machines.specs.FeatureSets.{IsRising, IsSetOf, HasOneSet, has_set, set_of}
+use Rattle.nd_machines.specs.Insertion.{has, has-Contains, ties, tied_same, each_after}
 
 -- an item that comes before each of a list is not in it
 has_none : (x : List ℕ) (ys : List (List ℕ)) → AllByRecursion (λ y. bytes_cmp x y ≡ Less) ys → has x ys ≡ false
 has_none x [] all = refl
 has_none x (y ∷ ys) all = ap (λ o. is_eq o || has x ys) all.0 ∙ has_none x ys all.1
-
--- ---- `put`
-
-each_put : (P : List ℕ → Type 0) (x : List ℕ) (ys : List (List ℕ)) → P x → AllByRecursion P ys → AllByRecursion P (put x ys)
-unfolding put
-each_put P x [] one all = (one, tt)
-each_put P x (y ∷ ys) one all =
-    elim (bytes_cmp x y) as (λ o. AllByRecursion P (match_ordering o (x ∷ y ∷ ys) (y ∷ ys) (y ∷ put x ys))) [
-      | Less ↦ (one, all)
-      | Equal ↦ all
-      | Greater ↦ (all.0, each_put P x ys one all.1)
-    ]
-
-put_rises : (x : List ℕ) (ys : List (List ℕ)) → IsRising ys → IsRising (put x ys)
-unfolding put IsStrictlySortedBy
-put_rises x [] rises = (tt, tt)
-put_rises x (y ∷ ys) rises =
-    elim (bytes_cmp x y) as (λ o. bytes_cmp x y ≡ o → IsRising (match_ordering o (x ∷ y ∷ ys) (y ∷ ys) (y ∷ put x ys))) [
-      | Less ↦ λ e. ((e, each_after x y ys e rises.0), rises)
-      | Equal ↦ λ e. rises
-      | Greater ↦ λ e. (each_put (λ z. bytes_cmp y z ≡ Less) x ys (bytes_ordered.antisymm y x ∙ ap ordering_reverse e) rises.0, put_rises x ys rises.1)
-    ] refl
-
-or_swap : (a b c : Bool) → (a || (b || c)) ≡ (b || (a || c))
-or_swap true true c = refl
-or_swap true false c = refl
-or_swap false b c = refl
-
-or_twice : (a b : Bool) → (a || b) ≡ (a || (a || b))
-or_twice true b = refl
-or_twice false b = refl
-
--- the items of a list with one more: that one, and those of the list
-pub any-put : (p : List ℕ → Bool) (x : List ℕ) (ys : List (List ℕ)) → list_any p (put x ys) ≡ (p x || list_any p ys)
-unfolding put
-any-put p x [] = refl
-any-put p x (y ∷ ys) =
-    elim (bytes_cmp x y) as (λ o. bytes_cmp x y ≡ o → list_any p (match_ordering o (x ∷ y ∷ ys) (y ∷ ys) (y ∷ put x ys)) ≡ (p x || list_any p (y ∷ ys))) [
-      | Less ↦ λ e. refl
-      | Equal ↦ λ e. or_twice (p y) (list_any p ys) ∙ ap (λ z. p z || list_any p (y ∷ ys)) (sym (tied_same x y e))
-      | Greater ↦ λ e. ap (λ b. p y || b) (any-put p x ys) ∙ or_swap (p y) (p x) (list_any p ys)
-    ] refl
-
--- ---- `set_of`
-
-pub set_rises : (xs : List (List ℕ)) → IsRising (set_of xs)
-unfolding set_of IsStrictlySortedBy
-set_rises [] = tt
-set_rises (x ∷ xs) = put_rises x (set_of xs) (set_rises xs)
-
-pub any-set_of : (p : List ℕ → Bool) (xs : List (List ℕ)) → list_any p (set_of xs) ≡ list_any p xs
-unfolding set_of
-any-set_of p [] = refl
-any-set_of p (x ∷ xs) = any-put p x (set_of xs) ∙ ap (λ b. p x || b) (any-set_of p xs)
 
 -- ---- two rising lists with the same items are equal
 
@@ -126,27 +52,32 @@ rising_same (x ∷ xs) (y ∷ ys) p q same =
           | false ↦ λ e. sym (ap (λ b. b || has z xs) e) ∙ same z ∙ ap (λ b. b || has z ys) (ap (eq_by_cmp bytes_cmp z) (sym one) ∙ e)
         ] refl
 
-pub has-Contains : (x : List ℕ) (xs : List (List ℕ)) → (has x xs ≡ true) ↔ Contains xs x
-has-Contains x xs = (Contains-from_any (λ y z e. bytes_same y z (bytes_ties y z ∙ e)) x xs, list_any-from_Contains ties x xs)
-
 pub same_items : (xs ys : List (List ℕ)) → IsRising xs → IsRising ys → ((z : List ℕ) → Contains xs z ↔ Contains ys z) → xs ≡ ys
 same_items xs ys p q same =
     rising_same xs ys p q (λ z. both_ways (has z xs) (has z ys) (λ e. (has-Contains z ys).1 ((same z).0 ((has-Contains z xs).0 e))) (λ e. (has-Contains z xs).1 ((same z).1 ((has-Contains z ys).0 e))))
 
--- the set of a list has its items
-pub Contains-set_of : (xs : List (List ℕ)) (x : List ℕ) → Contains (set_of xs) x ↔ Contains xs x
-Contains-set_of xs x =
-    let is : has x (set_of xs) ≡ has x xs = any-set_of (eq_by_cmp bytes_cmp x) xs in
-    (λ h. (has-Contains x xs).0 (sym is ∙ (has-Contains x (set_of xs)).1 h), λ h. (has-Contains x (set_of xs)).0 (is ∙ (has-Contains x xs).1 h))
+-- `set_of` gives a set of the list
+pub set_is : (items : List (List ℕ)) → IsSetOf items (set_of items)
+unfolding set_of
+set_is items = (has_set items).is
 
 -- a list has one set
 pub has_one_set : HasOneSet
 has_one_set items set = (
   λ h.
-      same_items set (set_of items) h.rising (set_rises items)
-      (λ x. (λ c. (Contains-set_of items x).1 ((h.same x).0 c), λ c. (h.same x).1 ((Contains-set_of items x).0 c))),
-  λ e. subst (λ (s : List (List ℕ)). IsSetOf items s) (sym e) (record { rising = set_rises items; same = Contains-set_of items }),
+      same_items set (set_of items) h.rising (set_is items).rising
+      (λ x. (λ c. ((set_is items).same x).1 ((h.same x).0 c), λ c. (h.same x).1 (((set_is items).same x).0 c))),
+  λ e. subst (λ (s : List (List ℕ)). IsSetOf items s) (sym e) (set_is items),
 )
+
+-- the set of no item, and of one
+pub set_of_none : (items : List (List ℕ)) → items ≡ [] → set_of items ≡ []
+unfolding IsStrictlySortedBy
+set_of_none items none = ap set_of none ∙ sym ((has_one_set [] []).0 (record { rising = tt; same = λ x. (λ h. h, λ h. h) }))
+
+pub set_of_one : (x : List ℕ) → set_of (x ∷ []) ≡ x ∷ []
+unfolding IsStrictlySortedBy
+set_of_one x = sym ((has_one_set (x ∷ []) (x ∷ [])).0 (record { rising = (tt, tt); same = λ y. (λ h. h, λ h. h) }))
 
 -- ---- a list that is sorted and whose repeats are dropped
 

@@ -1,38 +1,42 @@
 -- Sets of byte strings, as strictly rising lists: the systems and the features of a machine
 -- (Nix Reference Manual, setting `builders`).
 -- Public clauses cite this, but `sets_eq-Decides` and `sets_same` serve proofs alone.
-use Rattle.std.specs.Prelude.{◌≡◌, ◌↔◌, ◌==◌, ℕ, Bool, true, not, List, [], ◌∷◌, length, filter, Contains}
+use Rattle.std.specs.Prelude.{◌≡◌, ◌↔◌, ◌==◌, ℕ, Bool, true, not, List, length, filter, Contains}
 use Rattle.std.specs.List.{slice_split}
 use Rattle.std.specs.Bool.{Decides}
 use Rattle.std.specs.Cmp.{IsEquivalence, IsPartialEquivalence, IsTotalOrder, IsPartialOrder, partial_equiv_from_equiv, partial_order_from_agreeing_total}
 use Rattle.std.specs.Cmp.Lexicographic.{pointwise, slice_cmp, lists_ties}
-use Rattle.std.specs.Ordering.{match_ordering, eq_by_cmp, as_partial_cmp}
+use Rattle.std.specs.Ordering.{eq_by_cmp, as_partial_cmp}
 use Rattle.std.specs.declared.cmp.Ordering.{Ordering}
 use Rattle.std.specs.List.Sorted.{IsStrictlySortedBy}
 use Rattle.std.proofs.Common.{refl}
 use Rattle.std.proofs.lemmas.Cmp.{lists_equiv, lists_total}
 use Rattle.std.proofs.lemmas.Slice.Eq.{slice_eq-Decides, bytes_eq-Decides}
 use Rattle.nd_bytes.specs.Compared.{bytes_eq, bytes_cmp, bytes_equal, bytes_ordered, bytes_ties}
+use Rattle.nd_machines.specs.Insertion.{inserted, inserted_rises, inserted_same}
 
 -- each item comes before those after it, in byte order
 abbrev pub IsRising : List (List ℕ) → Type 0
 IsRising = IsStrictlySortedBy bytes_cmp
 
--- the set of the items of a list: it rises, and has the same members
+-- a set of the items of a list: it rises, and has the same members
 pub record IsSetOf (items set : List (List ℕ)) : Type 0 where
   pub rising : IsRising set
   pub same : (item : List ℕ) → Contains set item ↔ Contains items item
 
--- the same as a function, for definitions that compute: the items are put at their places one by one
-unfoldable pub put : List ℕ → List (List ℕ) → List (List ℕ)
-put x [] = x ∷ []
-put x (y ∷ ys) = match_ordering (bytes_cmp x y) (x ∷ y ∷ ys) (y ∷ ys) (y ∷ put x ys)
+pub record HasSet (items : List (List ℕ)) : Type 0 where
+  pub set : List (List ℕ)
+  pub is : IsSetOf items set
 
+-- each list has a set
+pub has_set : (items : List (List ℕ)) → HasSet items
+has_set items = record { set = inserted items; is = record { rising = inserted_rises items; same = inserted_same items } }
+
+-- the set of the items of a list
 unfoldable pub set_of : List (List ℕ) → List (List ℕ)
-set_of [] = []
-set_of (x ∷ xs) = put x (set_of xs)
+set_of items = (has_set items).set
 
--- a list has one set, and the function gives it
+-- it is the only one
 abbrev pub HasOneSet : Type 0
 HasOneSet = (items set : List (List ℕ)) → IsSetOf items set ↔ (set ≡ set_of items)
 

@@ -1,3 +1,4 @@
+pub mod Insertion
 pub mod FeatureSets
 pub mod Builders
 pub mod Fields

@@ -60,7 +60,7 @@ pub(crate) fn read_uri(alloc: Global, field: &[u8]) -> Result<ByteString, AllocE
 }
 
 /// The systems of a machine: this system alone where the field is `-`.
-#[tactic(auto, unfolding(crate::specs::FeatureSets::set_of, crate::specs::FeatureSets::put))]
+#[tactic(auto, using(crate::proofs::Sets::set_of_one))]
 pub(crate) fn read_systems(
     alloc: Global,
     field: &[u8],
@@ -77,7 +77,7 @@ pub(crate) fn read_systems(
 }
 
 /// The features of a field: none where it is `-`.
-#[tactic(auto, unfolding(crate::specs::FeatureSets::set_of, crate::specs::FeatureSets::put))]
+#[tactic(auto, using(crate::proofs::Sets::set_of_none))]
 pub(crate) fn read_features(alloc: Global, field: &[u8]) -> Result<FeatureSet, AllocError>
     ensures { IfOk result (λ features. features ≡ features_of field.now) }
 {

@@ -8,6 +8,7 @@ use Rattle.nd_history.specs.History.{is_started, ends}
 use Rattle.nd_transports.specs.declared.kinds.Answer.{Answer}
 use Rattle.nd_transports.specs.declared.kinds.Call.{Call}
 use Rattle.nd_transports.specs.declared.kinds.Call.TheVariants.{Build}
+use Rattle.nd_transports.specs.Calls.{State}
 use Rattle.nd_receipts.specs.declared.receipt.Receipt.{Receipt}
 use Rattle.nd_receipts.specs.declared.receipt.Kind.{Kind}
 use Rattle.nd_receipts.specs.declared.receipt.Kind.TheVariants.{Started as KindStarted, Built as KindBuilt, Failed as KindFailed}
@@ -47,6 +48,10 @@ pub record Track : Type 0 where
 
 abbrev pub track : Noted → List Call → Track
 track notes calls = record { receipts = notes.receipts; copies = notes.copies; calls = calls }
+
+-- .. where this is the state of the transport
+abbrev pub track_of : Noted → State → Track
+track_of notes state = track notes state.calls
 
 -- ---- leases
 

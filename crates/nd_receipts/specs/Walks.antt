@@ -5,6 +5,7 @@ use Rattle.nd_history.specs.declared.entry.Entry.{Entry}
 use Rattle.nd_history.specs.declared.entry.Entry.TheVariants.{Chosen, NoBuilder, Started, Down, Built, Failed, Stop, Drain, Enable}
 use Rattle.nd_receipts.specs.declared.receipt.Receipt.{Receipt}
 use Rattle.nd_receipts.specs.declared.receipt.Kind.{Kind}
+use Rattle.nd_receipts.specs.declared.tables.Tables.{Tables}
 use Rattle.nd_receipts.specs.Dealt.{place_of, marks_of, marks_on, HasWorker}
 
 -- for each derivation of the table: the worker on whose place it was leased last
@@ -48,6 +49,10 @@ pub record IsDealt (places : List (ℕ × ℕ)) (rows : List (List Receipt)) (i 
   pub follows : Follows places choices after e
   pub left : (past es : List Entry) → Knows places choices past → AreLeft places rows now (i + 1) (e ∷ past) es → AreLeft places rows met i past (e ∷ es)
   pub has : (past : List Entry) → Knows places choices past → HasWorker places past e
+
+-- .. between these tables
+abbrev pub IsDealtBetween : Tables → Tables → List (ℕ × ℕ) → List (List Receipt) → ℕ → Entry → Type 0
+IsDealtBetween old new places rows i e = IsDealt places rows i e old.choices.items new.choices.items old.met.items new.met.items
 
 -- what an entry says of whether derivation d is started: its start that it is, its choice that it isn't
 abbrev pub start_said : ℕ → Entry → Option Bool

@@ -2,7 +2,7 @@
 
 ghost use Rattle.std.specs.Prelude.{◌≡◌, ◌+◌, ◌^◌, ◌<◌, ℕ, List, [], ◌∷◌, map, true, false, length, replicate, slice_get, slice_set, Some, None, IfSome};
 ghost use Rattle.nd_receipts.specs.Dealt.{made_as, AreApart, AreReceipted};
-ghost use Rattle.nd_receipts.specs.Walks.{Follows, AreUnknown, IsMet, AreAllMet, IsDealt};
+ghost use Rattle.nd_receipts.specs.Walks.{Follows, AreUnknown, IsMet, AreAllMet, IsDealtBetween};
 
 use crate::receipt::{Kind, Receipt};
 use crate::tables::Tables;
@@ -118,7 +118,7 @@ fn deal(
     entry: &Entry,
 ) -> bool
     requires { AreApart places.now }
-    ensures { result ≡ true → IsDealt places.now (map (λ v. v.items) rows.now) index entry.now tables.old.choices.items tables.new.choices.items tables.old.met.items tables.new.met.items }
+    ensures { result ≡ true → IsDealtBetween tables.old tables.new places.now (map (λ v. v.items) rows.now) index entry.now }
 {
     let Tables { choices, met } = tables;
     if let Some((drv, kind)) = made_as(entry) {

@@ -1,103 +1,58 @@
 -- A report that goes to a writer over a page.
-use Rattle.std.proofs.Common.{◌≡◌, ◌∙◌, ℕ, zero, suc, ◌+◌, ◌<◌, ◌≤◌, List, [], ◌∷◌, ◌++◌, length, take, drop, get_or, Option, refl, sym, ap, subst, arith, inl, inr, append_assoc, append-nil, length-append}
+use Rattle.std.proofs.Common.{◌≡◌, ◌∙◌, ℕ, zero, suc, ◌+◌, ◌<◌, ◌≤◌, Bool, true, false, true≢false, List, [], ◌∷◌, ◌++◌, length, take, get_or, Option, Result, Ok, Err, reverse, refl, sym, ap, subst, arith, inl, inr, append_assoc, append-nil, length-append}
+use Rattle.std.specs.Prelude.{◌||◌, is_err, codes, slice_index_or}
+use Rattle.std.specs.Fmt.{decimal}
 use Rattle.std.specs.List.{flat_map, range_with_len}
 use Rattle.std.specs.Io.KnownBytes.{Appends}
 use Rattle.std.proofs.Math.Seq.{get_or-append_seam}
 use Rattle.std.proofs.lemmas.Bool.{cases_lt}
-use Rattle.std.proofs.lemmas.List.{take_all, get_or_append_left}
+use Rattle.std.proofs.lemmas.List.{get_or_append_left}
 use Rattle.std.proofs.lemmas.List.FromFn.{length-range_with_len, get_or-range_with_len}
-use Rattle.std.proofs.lemmas.Grind.{flat_map-append}
 use Rattle.nd_failure.specs.declared.status.Counts.{Counts}
 use Rattle.nd_failure.specs.declared.status.Status.{Status}
 use Rattle.nd_failure.specs.declared.status.Status.TheVariants.{Waiting}
+use Rattle.nd_hook.specs.Watched.{Watched}
 use Rattle.nd_hook.specs.Written.{WritesPart}
 use Rattle.nd_history.specs.declared.entry.Entry.{Entry}
 use Rattle.nd_history.specs.Premises.{Premises}
 use Rattle.nd_history.specs.Standing.{drvs_in}
 use Rattle.nd_history.specs.Statuses.{HasStatusIn, AreCountsIn}
-use Rattle.nd_texts.specs.Lines.{spaced}
-use Rattle.nd_texts.specs.Sending.{Sends, SendsPart}
+use Rattle.nd_ledger.specs.Worlds.{World}
+use Rattle.nd_texts.specs.Sending.{IsPut}
 use Rattle.nd_machines.specs.Builders.{Builder}
 use Rattle.nd_choose.specs.Best.{jobs_at}
 use Rattle.nd_hook.specs.ReplyText.{uri_at}
 use Rattle.nd_history.specs.Choices.{jobs_of}
-use Rattle.std.specs.Fmt.{decimal}
-use Rattle.nd_report.specs.Reports.{share, drv_row, drvs_text, counts_text, machine_row, machines_text, builder_row, AreFirstStatuses, IsReport, Reports, ReportsPart, SendsDrvs, SendsDrvsPart}
-use Rattle.nd_texts.proofs.Sent.{both, part_first, part_then, nothing, all_sent, end_in_part, sent_in_part}
-use Rattle.nd_texts.proofs.Spelled.{front_more, parted, renamed, renamed_part, spaced-one}
-
--- ---- the slots of a machine
-
-share_spelled : (taken jobs : ℕ) → spaced (decimal taken ∷ []) ++ (47 ∷ decimal jobs) ≡ spaced (share taken jobs ∷ [])
-unfolding share
-share_spelled taken jobs = ap (λ (t : List ℕ). t ++ (47 ∷ decimal jobs)) (sym (spaced-one (decimal taken))) ∙ spaced-one (decimal taken ++ 47 ∷ decimal jobs)
-
-pub share_sent : (old mid new : Option (List ℕ)) (held between left : List ℕ) (taken jobs : ℕ) → Sends old held mid between (spaced (decimal taken ∷ []))
-    → Sends mid between new left (47 ∷ decimal jobs) → Sends old held new left (spaced (share taken jobs ∷ []))
-share_sent old mid new held between left taken jobs a b =
-    renamed old new held left _ _ (share_spelled taken jobs) (both old mid new held between left (spaced (decimal taken ∷ [])) (47 ∷ decimal jobs) a b)
-
-pub share_part_first : (old new : Option (List ℕ)) (held : List ℕ) (taken jobs : ℕ) → SendsPart old held new (spaced (decimal taken ∷ []))
-    → SendsPart old held new (spaced (share taken jobs ∷ []))
-share_part_first old new held taken jobs a =
-    renamed_part old new held _ _ (share_spelled taken jobs) (part_first old new held (spaced (decimal taken ∷ [])) (47 ∷ decimal jobs) a)
-
-pub share_part_then : (old mid new : Option (List ℕ)) (held between : List ℕ) (taken jobs : ℕ) → Sends old held mid between (spaced (decimal taken ∷ []))
-    → SendsPart mid between new (47 ∷ decimal jobs) → SendsPart old held new (spaced (share taken jobs ∷ []))
-share_part_then old mid new held between taken jobs a b =
-    renamed_part old new held _ _ (share_spelled taken jobs) (part_then old mid new held between (spaced (decimal taken ∷ [])) (47 ∷ decimal jobs) a b)
-
-pub ruleset shares = (share_sent, share_part_first, share_part_then)
-
--- a byte and then a text
-pub slash_sent : (old mid new : Option (List ℕ)) (held between left text : List ℕ) (b : ℕ) → Sends old held mid between (b ∷ []) → Sends mid between new left text
-    → Sends old held new left (b ∷ text)
-slash_sent old mid new held between left text b first then = both old mid new held between left (b ∷ []) text first then
-
-pub slash_part_first : (old new : Option (List ℕ)) (held text : List ℕ) (b : ℕ) → SendsPart old held new (b ∷ []) → SendsPart old held new (b ∷ text)
-slash_part_first old new held text b first = part_first old new held (b ∷ []) text first
-
-pub slash_part_then : (old mid new : Option (List ℕ)) (held between text : List ℕ) (b : ℕ) → Sends old held mid between (b ∷ []) → SendsPart mid between new text
-    → SendsPart old held new (b ∷ text)
-slash_part_then old mid new held between text b first then = part_then old mid new held between (b ∷ []) text first then
-
-pub ruleset slashes = (slash_sent, slash_part_first, slash_part_then)
+use Rattle.nd_history.specs.History.{load, is_up}
+use Rattle.nd_texts.specs.Rows.{row, share}
+use Rattle.nd_report.specs.Reports.{count_row, up_word, status_word, drv_row, drvs_text, counts_text, machine_row, park_text, builder_row, AreFirstStatuses, IsReport, Reports, ReportsPart, PutsDrvs, PutsAllDrvs}
+use Rattle.nd_texts.proofs.Sent.{no_text, put_both, put_renamed, item_put, item_refused, items_put, put_sent, put_sent_in_part, put_in_part}
 
 -- ---- builders
 
 place_is : (n i : ℕ) → i < n → i ≡ get_or (range_with_len 0 n) i i
 place_is n i within = let here : 0 + i ≡ i = omega arith in sym (get_or-range_with_len 0 n i i within ∙ here)
 
-module _ (row : ℕ → List ℕ) where
-  pub rows_begun : (old : Option (List ℕ)) (held : List ℕ) (n : ℕ) → Sends old held old held (flat_map row (take 0 (range_with_len 0 n)))
-  rows_begun old held n = nothing old held held refl
-
-  pub row_more : (old mid new : Option (List ℕ)) (held between left : List ℕ) (n i : ℕ) → i < n
-      → Sends old held mid between (flat_map row (take i (range_with_len 0 n))) → Sends mid between new left (row i)
-      → Sends old held new left (flat_map row (take (i + 1) (range_with_len 0 n)))
-  row_more old mid new held between left n i within a b =
+module _ {W T E : Type 0} (contents : W → Option (List ℕ)) (line : ℕ → List ℕ) where
+  pub row_put : (old mid new : Watched W) (held between left : List ℕ) (n i : ℕ) (u v : T) → i < n
+      → IsPut {E = E} contents old held mid between (flat_map line (take i (range_with_len 0 n))) (Ok u) → IsPut {E = E} contents mid between new left (line i) (Ok v)
+      → IsPut {E = E} contents old held new left (flat_map line (take (i + 1) (range_with_len 0 n))) (Ok v)
+  row_put old mid new held between left n i u v within a b =
       let long : i < length (range_with_len 0 n) = omega (arith, length-range_with_len 0 n) in
-      renamed old new held left _ _
-      (sym (flat_map-append row (take i (range_with_len 0 n)) (i ∷ [])) ∙ ap (flat_map row) (sym (front_more (range_with_len 0 n) i i long (place_is n i within))))
-      (both old mid new held between left (flat_map row (take i (range_with_len 0 n))) (flat_map row (i ∷ [])) a
-      (renamed mid new between left _ _ (sym (append-nil (row i))) b))
+      item_put contents line old mid new held between left (range_with_len 0 n) i i u v long (place_is n i within) a b
 
-  pub row_part_more : (old mid new : Option (List ℕ)) (held between : List ℕ) (n i : ℕ) → i < n
-      → Sends old held mid between (flat_map row (take i (range_with_len 0 n))) → SendsPart mid between new (row i)
-      → SendsPart old held new (flat_map row (range_with_len 0 n))
-  row_part_more old mid new held between n i within a b =
+  pub row_refused : (old mid new : Watched W) (held between left : List ℕ) (n i : ℕ) (u : T) (f : E) (r : Result T E) → i < n → is_err r ≡ true
+      → IsPut {E = E} contents old held mid between (flat_map line (take i (range_with_len 0 n))) (Ok u) → IsPut {T = T} contents mid between new left (line i) (Err f)
+      → IsPut contents old held new left (flat_map line (range_with_len 0 n)) r
+  row_refused old mid new held between left n i u f r within refused a b =
       let long : i < length (range_with_len 0 n) = omega (arith, length-range_with_len 0 n) in
-      let after = drop (suc i) (range_with_len 0 n) in
-      renamed_part old new held _ _
-      (sym (flat_map-append row (take i (range_with_len 0 n)) (i ∷ after)) ∙ ap (flat_map row) (sym (parted (range_with_len 0 n) i i long (place_is n i within))))
-      (part_then old mid new held between (flat_map row (take i (range_with_len 0 n))) (flat_map row (i ∷ after)) a
-      (part_first mid new between (row i) (flat_map row after) b))
+      item_refused contents line old mid new held between left (range_with_len 0 n) i i u f r long (place_is n i within) refused a b
 
-  pub rows_done : (old new : Option (List ℕ)) (held left : List ℕ) (n i : ℕ) → n ≤ i → Sends old held new left (flat_map row (take i (range_with_len 0 n)))
-      → Sends old held new left (flat_map row (range_with_len 0 n))
-  rows_done old new held left n i past a =
+  pub rows_put : (old new : Watched W) (held left : List ℕ) (n i : ℕ) (r : Result T E) → n ≤ i
+      → IsPut contents old held new left (flat_map line (take i (range_with_len 0 n))) r → IsPut contents old held new left (flat_map line (range_with_len 0 n)) r
+  rows_put old new held left n i r past a =
       let long : length (range_with_len 0 n) ≤ i = omega (arith, length-range_with_len 0 n) in
-      renamed old new held left _ _ (ap (flat_map row) (take_all i (range_with_len 0 n) long)) a
+      items_put contents line old new held left (range_with_len 0 n) i r long a
 
 -- the builder of a number
 uri_is : (machines : List Builder) (n : ℕ) (machine : Builder) → n < length machines → machine ≡ get_or machines n machine → machine.uri ≡ uri_at machines n
@@ -122,15 +77,35 @@ builder_jobs i place machine within is =
     jobs_are i.machines place machine within is ∙ ap (jobs_of i) next
 
 -- the line of a builder, by its place
-pub builder_sent : (i : Premises) (past : List Entry) (place : ℕ) (machine : Builder) (old new : Option (List ℕ)) (held left : List ℕ) → place < length i.machines
-    → machine ≡ get_or i.machines place machine → Sends old held new left (machine_row i past (place + 1) machine.uri) → Sends old held new left (builder_row i past place)
-builder_sent i past place machine old new held left within is a = renamed old new held left _ _ (builder_named i past place machine within is) a
+pub builder_put : {W T E : Type 0} (contents : W → Option (List ℕ)) (i : Premises) (past : List Entry) (place : ℕ) (machine : Builder) (old new : Watched W) (held left : List ℕ) (r : Result T E)
+    → place < length i.machines → machine ≡ get_or i.machines place machine → IsPut contents old held new left (machine_row i past (place + 1) machine.uri) r
+    → IsPut contents old held new left (builder_row i past place) r
+builder_put contents i past place machine old new held left r within is a =
+    put_renamed contents old new held left _ _ r (builder_named i past place machine within is) a
 
-pub builder_sent_part : (i : Premises) (past : List Entry) (place : ℕ) (machine : Builder) (old new : Option (List ℕ)) (held : List ℕ) → place < length i.machines
-    → machine ≡ get_or i.machines place machine → SendsPart old held new (machine_row i past (place + 1) machine.uri) → SendsPart old held new (builder_row i past place)
-builder_sent_part i past place machine old new held within is a = renamed_part old new held _ _ (builder_named i past place machine within is) a
+-- ---- the words of a row
 
-pub ruleset named_builders = (builder_jobs, builder_sent, builder_sent_part)
+-- the rows of the counts, one after another
+pub counts_rowed : (total : ℕ) (counts : Counts)
+    → count_row (codes "total") total ++ (count_row (codes "waiting") counts.waiting ++ (count_row (codes "leased") counts.leased
+    ++ (count_row (codes "built") counts.built ++ (count_row (codes "failed") counts.failed ++ (count_row (codes "cancelled") counts.cancelled ++ [])))))
+    ≡ counts_text total counts
+counts_rowed total counts =
+    ap (λ (t : List ℕ). count_row (codes "total") total ++ (count_row (codes "waiting") counts.waiting ++ (count_row (codes "leased") counts.leased
+    ++ (count_row (codes "built") counts.built ++ (count_row (codes "failed") counts.failed ++ t))))) (append-nil (count_row (codes "cancelled") counts.cancelled))
+
+pub machine_rowed : (i : Premises) (past : List Entry) (m : ℕ) (name word : List ℕ) (up : Bool) (taken jobs : ℕ) → word ≡ up_word up → up ≡ is_up m past
+    → taken ≡ load m past → jobs ≡ jobs_of i m → row (codes "machine") (decimal m ∷ word ∷ share taken jobs ∷ name ∷ []) ≡ machine_row i past m name
+machine_rowed i past m name word up taken jobs said is loaded have =
+    ap (λ (w : List ℕ). row (codes "machine") (decimal m ∷ w ∷ share taken jobs ∷ name ∷ [])) (said ∙ ap up_word is)
+    ∙ ap (λ (w : List ℕ). row (codes "machine") (decimal m ∷ up_word (is_up m past) ∷ w ∷ name ∷ []))
+    (ap (λ (n : ℕ). share n jobs) loaded ∙ ap (share (load m past)) have)
+
+pub drv_rowed : (i : Premises) (d : ℕ) (status : Status) (word path : List ℕ) → word ≡ status_word status → path ≡ slice_index_or i.graph.paths d []
+    → row (codes "drv") (decimal d ∷ word ∷ path ∷ []) ≡ drv_row i d status
+unfolding drv_row
+drv_rowed i d status word path said is =
+    ap (λ (w : List ℕ). row (codes "drv") (decimal d ∷ w ∷ path ∷ [])) said ∙ ap (λ (w : List ℕ). row (codes "drv") (decimal d ∷ status_word status ∷ w ∷ [])) is
 
 -- ---- derivations
 
@@ -163,97 +138,110 @@ one_more i past n statuses status h here = record {
   ];
 }
 
-pub drvs_begun : (i : Premises) (past : List Entry) (old : Option (List ℕ)) (held : List ℕ) → SendsDrvs i past 0 old held old held
-drvs_begun i past old held = record { statuses = []; are = record { size = refl; right = λ d within. absurd (omega arith) }; sends = nothing old held held refl }
+module _ {W T E : Type 0} (w : World) (contents : W → Option (List ℕ)) where
+  pub drvs_begun : (o : Watched W) (held : List ℕ) (u : T) → PutsDrvs {E = E} w 0 contents o held o held (Ok u)
+  drvs_begun o held u = record { statuses = []; are = record { size = refl; right = λ d within. absurd (omega arith) }; put = no_text contents o held held u refl }
 
-pub drvs_more : (i : Premises) (past : List Entry) (n : ℕ) (old mid new : Option (List ℕ)) (held between left : List ℕ) (status : Status)
-    → SendsDrvs i past n old held mid between → HasStatusIn i past n status → Sends mid between new left (drv_row i n status)
-    → SendsDrvs i past (n + 1) old held new left
-drvs_more i past n old mid new held between left status h here next = record {
-  statuses = h.statuses ++ status ∷ [];
-  are = one_more i past n h.statuses status h.are here;
-  sends =
-      renamed old new held left _ _ (sym (at_place i h.statuses n status h.are.size))
-      (both old mid new held between left (drvs_text i 0 h.statuses) (drv_row i n status) h.sends next);
-}
+  pub drvs_more : (n : ℕ) (old mid new : Watched W) (held between left : List ℕ) (status : Status) (u : T) (r : Result T E)
+      → PutsDrvs {E = E} w n contents old held mid between (Ok u) → HasStatusIn w.inputs (reverse w.history) n status
+      → IsPut contents mid between new left (drv_row w.inputs n status) r → PutsDrvs w (n + 1) contents old held new left r
+  drvs_more n old mid new held between left status u r h here next = record {
+    statuses = h.statuses ++ status ∷ [];
+    are = one_more w.inputs (reverse w.history) n h.statuses status h.are here;
+    put =
+        put_renamed contents old new held left _ _ r (sym (at_place w.inputs h.statuses n status h.are.size))
+        (put_both contents old mid new held between left (drvs_text w.inputs 0 h.statuses) (drv_row w.inputs n status) u r h.put next);
+  }
 
-pub drvs_part_more : (i : Premises) (past : List Entry) (n : ℕ) (old mid new : Option (List ℕ)) (held between : List ℕ) (status : Status) → n < drvs_in i
-    → SendsDrvs i past n old held mid between → HasStatusIn i past n status → SendsPart mid between new (drv_row i n status)
-    → SendsDrvsPart i past old held new
-drvs_part_more i past n old mid new held between status within h here next = record {
-  n = n + 1;
-  some = omega arith;
-  statuses = h.statuses ++ status ∷ [];
-  are = one_more i past n h.statuses status h.are here;
-  sends =
-      renamed_part old new held _ _ (sym (at_place i h.statuses n status h.are.size))
-      (part_then old mid new held between (drvs_text i 0 h.statuses) (drv_row i n status) h.sends next);
-}
+  -- the line of a derivation is refused
+  pub drvs_refused : (n : ℕ) (old mid new : Watched W) (held between left : List ℕ) (status : Status) (u : T) (f : E) (r : Result T E) → n < drvs_in w.inputs
+      → is_err r ≡ true → PutsDrvs {E = E} w n contents old held mid between (Ok u) → HasStatusIn w.inputs (reverse w.history) n status
+      → IsPut {T = T} contents mid between new left (drv_row w.inputs n status) (Err f) → PutsAllDrvs w contents old held new left r
+  drvs_refused n old mid new held between left status u f (Ok v) within refused h here next = absurd (true≢false (sym refused))
+  drvs_refused n old mid new held between left status u f (Err g) within refused h here next = record {
+    n = n + 1;
+    some = omega arith;
+    all = tt;
+    puts = drvs_more n old mid new held between left status u (Err g) h here (record { written = tt; partly = next.partly; mark = next.mark });
+  }
+
+  pub drvs_put : (n : ℕ) (old new : Watched W) (held left : List ℕ) (u : T) → n ≡ drvs_in w.inputs → PutsDrvs {E = E} w n contents old held new left (Ok u)
+      → PutsAllDrvs {E = E} w contents old held new left (Ok u)
+  drvs_put n old new held left u all h = record { n = n; some = omega (arith, all); all = all; puts = h }
+
+-- ---- the mark of the device
+
+-- after a call that was taken, and then another
+pub marked : {T E : Type 0} (old mid new more : Bool) (r : Result T E) → mid ≡ (old || false) → new ≡ (mid || more) → is_err r ≡ more → new ≡ (old || is_err r)
+marked true mid new more r first then is = then ∙ ap (λ (m : Bool). m || more) first
+marked false mid new more r first then is = then ∙ ap (λ (m : Bool). m || more) first ∙ sym is
+
+-- after two calls that were taken
+pub unmarked : (old mid new : Bool) → mid ≡ (old || false) → new ≡ (mid || false) → new ≡ (old || false)
+unmarked true mid new first then = then ∙ ap (λ (m : Bool). m || false) first
+unmarked false mid new first then = then ∙ ap (λ (m : Bool). m || false) first
 
 -- ---- whole reports
 
-none_yet : (i : Premises) (past : List Entry) (counts : Counts) → AreCountsIn i past counts → IsReport i past 0 (counts_text (drvs_in i) counts ++ machines_text i past)
+none_yet : (i : Premises) (past : List Entry) (counts : Counts) → AreCountsIn i past counts → IsReport i past 0 (park_text (drvs_in i) counts i past)
 none_yet i past counts h = record {
   counts = counts;
   counted = h;
   statuses = [];
   are = record { size = refl; right = λ d within. absurd (omega arith) };
-  whole = sym (append-nil (counts_text (drvs_in i) counts ++ machines_text i past));
+  whole = sym (append-nil (park_text (drvs_in i) counts i past));
 }
 
-pub park_in_part : (i : Premises) (past : List Entry) (total : ℕ) (counts : Counts) (old new : Option (List ℕ)) (held : List ℕ) → total ≡ drvs_in i → held ≡ [] → AreCountsIn i past counts
-    → SendsPart old held new (counts_text total counts ++ machines_text i past) → ReportsPart i past old new
-park_in_part i past total counts old new held size none h a0 =
-    let a : SendsPart old held new (counts_text (drvs_in i) counts ++ machines_text i past) = subst (λ (n : ℕ). SendsPart old held new (counts_text n counts ++ machines_text i past)) size a0 in
-    record {
-      n = 0;
-      some = omega arith;
-      text = counts_text (drvs_in i) counts ++ machines_text i past;
-      is = none_yet i past counts h;
-      written = sent_in_part old new held _ none a;
-    }
+module _ {W T E : Type 0} (w : World) (contents : W → Option (List ℕ)) (total : ℕ) (counts : Counts) where
+  pub park_in_part : (old new : Watched W) (held left : List ℕ) (f : E) → total ≡ drvs_in w.inputs → held ≡ [] → AreCountsIn w.inputs (reverse w.history) counts
+      → IsPut {T = T} contents old held new left (park_text total counts w.inputs (reverse w.history)) (Err f) → ReportsPart w.inputs (reverse w.history) (contents old.device) (contents new.device)
+  park_in_part old new held left f size none h a0 =
+      let a : IsPut {T = T} {E = E} contents old held new left (park_text (drvs_in w.inputs) counts w.inputs (reverse w.history)) (Err f) = subst (λ (n : ℕ). IsPut {T = T} {E = E} contents old held new left (park_text n counts w.inputs (reverse w.history)) (Err f)) size a0 in
+      record { n = 0; some = omega arith; text = park_text (drvs_in w.inputs) counts w.inputs (reverse w.history); is = none_yet w.inputs (reverse w.history) counts h; written = put_in_part contents old new held left _ f none a }
 
-pub drvs_in_part : (i : Premises) (past : List Entry) (total : ℕ) (counts : Counts) (old mid new : Option (List ℕ)) (held between : List ℕ) → total ≡ drvs_in i → held ≡ [] → AreCountsIn i past counts
-    → Sends old held mid between (counts_text total counts ++ machines_text i past) → SendsDrvsPart i past mid between new → ReportsPart i past old new
-drvs_in_part i past total counts old mid new held between size none h a0 b =
-    let a : Sends old held mid between (counts_text (drvs_in i) counts ++ machines_text i past) = subst (λ (n : ℕ). Sends old held mid between (counts_text n counts ++ machines_text i past)) size a0 in
-    record {
-      n = b.n;
-      some = b.some;
-      text = (counts_text (drvs_in i) counts ++ machines_text i past) ++ drvs_text i 0 b.statuses;
-      is = record { counts = counts; counted = h; statuses = b.statuses; are = b.are; whole = refl };
-      written = sent_in_part old new held _ none (part_then old mid new held between _ (drvs_text i 0 b.statuses) a b.sends);
-    }
+  -- the counts, the machines and the derivations so far
+  joined : (n : ℕ) (old mid new : Watched W) (held between left : List ℕ) (u : T) (r : Result T E) → total ≡ drvs_in w.inputs
+      → IsPut {E = E} contents old held mid between (park_text total counts w.inputs (reverse w.history)) (Ok u) → (b : PutsDrvs w n contents mid between new left r)
+      → IsPut contents old held new left (park_text (drvs_in w.inputs) counts w.inputs (reverse w.history) ++ drvs_text w.inputs 0 b.statuses) r
+  joined n old mid new held between left u r size a0 b =
+      let a : IsPut {T = T} {E = E} contents old held mid between (park_text (drvs_in w.inputs) counts w.inputs (reverse w.history)) (Ok u) = subst (λ (n : ℕ). IsPut {T = T} {E = E} contents old held mid between (park_text n counts w.inputs (reverse w.history)) (Ok u)) size a0 in
+      put_both contents old mid new held between left (park_text (drvs_in w.inputs) counts w.inputs (reverse w.history)) (drvs_text w.inputs 0 b.statuses) u r a b.put
 
--- the whole report over the page
-record IsAllSent (i : Premises) (past : List Entry) (old : Option (List ℕ)) (held : List ℕ) (new : Option (List ℕ)) (left : List ℕ) : Type 0 where
-  text : List ℕ
-  is : IsReport i past (drvs_in i) text
-  sends : Sends old held new left text
+  is_report : (n : ℕ) (old new : Watched W) (held left : List ℕ) (r : Result T E) → AreCountsIn w.inputs (reverse w.history) counts
+      → (b : PutsDrvs w n contents old held new left r) → IsReport w.inputs (reverse w.history) n (park_text (drvs_in w.inputs) counts w.inputs (reverse w.history) ++ drvs_text w.inputs 0 b.statuses)
+  is_report n old new held left r h b = record { counts = counts; counted = h; statuses = b.statuses; are = b.are; whole = refl }
 
-joined_up : (i : Premises) (past : List Entry) (counts : Counts) (old mid new : Option (List ℕ)) (held between left : List ℕ) → AreCountsIn i past counts
-    → Sends old held mid between (counts_text (drvs_in i) counts ++ machines_text i past) → SendsDrvs i past (drvs_in i) mid between new left
-    → IsAllSent i past old held new left
-joined_up i past counts old mid new held between left h a b = record {
-  text = (counts_text (drvs_in i) counts ++ machines_text i past) ++ drvs_text i 0 b.statuses;
-  is = record { counts = counts; counted = h; statuses = b.statuses; are = b.are; whole = refl };
-  sends = both old mid new held between left _ (drvs_text i 0 b.statuses) a b.sends;
-}
+  pub drvs_in_part : (old mid new : Watched W) (held between left : List ℕ) (u : T) (f : E) → total ≡ drvs_in w.inputs → held ≡ []
+      → AreCountsIn w.inputs (reverse w.history) counts → IsPut {E = E} contents old held mid between (park_text total counts w.inputs (reverse w.history)) (Ok u)
+      → PutsAllDrvs {T = T} w contents mid between new left (Err f) → ReportsPart w.inputs (reverse w.history) (contents old.device) (contents new.device)
+  drvs_in_part old mid new held between left u f size none h a b = record {
+    n = b.n;
+    some = b.some;
+    text = park_text (drvs_in w.inputs) counts w.inputs (reverse w.history) ++ drvs_text w.inputs 0 b.puts.statuses;
+    is = is_report b.n mid new between left (Err f) h b.puts;
+    written = put_in_part contents old new held left _ f none (joined b.n old mid new held between left u (Err f) size a b.puts);
+  }
 
-pub report_sent : (i : Premises) (past : List Entry) (total : ℕ) (counts : Counts) (old mid later new : Option (List ℕ)) (held between left : List ℕ) → total ≡ drvs_in i → held ≡ []
-    → AreCountsIn i past counts → Sends old held mid between (counts_text total counts ++ machines_text i past)
-    → SendsDrvs i past (drvs_in i) mid between later left → Appends later new left → Reports i past old new
-report_sent i past total counts old mid later new held between left size none h a0 b last =
-    let a : Sends old held mid between (counts_text (drvs_in i) counts ++ machines_text i past) = subst (λ (n : ℕ). Sends old held mid between (counts_text n counts ++ machines_text i past)) size a0 in
-    let all = joined_up i past counts old mid later held between left h a b in
-    record { text = all.text; is = all.is; written = all_sent old later new held left all.text none all.sends last }
+  pub report_sent : (old mid later : Watched W) (new : Option (List ℕ)) (held between left : List ℕ) (u v : T) → total ≡ drvs_in w.inputs → held ≡ []
+      → AreCountsIn w.inputs (reverse w.history) counts → IsPut {E = E} contents old held mid between (park_text total counts w.inputs (reverse w.history)) (Ok u)
+      → PutsAllDrvs {E = E} w contents mid between later left (Ok v) → Appends (contents later.device) new left
+      → Reports w.inputs (reverse w.history) (contents old.device) new
+  report_sent old mid later new held between left u v size none h a b last = record {
+    text = park_text (drvs_in w.inputs) counts w.inputs (reverse w.history) ++ drvs_text w.inputs 0 b.puts.statuses;
+    is =
+        subst (λ (n : ℕ). IsReport w.inputs (reverse w.history) n (park_text (drvs_in w.inputs) counts w.inputs (reverse w.history) ++ drvs_text w.inputs 0 b.puts.statuses)) b.all
+        (is_report b.n mid later between left (Ok v) h b.puts);
+    written = put_sent {E = E} contents old later new held left _ v none (joined b.n old mid later held between left u (Ok v) size a b.puts) last;
+  }
 
-pub end_in_part_of : (i : Premises) (past : List Entry) (total : ℕ) (counts : Counts) (old mid later new : Option (List ℕ)) (held between left : List ℕ) → total ≡ drvs_in i → held ≡ []
-    → AreCountsIn i past counts → Sends old held mid between (counts_text total counts ++ machines_text i past)
-    → SendsDrvs i past (drvs_in i) mid between later left → WritesPart later new left → ReportsPart i past old new
-end_in_part_of i past total counts old mid later new held between left size none h a0 b last =
-    let a : Sends old held mid between (counts_text (drvs_in i) counts ++ machines_text i past) = subst (λ (n : ℕ). Sends old held mid between (counts_text n counts ++ machines_text i past)) size a0 in
-    let all = joined_up i past counts old mid later held between left h a b in
-    record { n = drvs_in i; some = omega arith; text = all.text; is = all.is; written = end_in_part old later new held left all.text none all.sends last }
-
-pub ruleset reports = (park_in_part, drvs_in_part, report_sent, end_in_part_of)
+  pub end_in_part_of : (old mid later : Watched W) (new : Option (List ℕ)) (held between left : List ℕ) (u v : T) → total ≡ drvs_in w.inputs → held ≡ []
+      → AreCountsIn w.inputs (reverse w.history) counts → IsPut {E = E} contents old held mid between (park_text total counts w.inputs (reverse w.history)) (Ok u)
+      → PutsAllDrvs {E = E} w contents mid between later left (Ok v) → WritesPart (contents later.device) new left
+      → ReportsPart w.inputs (reverse w.history) (contents old.device) new
+  end_in_part_of old mid later new held between left u v size none h a b last = record {
+    n = b.n;
+    some = b.some;
+    text = park_text (drvs_in w.inputs) counts w.inputs (reverse w.history) ++ drvs_text w.inputs 0 b.puts.statuses;
+    is = is_report b.n mid later between left (Ok v) h b.puts;
+    written = put_sent_in_part {E = E} contents old later new held left _ v none (joined b.n old mid later held between left u (Ok v) size a b.puts) last;
+  }

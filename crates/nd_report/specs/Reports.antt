@@ -1,8 +1,8 @@
 -- The report of how a dispatch stands. Its form is this project's own choice: the words of a line stand with single spaces
 -- between them, each line ends with a newline, and numbers are decimal.
 -- The histories of these definitions stand newest first.
--- Public clauses cite this, but `SendsDrvs` and `SendsDrvsPart` serve private clauses alone.
-use Rattle.std.specs.Prelude.{◌≡◌, ℕ, ◌+◌, ◌<◌, ◌≤◌, Bool, List, [], ◌∷◌, ◌++◌, length, codes, if◌then◌else◌, slice_index_or, Option}
+-- Public clauses cite this, but `PutsDrvs` and `PutsAllDrvs` serve private clauses alone.
+use Rattle.std.specs.Prelude.{◌≡◌, ℕ, ◌+◌, ◌<◌, ◌≤◌, Bool, List, [], ◌∷◌, ◌++◌, length, codes, if◌then◌else◌, slice_index_or, Option, Result, OnOk, reverse}
 use Rattle.std.specs.Fmt.{decimal}
 use Rattle.std.specs.Io.KnownBytes.{Appends}
 use Rattle.std.specs.List.{flat_map, range_with_len}
@@ -10,6 +10,7 @@ use Rattle.nd_failure.specs.declared.status.Counts.{Counts}
 use Rattle.nd_failure.specs.declared.status.Status.{Status}
 use Rattle.nd_failure.specs.declared.status.Status.TheVariants.{Waiting, Leased, Built, Failed, Cancelled}
 use Rattle.nd_hook.specs.ReplyText.{uri_at}
+use Rattle.nd_hook.specs.Watched.{Watched}
 use Rattle.nd_hook.specs.Written.{WritesPart}
 use Rattle.nd_history.specs.declared.entry.Entry.{Entry}
 use Rattle.nd_history.specs.Premises.{Premises}
@@ -17,39 +18,25 @@ use Rattle.nd_history.specs.History.{load, is_up}
 use Rattle.nd_history.specs.Choices.{jobs_of}
 use Rattle.nd_history.specs.Standing.{drvs_in}
 use Rattle.nd_history.specs.Statuses.{HasStatusIn, AreCountsIn}
-use Rattle.nd_texts.specs.Lines.{spaced}
-use Rattle.nd_texts.specs.Sending.{Sends, SendsPart}
-
--- a line: its first word, and the others with a space before each
-unfoldable pub row : List ℕ → List (List ℕ) → List ℕ
-row first others = (first ++ spaced others) ++ 10 ∷ []
+use Rattle.nd_ledger.specs.Worlds.{World}
+use Rattle.nd_texts.specs.Rows.{row, share}
+use Rattle.nd_texts.specs.Sending.{IsPut}
 
 -- a number under its name
 abbrev pub count_row : List ℕ → ℕ → List ℕ
 count_row name number = row name (decimal number ∷ [])
 
--- how many derivations there are, how many may still be begun, and how many are with a builder
-abbrev pub begun_text : ℕ → Counts → List ℕ
-begun_text total counts =
-    count_row (codes "total") total ++ (count_row (codes "waiting") counts.waiting ++ count_row (codes "leased") counts.leased)
-
--- how many are over
-abbrev pub ended_text : Counts → List ℕ
-ended_text counts =
-    count_row (codes "built") counts.built ++ (count_row (codes "failed") counts.failed ++ count_row (codes "cancelled") counts.cancelled)
-
+-- how many derivations there are, and how many have each status
 abbrev pub counts_text : ℕ → Counts → List ℕ
-counts_text total counts = begun_text total counts ++ ended_text counts
+counts_text total counts =
+    count_row (codes "total") total ++ (count_row (codes "waiting") counts.waiting ++ (count_row (codes "leased") counts.leased
+    ++ (count_row (codes "built") counts.built ++ (count_row (codes "failed") counts.failed ++ count_row (codes "cancelled") counts.cancelled))))
 
 -- a machine that gets leases is up
 abbrev pub up_word : Bool → List ℕ
 up_word up = if up then codes "up" else codes "down"
 
--- the taken slots of a machine, and how many it has
-unfoldable pub share : ℕ → ℕ → List ℕ
-share taken jobs = decimal taken ++ 47 ∷ decimal jobs
-
--- machine m: its number, whether it is up, its slots and its name
+-- machine m: its number, whether it is up, the slots that are taken and all, and its name
 abbrev pub machine_row : Premises → List Entry → ℕ → List ℕ → List ℕ
 machine_row i past m name = row (codes "machine") (decimal m ∷ up_word (is_up m past) ∷ share (load m past) (jobs_of i m) ∷ name ∷ [])
 
@@ -57,9 +44,16 @@ machine_row i past m name = row (codes "machine") (decimal m ∷ up_word (is_up 
 unfoldable pub builder_row : Premises → List Entry → ℕ → List ℕ
 builder_row i past place = machine_row i past (place + 1) (uri_at i.machines place)
 
+abbrev pub builders_text : Premises → List Entry → List ℕ
+builders_text i past = flat_map (builder_row i past) (range_with_len 0 (length i.machines))
+
 -- the local machine and then the builders
 abbrev pub machines_text : Premises → List Entry → List ℕ
-machines_text i past = machine_row i past 0 (codes "local") ++ flat_map (builder_row i past) (range_with_len 0 (length i.machines))
+machines_text i past = machine_row i past 0 (codes "local") ++ builders_text i past
+
+-- what stands before the derivations
+abbrev pub park_text : ℕ → Counts → Premises → List Entry → List ℕ
+park_text total counts i past = counts_text total counts ++ machines_text i past
 
 abbrev pub status_word : Status → List ℕ
 status_word Waiting = codes "waiting"
@@ -89,7 +83,7 @@ pub record IsReport (i : Premises) (past : List Entry) (n : ℕ) (text : List �
   pub counted : AreCountsIn i past counts
   pub statuses : List Status
   pub are : AreFirstStatuses i past n statuses
-  pub whole : text ≡ (counts_text (drvs_in i) counts ++ machines_text i past) ++ drvs_text i 0 statuses
+  pub whole : text ≡ park_text (drvs_in i) counts i past ++ drvs_text i 0 statuses
 
 -- the whole report was written
 pub record Reports (i : Premises) (past : List Entry) (old new : Option (List ℕ)) : Type 0 where
@@ -105,16 +99,15 @@ pub record ReportsPart (i : Premises) (past : List Entry) (old new : Option (Lis
   pub is : IsReport i past n text
   pub written : WritesPart old new text
 
--- the lines of the first n derivations went over the page
-pub record SendsDrvs (i : Premises) (past : List Entry) (n : ℕ) (old : Option (List ℕ)) (held : List ℕ) (new : Option (List ℕ)) (left : List ℕ) : Type 0 where
+-- the lines of the first n derivations are put on the page
+pub record PutsDrvs {W T E : Type 0} (w : World) (n : ℕ) (contents : W → Option (List ℕ)) (old : Watched W) (held : List ℕ) (new : Watched W) (left : List ℕ) (result : Result T E) : Type 0 where
   pub statuses : List Status
-  pub are : AreFirstStatuses i past n statuses
-  pub sends : Sends old held new left (drvs_text i 0 statuses)
+  pub are : AreFirstStatuses w.inputs (reverse w.history) n statuses
+  pub put : IsPut contents old held new left (drvs_text w.inputs 0 statuses) result
 
--- .. and as far as some derivation, the last line in part
-pub record SendsDrvsPart (i : Premises) (past : List Entry) (old : Option (List ℕ)) (held : List ℕ) (new : Option (List ℕ)) : Type 0 where
+-- .. those of all; or a write was refused, and the text went as far as some derivation
+pub record PutsAllDrvs {W T E : Type 0} (w : World) (contents : W → Option (List ℕ)) (old : Watched W) (held : List ℕ) (new : Watched W) (left : List ℕ) (result : Result T E) : Type 0 where
   pub n : ℕ
-  pub some : n ≤ drvs_in i
-  pub statuses : List Status
-  pub are : AreFirstStatuses i past n statuses
-  pub sends : SendsPart old held new (drvs_text i 0 statuses)
+  pub some : n ≤ drvs_in w.inputs
+  pub all : OnOk result (n ≡ drvs_in w.inputs)
+  pub puts : PutsDrvs w n contents old held new left result

@@ -1,11 +1,12 @@
 -- What `run` is given: the park and the bundle, as for every command over a bundle, and the stand text. The clauses of `run_inputs`
 -- cite this.
-use Rattle.std.specs.Prelude.{◌≡◌, ◌≢◌, ◌⊎◌, ℕ, ◌+◌, ◌<◌, ◌≤◌, Bool, true, List, [], length, Option}
+use Rattle.std.specs.Prelude.{◌≡◌, ◌≢◌, ◌⊎◌, ℕ, ◌+◌, ◌<◌, ◌≤◌, true, List, [], length, Option}
 use Rattle.nd_machines.specs.Builders.{Builder}
 use Rattle.nd_graph.specs.Graphs.{Nodes, rows_of}
 use Rattle.nd_bytes.specs.Lines.{lines_of}
 use Rattle.nd_history.specs.Premises.{Premises}
 use Rattle.nd_ledger.specs.Worlds.{World}
+use Rattle.nd_hook.specs.Watched.{Watched}
 use Rattle.nd_script.specs.declared.rule.Rule.{Rule}
 use Rattle.nd_script.specs.declared.script_error.ScriptError.{ScriptError}
 use Rattle.nd_script.specs.Stand.{AreRules, IsStandRefused}
@@ -35,9 +36,9 @@ premises_for options graph machines info = record { graph = graph; machines = ma
 
 -- the whole input is a bundle for the park of the options, and the stand text has these rules; the dispatch is theirs, and has
 -- no history yet
-pub record IsGiven (options : ParkOptions) (stand : List ℕ) (unread left : Option (List ℕ)) (dispatch : World) (rules : List Rule) : Type 0 where
+pub record IsGiven {R : Type 0} (options : ParkOptions) (stand : List ℕ) (remaining : R → Option (List ℕ)) (reader reader_after : Watched R) (dispatch : World) (rules : List Rule) : Type 0 where
   pub text : List ℕ
-  pub read : ReadsWhole unread left text
+  pub read : ReadsWhole (remaining reader.device) (remaining reader_after.device) text
   pub graph : Nodes
   pub machines : List Builder
   pub info : List (List ℕ × List (List ℕ))
@@ -70,18 +71,18 @@ pub record RefusesGiven (options : ParkOptions) (stand : List ℕ) (unread left 
   pub refused : IsParkFault options text fault ⊎ IsStandAtFault options text stand fault
 
 -- why there is nothing to run: an input is refused, the reader failed and is marked, or memory ran out
-abbrev pub IsGivenFault : ParkOptions → List ℕ → Option (List ℕ) → Option (List ℕ) → Bool → CliFault → Type 0
-IsGivenFault options stand unread left marked (Derivation e) = ⊥
-IsGivenFault options stand unread left marked (Drvs e) = RefusesGiven options stand unread left (Drvs e)
-IsGivenFault options stand unread left marked (Builders e) = RefusesGiven options stand unread left (Builders e)
-IsGivenFault options stand unread left marked (Info e) = RefusesGiven options stand unread left (Info e)
-IsGivenFault options stand unread left marked (Script e) = ⊥
-IsGivenFault options stand unread left marked (Stand e) = RefusesGiven options stand unread left (Stand e)
-IsGivenFault options stand unread left marked (History e) = ⊥
-IsGivenFault options stand unread left marked (TooLarge place) = RefusesGiven options stand unread left (TooLarge place)
-IsGivenFault options stand unread left marked TooManySlots = ⊥
-IsGivenFault options stand unread left marked Read = marked ≡ true
-IsGivenFault options stand unread left marked Write = ⊥
-IsGivenFault options stand unread left marked Memory = Unit {0}
-IsGivenFault options stand unread left marked Thread = ⊥
-IsGivenFault options stand unread left marked Receipts = ⊥
+abbrev pub IsGivenFault : {R : Type 0} → ParkOptions → List ℕ → (R → Option (List ℕ)) → Watched R → Watched R → CliFault → Type 0
+IsGivenFault options stand remaining reader reader_after (Derivation e) = ⊥
+IsGivenFault options stand remaining reader reader_after (Drvs e) = RefusesGiven options stand (remaining reader.device) (remaining reader_after.device) (Drvs e)
+IsGivenFault options stand remaining reader reader_after (Builders e) = RefusesGiven options stand (remaining reader.device) (remaining reader_after.device) (Builders e)
+IsGivenFault options stand remaining reader reader_after (Info e) = RefusesGiven options stand (remaining reader.device) (remaining reader_after.device) (Info e)
+IsGivenFault options stand remaining reader reader_after (Script e) = ⊥
+IsGivenFault options stand remaining reader reader_after (Stand e) = RefusesGiven options stand (remaining reader.device) (remaining reader_after.device) (Stand e)
+IsGivenFault options stand remaining reader reader_after (History e) = ⊥
+IsGivenFault options stand remaining reader reader_after (TooLarge place) = RefusesGiven options stand (remaining reader.device) (remaining reader_after.device) (TooLarge place)
+IsGivenFault options stand remaining reader reader_after TooManySlots = ⊥
+IsGivenFault options stand remaining reader reader_after Read = reader_after.is_marked ≡ true
+IsGivenFault options stand remaining reader reader_after Write = ⊥
+IsGivenFault options stand remaining reader reader_after Memory = Unit {0}
+IsGivenFault options stand remaining reader reader_after Thread = ⊥
+IsGivenFault options stand remaining reader reader_after Receipts = ⊥

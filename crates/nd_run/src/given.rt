@@ -1,10 +1,9 @@
 //! What `run` is given.
 
-ghost use Rattle.std.specs.Prelude.{◌≡◌, ℕ, List, Some, false, IfOk, IfErr, MatchResult};
+ghost use Rattle.std.specs.Prelude.{◌≡◌, ℕ, List, Some, false, IfOk, IfErr};
 ghost use Rattle.nd_script.specs.declared.rule.Rule.{Rule};
-ghost use Rattle.nd_cli.specs.declared.fault.CliFault.{CliFault};
-ghost use Rattle.nd_cli.specs.Inputs.{is_read_failure};
-ghost use Rattle.nd_cli.specs.Statuses.{exit_status};
+ghost use Rattle.nd_cli.specs.Inputs.{OkUnlessMemory, is_read_failure};
+ghost use Rattle.nd_cli.specs.Statuses.{RefusesNoInput};
 ghost use Rattle.nd_run.specs.Given.{HasRules, IsGiven, IsGivenAccepted, IsStandFault, IsGivenFault};
 
 use nd_cli::{CliFault, LIMIT, ParkOptions, Place, read_input, read_park};
@@ -40,10 +39,10 @@ pub fn run_inputs<R: Read>(
     input: &mut Told<R>,
 ) -> Result<RunInputs, CliFault>
     requires reader { input.old.is_marked ≡ false }
-    ensures read { IfOk result (λ given. IsGiven options.now stand.now (R.remaining input.old.device) (R.remaining input.new.device) given.dispatch given.rules.items) }
-    ensures exactly { (text : List ℕ) → R.remaining input.old.device ≡ Some text → IsGivenAccepted options.now text stand.now → IfErr result (λ e. exit_status e ≡ 5) }
+    ensures read { IfOk result (λ given. IsGiven options.now stand.now R.remaining input.old input.new given.dispatch given.rules.items) }
+    ensures exactly { (text : List ℕ) → R.remaining input.old.device ≡ Some text → IsGivenAccepted options.now text stand.now → RefusesNoInput result }
     ensures mark { input.new.is_marked ≡ is_read_failure result }
-    ensures fault { IfErr result (IsGivenFault options.now stand.now (R.remaining input.old.device) (R.remaining input.new.device) input.new.is_marked) }
+    ensures fault { IfErr result (IsGivenFault options.now stand.now R.remaining input.old input.new) }
 {
     let text = match read_input(alloc, input) {
         Ok(text) => text,
@@ -82,7 +81,7 @@ fn read_rules(
 ) -> Result<Vec<Rule>, CliFault>
     ensures read { IfOk result (λ rules. HasRules stand.now drvs machines rules.items) }
     ensures refused { IfErr result (IsStandFault stand.now drvs machines) }
-    ensures exactly { (rules : List Rule) → HasRules stand.now drvs machines rules → MatchResult result (λ read. read.items ≡ rules) (λ e. e ≡ CliFault.Memory) }
+    ensures exactly { (rules : List Rule) → HasRules stand.now drvs machines rules → OkUnlessMemory result (λ read. read.items ≡ rules) }
 {
     if stand.len() > LIMIT {
         return Err(CliFault::TooLarge(Place::Stand));

@@ -1,6 +1,6 @@
 -- Texts of lines that say one thing each: what a line says, what all of them say, and the first bad one.
 -- Public clauses cite this.
-use Rattle.std.specs.Prelude.{◌≡◌, ℕ, ◌-◌, ◌<◌, ◌≤◌, List, [], ◌∷◌, length, take, slice_index_or, Option, Some}
+use Rattle.std.specs.Prelude.{◌≡◌, ℕ, ◌-◌, ◌<◌, ◌≤◌, List, [], ◌∷◌, length, take, slice_index_or, Option, Some, Result, MatchResult}
 use Rattle.std.specs.List.{AllZip}
 use Rattle.nd_bytes.specs.Lines.{lines_of}
 use Rattle.nd_closure.specs.Info.{words_of}
@@ -32,3 +32,7 @@ pub record IsFirstBad {X : Type 0} (Says : List ℕ → X → Type 0) (lines : L
 abbrev pub IsRefusedBy : {X : Type 0} → (List ℕ → X → Type 0) → List ℕ → ScriptError → Type 0
 IsRefusedBy Says text (BadLine n) = IsFirstBad Says (lines_of text) n
 IsRefusedBy Says text Memory = Unit {0}
+
+-- the answer is so, unless memory runs out
+abbrev pub OkUnlessMemory : {A : Type 0} → Result A ScriptError → (A → Type 0) → Type 0
+OkUnlessMemory answer IsSo = MatchResult answer IsSo (λ e. e ≡ Memory)

@@ -1,11 +1,18 @@
 -- The words of a script: numbers, and store paths that are made sets. The forms are this project's own.
 -- Public clauses cite this.
 use Rattle.std.specs.Prelude.{◌≡◌, ℕ, ◌<◌, Bool, List, [], ◌∷◌, length, codes, if◌then◌else◌, Option, None, Some}
+use Rattle.std.specs.Borrow.{Bor}
 use Rattle.std.specs.List.{All, AllZip, slice_split}
+use Rattle.std.specs.Option.{option_copied}
+use Rattle.nd_bytes.specs.Cut.{pieces}
 use Rattle.nd_bytes.specs.Compared.{bytes_eq}
 use Rattle.nd_bytes.specs.Decimal.{decimal_of, has_needless_zero}
 use Rattle.nd_path.specs.Refusals.{IsPath}
 use Rattle.nd_path.specs.PathSets.{IsRising, HasSameMembers}
+
+-- the words that are left of a line: none at its end
+abbrev pub words_left : Option (Bor (List ℕ)) → List (List ℕ)
+words_left rest = pieces 32 (option_copied rest)
 
 -- the value of a number that is written without needless zeros and is at most `limit`
 abbrev pub number_of : ℕ → List ℕ → Option ℕ

@@ -1,10 +1,9 @@
 //! One line of a script.
 
 ghost use Rattle.std.specs.Prelude.{◌≡◌, IfOk, IfErr};
-ghost use Rattle.std.specs.Option.{option_copied};
-ghost use Rattle.nd_bytes.specs.Cut.{pieces};
 ghost use Rattle.nd_script.specs.Script.{IsFail, IsStartWith, IsBuilt, IsSaid, IsLine};
 ghost use Rattle.nd_script.specs.Faults.{RulesOut};
+ghost use Rattle.nd_script.specs.Words.{words_left};
 
 use crate::command::Command;
 use crate::line_fault::LineFault;
@@ -42,8 +41,8 @@ fn said(
     drvs: usize,
     machines: usize,
 ) -> Result<Command, LineFault>
-    ensures found { IfOk result (IsSaid drvs machines verb (pieces 32 (option_copied words.entry))) }
-    ensures refused { IfErr result (RulesOut (IsSaid drvs machines verb (pieces 32 (option_copied words.entry)))) }
+    ensures found { IfOk result (IsSaid drvs machines verb (words_left words.entry)) }
+    ensures refused { IfErr result (RulesOut (IsSaid drvs machines verb (words_left words.entry))) }
 {
     match verb {
         Verb::Start => match only_operand(words, drvs) {
@@ -83,8 +82,8 @@ fn said(
 /// `startwith`: a derivation, and the paths that were copied.
 #[tactic(auto, using(crate::proofs::Operands::no_start))]
 fn start_with(alloc: Global, words: Option<&[u8]>, drvs: usize) -> Result<Command, LineFault>
-    ensures found { IfOk result (IsStartWith drvs (pieces 32 (option_copied words.entry))) }
-    ensures refused { IfErr result (RulesOut (IsStartWith drvs (pieces 32 (option_copied words.entry)))) }
+    ensures found { IfOk result (IsStartWith drvs (words_left words.entry)) }
+    ensures refused { IfErr result (RulesOut (IsStartWith drvs (words_left words.entry))) }
 {
     let (drv, rest) = match operand(words, drvs) {
         Some(found) => found,
@@ -98,8 +97,8 @@ fn start_with(alloc: Global, words: Option<&[u8]>, drvs: usize) -> Result<Comman
 
 /// `built`: a derivation, and a list of references for each output, or none at all.
 fn built(alloc: Global, words: Option<&[u8]>, drvs: usize) -> Result<Command, LineFault>
-    ensures found { IfOk result (IsBuilt drvs (pieces 32 (option_copied words.entry))) }
-    ensures refused { IfErr result (RulesOut (IsBuilt drvs (pieces 32 (option_copied words.entry)))) }
+    ensures found { IfOk result (IsBuilt drvs (words_left words.entry)) }
+    ensures refused { IfErr result (RulesOut (IsBuilt drvs (words_left words.entry))) }
 {
     let (drv, rest) = match operand(words, drvs) {
         Some(found) => found,
@@ -116,8 +115,8 @@ fn built(alloc: Global, words: Option<&[u8]>, drvs: usize) -> Result<Command, Li
 
 /// `fail`: a derivation and a status.
 fn fail(words: Option<&[u8]>, drvs: usize) -> Result<Command, LineFault>
-    ensures found { IfOk result (IsFail drvs (pieces 32 (option_copied words.entry))) }
-    ensures refused { IfErr result (RulesOut (IsFail drvs (pieces 32 (option_copied words.entry)))) }
+    ensures found { IfOk result (IsFail drvs (words_left words.entry)) }
+    ensures refused { IfErr result (RulesOut (IsFail drvs (words_left words.entry))) }
 {
     let (drv, rest) = match operand(words, drvs) {
         Some(found) => found,

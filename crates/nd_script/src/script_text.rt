@@ -1,9 +1,9 @@
 //! Reading a script.
 
-ghost use Rattle.std.specs.Prelude.{◌≡◌, List, IfOk, IfErr, MatchResult};
+ghost use Rattle.std.specs.Prelude.{◌≡◌, List, IfOk, IfErr};
 ghost use Rattle.nd_bytes.specs.Lines.{lines_of};
 ghost use Rattle.nd_script.specs.declared.command.Command.{Command};
-ghost use Rattle.nd_script.specs.declared.script_error.ScriptError.{ScriptError};
+ghost use Rattle.nd_script.specs.Lines.{OkUnlessMemory};
 ghost use Rattle.nd_script.specs.Script.{AreCommands, IsRefused};
 
 use crate::command::Command;
@@ -33,7 +33,7 @@ pub fn parse_script(
 ) -> Result<Vec<Command>, ScriptError>
     ensures found { IfOk result (λ commands. AreCommands drvs machines (lines_of text.now) commands.items) }
     ensures refused { IfErr result (IsRefused drvs machines text.now) }
-    ensures exactly { (commands : List Command) → AreCommands drvs machines (lines_of text.now) commands → MatchResult result (λ read. read.items ≡ commands) (λ e. e ≡ ScriptError.Memory) }
+    ensures exactly { (commands : List Command) → AreCommands drvs machines (lines_of text.now) commands → OkUnlessMemory result (λ read. read.items ≡ commands) }
 {
     let mut commands = Vec::new(alloc);
     let mut left = text;

@@ -1,10 +1,9 @@
 //! One line of a stand text.
 
 ghost use Rattle.std.specs.Prelude.{◌≡◌, IfOk, IfErr};
-ghost use Rattle.std.specs.Option.{option_copied};
-ghost use Rattle.nd_bytes.specs.Cut.{pieces};
 ghost use Rattle.nd_script.specs.Stand.{IsFailRule, IsBuiltRule, IsRuled, IsRuleLine};
 ghost use Rattle.nd_script.specs.Faults.{RulesOut};
+ghost use Rattle.nd_script.specs.Words.{words_left};
 
 use crate::line_fault::LineFault;
 use crate::rule::Rule;
@@ -43,8 +42,8 @@ fn ruled(
     drvs: usize,
     machines: usize,
 ) -> Result<Rule, LineFault>
-    ensures found { IfOk result (IsRuled drvs machines topic (pieces 32 (option_copied words.entry))) }
-    ensures refused { IfErr result (RulesOut (IsRuled drvs machines topic (pieces 32 (option_copied words.entry)))) }
+    ensures found { IfOk result (IsRuled drvs machines topic (words_left words.entry)) }
+    ensures refused { IfErr result (RulesOut (IsRuled drvs machines topic (words_left words.entry))) }
 {
     match topic {
         Topic::NoConnect => match only_operand(words, machines) {
@@ -66,8 +65,8 @@ fn ruled(
 
 /// `fail`: a derivation and a status.
 fn fail_rule(words: Option<&[u8]>, drvs: usize) -> Result<Rule, LineFault>
-    ensures found { IfOk result (IsFailRule drvs (pieces 32 (option_copied words.entry))) }
-    ensures refused { IfErr result (RulesOut (IsFailRule drvs (pieces 32 (option_copied words.entry)))) }
+    ensures found { IfOk result (IsFailRule drvs (words_left words.entry)) }
+    ensures refused { IfErr result (RulesOut (IsFailRule drvs (words_left words.entry))) }
 {
     let (drv, rest) = match operand(words, drvs) {
         Some(found) => found,
@@ -81,8 +80,8 @@ fn fail_rule(words: Option<&[u8]>, drvs: usize) -> Result<Rule, LineFault>
 
 /// `built`: a derivation, and a list of references for each output, or none at all.
 fn built_rule(alloc: Global, words: Option<&[u8]>, drvs: usize) -> Result<Rule, LineFault>
-    ensures found { IfOk result (IsBuiltRule drvs (pieces 32 (option_copied words.entry))) }
-    ensures refused { IfErr result (RulesOut (IsBuiltRule drvs (pieces 32 (option_copied words.entry)))) }
+    ensures found { IfOk result (IsBuiltRule drvs (words_left words.entry)) }
+    ensures refused { IfErr result (RulesOut (IsBuiltRule drvs (words_left words.entry))) }
 {
     let (drv, rest) = match operand(words, drvs) {
         Some(found) => found,

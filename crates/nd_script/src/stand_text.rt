@@ -1,9 +1,9 @@
 //! Reading a stand text.
 
-ghost use Rattle.std.specs.Prelude.{◌≡◌, List, IfOk, IfErr, MatchResult};
+ghost use Rattle.std.specs.Prelude.{◌≡◌, List, IfOk, IfErr};
 ghost use Rattle.nd_bytes.specs.Lines.{lines_of};
 ghost use Rattle.nd_script.specs.declared.rule.Rule.{Rule};
-ghost use Rattle.nd_script.specs.declared.script_error.ScriptError.{ScriptError};
+ghost use Rattle.nd_script.specs.Lines.{OkUnlessMemory};
 ghost use Rattle.nd_script.specs.Stand.{AreRules, IsStandRefused};
 
 use crate::rule::Rule;
@@ -32,7 +32,7 @@ pub fn parse_stand(
 ) -> Result<Vec<Rule>, ScriptError>
     ensures found { IfOk result (λ rules. AreRules drvs machines (lines_of text.now) rules.items) }
     ensures refused { IfErr result (IsStandRefused drvs machines text.now) }
-    ensures exactly { (rules : List Rule) → AreRules drvs machines (lines_of text.now) rules → MatchResult result (λ read. read.items ≡ rules) (λ e. e ≡ ScriptError.Memory) }
+    ensures exactly { (rules : List Rule) → AreRules drvs machines (lines_of text.now) rules → OkUnlessMemory result (λ read. read.items ≡ rules) }
 {
     let mut rules = Vec::new(alloc);
     let mut left = text;

@@ -2,10 +2,8 @@
 //! of such sets.
 
 ghost use Rattle.std.specs.Prelude.{◌≡◌, [], IfOk, IfErr, MatchOption};
-ghost use Rattle.std.specs.Option.{option_copied};
-ghost use Rattle.nd_bytes.specs.Cut.{pieces};
 ghost use Rattle.nd_path.specs.Refusals.{IsPath};
-ghost use Rattle.nd_script.specs.Words.{Begins, IsSetOf, IsStatus, AreLists, is_mark, number_of};
+ghost use Rattle.nd_script.specs.Words.{Begins, IsSetOf, IsStatus, AreLists, is_mark, number_of, words_left};
 ghost use Rattle.nd_script.specs.Faults.{NeverBegins, IsNoNumber, IsNoStatus, IsNoPath, RulesOut};
 
 use crate::line_fault::LineFault;
@@ -27,7 +25,7 @@ pub(crate) fn number(word: &[u8], limit: u32) -> Option<u32>
 /// The number below `bound` with which these words begin, and the words behind it.
 #[tactic(auto, using(crate::proofs::Operands::no_words))]
 pub(crate) fn operand(words: Option<&[u8]>, bound: usize) -> Option<(u32, Option<&[u8]>)>
-    ensures { MatchOption result (NeverBegins bound (pieces 32 (option_copied words.entry))) (λ x. Begins bound (pieces 32 (option_copied words.entry)) x.0 (pieces 32 (option_copied x.1))) }
+    ensures { MatchOption result (NeverBegins bound (words_left words.entry)) (λ x. Begins bound (words_left words.entry) x.0 (words_left x.1)) }
 {
     let Some(bytes) = words else {
         return None;
@@ -45,7 +43,7 @@ pub(crate) fn operand(words: Option<&[u8]>, bound: usize) -> Option<(u32, Option
 /// The number below `bound` that is the only word.
 #[tactic(auto, using(crate::proofs::Operands::never_alone))]
 pub(crate) fn only_operand(words: Option<&[u8]>, bound: usize) -> Option<u32>
-    ensures { MatchOption result (IsNoNumber bound (pieces 32 (option_copied words.entry))) (λ n. Begins bound (pieces 32 (option_copied words.entry)) n []) }
+    ensures { MatchOption result (IsNoNumber bound (words_left words.entry)) (λ n. Begins bound (words_left words.entry) n []) }
 {
     match operand(words, bound) {
         Some((number, None)) => Some(number),
@@ -56,7 +54,7 @@ pub(crate) fn only_operand(words: Option<&[u8]>, bound: usize) -> Option<u32>
 
 /// The status that is the only word.
 pub(crate) fn status(words: Option<&[u8]>) -> Option<u8>
-    ensures { MatchOption result (IsNoStatus (pieces 32 (option_copied words.entry))) (IsStatus (pieces 32 (option_copied words.entry))) }
+    ensures { MatchOption result (IsNoStatus (words_left words.entry)) (IsStatus (words_left words.entry)) }
 {
     let Some(bytes) = words else {
         return None;
@@ -86,8 +84,8 @@ fn path_of(alloc: Global, word: &[u8]) -> Result<StorePath, LineFault>
 
 /// The set of the store paths that these words are.
 pub(crate) fn path_set(alloc: Global, words: Option<&[u8]>) -> Result<PathSet, LineFault>
-    ensures found { IfOk result (IsSetOf (pieces 32 (option_copied words.entry))) }
-    ensures refused { IfErr result (RulesOut (IsSetOf (pieces 32 (option_copied words.entry)))) }
+    ensures found { IfOk result (IsSetOf (words_left words.entry)) }
+    ensures refused { IfErr result (RulesOut (IsSetOf (words_left words.entry))) }
 {
     let mut paths = Vec::new(alloc);
     let mut left = words;
@@ -112,8 +110,8 @@ fn is_mark(word: &[u8]) -> bool
 /// The lists of references that these words are: a word `o` begins each.
 #[tactic(auto, using(crate::proofs::Lists::nothing_listed, crate::proofs::Lists::no_mark))]
 pub(crate) fn reference_lists(alloc: Global, words: Option<&[u8]>) -> Result<Refs, LineFault>
-    ensures found { IfOk result (AreLists (pieces 32 (option_copied words.entry))) }
-    ensures refused { IfErr result (RulesOut (AreLists (pieces 32 (option_copied words.entry)))) }
+    ensures found { IfOk result (AreLists (words_left words.entry)) }
+    ensures refused { IfErr result (RulesOut (AreLists (words_left words.entry))) }
 {
     let Some(bytes) = words else {
         return Err(LineFault::Bad);

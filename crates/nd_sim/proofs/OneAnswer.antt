@@ -10,7 +10,7 @@ use Rattle.nd_hook.specs.declared.kinds.Reply.{Reply}
 use Rattle.nd_hook.specs.Replies.{IsReply}
 use Rattle.nd_hook.specs.ReplyText.{reply_text}
 use Rattle.nd_history.specs.declared.entry.Entry.{Entry}
-use Rattle.nd_history.specs.declared.entry.Ticket.{Ticket}
+use Rattle.nd_leases.specs.declared.ticket.Ticket.{Ticket}
 use Rattle.nd_history.specs.declared.entry.Why.{Why}
 use Rattle.nd_history.specs.Premises.{Premises}
 use Rattle.nd_history.specs.History.{lease_of, is_leased, is_started, has_stop}

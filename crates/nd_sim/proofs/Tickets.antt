@@ -4,7 +4,7 @@ use Rattle.std.specs.Prelude.{cond}
 use Rattle.std.specs.List.{find}
 use Rattle.std.proofs.lemmas.Bool.{eqb-true}
 use Rattle.nd_history.specs.declared.entry.Entry.{Entry}
-use Rattle.nd_history.specs.declared.entry.Ticket.{Ticket}
+use Rattle.nd_leases.specs.declared.ticket.Ticket.{Ticket}
 use Rattle.nd_history.specs.History.{live, lease_of}
 use Rattle.nd_ledger.specs.declared.refusal.Refusal.{Refusal}
 use Rattle.nd_ledger.specs.declared.refusal.Refusal.TheVariants.{NotLive, AlreadyStarted, NotStarted, Uncovered, Extra, BadReferences, AlreadyStopped, Memory}

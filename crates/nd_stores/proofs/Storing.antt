@@ -18,7 +18,7 @@ use Rattle.nd_closure.specs.Closures.IsReached.{seed as start, step as onward}
 use Rattle.nd_closure.proofs.Members.{member_by_test}
 use Rattle.nd_history.specs.declared.entry.Entry.{Entry}
 use Rattle.nd_history.specs.declared.entry.Entry.TheVariants.{Started, Built}
-use Rattle.nd_history.specs.declared.entry.Ticket.{Ticket}
+use Rattle.nd_leases.specs.declared.ticket.Ticket.{Ticket}
 use Rattle.nd_stores.specs.declared.copying.Additions.{Additions}
 use Rattle.nd_stores.specs.declared.copying.PathsFault.TheVariants.{Uncovered, Extra}
 use Rattle.nd_history.specs.Premises.{Premises}

@@ -1,6 +1,7 @@
 pub mod HistoryTexts
 pub mod Lines
 pub mod Sending
+pub mod Rows
 pub mod Reading
 pub mod Sound
 pub mod TextLaws

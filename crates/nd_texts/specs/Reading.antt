@@ -1,7 +1,10 @@
 -- What the words of a line are read as. `words` are those that are left of a line.
 -- No public clause cites this: it serves private clauses alone.
 use Rattle.std.specs.Prelude.{◌≡◌, ◌&&◌, ℕ, ◌≤◌, Bool, true, List, [], ◌∷◌, ◌++◌, nat_eq, codes, if◌then◌else◌, Option, None, Some}
+use Rattle.std.specs.Borrow.{Bor}
+use Rattle.std.specs.Option.{option_copied}
 use Rattle.std.specs.Ordering.{is_lt}
+use Rattle.nd_bytes.specs.Cut.{pieces}
 use Rattle.nd_path.specs.Refusals.{IsPath}
 use Rattle.nd_path.specs.StorePath.{path_cmp}
 use Rattle.nd_history.specs.declared.entry.Why.TheVariants.{Lost, BadReferences, NoWorker, Memory as NoMemory}
@@ -63,10 +66,18 @@ kind_at word =
     else if pointwise nat_eq word (codes "enable") then Some Enabled
     else None
 
+-- the words that are left of a line
+abbrev pub words_left : Option (Bor (List ℕ)) → List (List ℕ)
+words_left left = pieces 32 (option_copied left)
+
 -- the first of the words is this number
 pub record IsNumberFirst (words : List (List ℕ)) (n : ℕ) (rest : List (List ℕ)) : Type 0 where
   pub small : n ≤ greatest
   pub whole : words ≡ decimal n ∷ rest
+
+-- the first of the words is no number
+abbrev pub HasNoNumberFirst : List (List ℕ) → Type 0
+HasNoNumberFirst words = (n : ℕ) (rest : List (List ℕ)) → IsNumberFirst words n rest → ⊥
 
 -- the words end, or go on with the references of an output
 abbrev pub is_end : List (List ℕ) → Bool

@@ -2,8 +2,6 @@
 
 ghost use Rattle.std.specs.Prelude.{◌≡◌, ◌==◌, ℕ, ◌+◌, ◌<◌, ◌≤◌, true, List, [], ◌∷◌, ◌++◌, length, IfOk, IfErr, MatchOption, MatchResult};
 ghost use Rattle.std.specs.List.{slice_split};
-ghost use Rattle.std.specs.Option.{option_copied};
-ghost use Rattle.nd_bytes.specs.Cut.{pieces};
 ghost use Rattle.nd_history.specs.declared.entry.Entry.{Entry};
 ghost use Rattle.nd_texts.specs.declared.history_error.HistoryError.{HistoryError};
 ghost use Rattle.nd_texts.specs.declared.kinds.Kind.{Kind};
@@ -11,7 +9,7 @@ ghost use Rattle.nd_texts.specs.declared.kinds.Version.{Version};
 ghost use Rattle.nd_texts.specs.HistoryTexts.{first_line};
 ghost use Rattle.nd_texts.specs.Lines.{word_of};
 ghost use Rattle.nd_texts.specs.Sound.{IsHistoryText, IsRefused, HasNoVersion};
-ghost use Rattle.nd_texts.specs.Reading.{Refuses, kind_at, IsEntryOf, IsEntryWords, IsLineFirst};
+ghost use Rattle.nd_texts.specs.Reading.{Refuses, words_left, kind_at, IsEntryOf, IsEntryWords, IsLineFirst};
 
 use crate::history_error::{HistoryError, LineFault};
 use crate::kinds::{Kind, Version};
@@ -166,9 +164,9 @@ fn named_kind(word: &[u8]) -> Option<Kind>
 
 /// The entry of this kind that the words that are left tell.
 fn entry_alone(alloc: Global, kind: Kind, left: Option<&[u8]>) -> Result<Entry, LineFault>
-    ensures found { IfOk result (IsEntryOf kind (pieces 32 (option_copied left.entry))) }
+    ensures found { IfOk result (IsEntryOf kind (words_left left.entry)) }
     ensures refused { IfErr result (λ e. Refuses e
-        ((entry : Entry) → IsEntryOf kind (pieces 32 (option_copied left.entry)) entry → ⊥)) }
+        ((entry : Entry) → IsEntryOf kind (words_left left.entry) entry → ⊥)) }
 {
     match kind {
         Kind::Choice => chosen(left),
@@ -186,9 +184,9 @@ fn entry_alone(alloc: Global, kind: Kind, left: Option<&[u8]>) -> Result<Entry, 
 /// A choice: its derivation, machine and slot.
 #[tactic(auto, using(crate::proofs::LineKinds::choices))]
 fn chosen(left: Option<&[u8]>) -> Result<Entry, LineFault>
-    ensures found { IfOk result (IsEntryOf Kind.Choice (pieces 32 (option_copied left.entry))) }
+    ensures found { IfOk result (IsEntryOf Kind.Choice (words_left left.entry)) }
     ensures refused { IfErr result (λ e. Refuses e
-        ((entry : Entry) → IsEntryOf Kind.Choice (pieces 32 (option_copied left.entry)) entry → ⊥)) }
+        ((entry : Entry) → IsEntryOf Kind.Choice (words_left left.entry) entry → ⊥)) }
 {
     let Some((drv, left)) = number_first(left) else {
         return Err(LineFault::Bad);
@@ -205,9 +203,9 @@ fn chosen(left: Option<&[u8]>) -> Result<Entry, LineFault>
 /// A start: its derivation and the paths that were copied.
 #[tactic(auto, using(crate::proofs::LineKinds::starts))]
 fn started(alloc: Global, left: Option<&[u8]>) -> Result<Entry, LineFault>
-    ensures found { IfOk result (IsEntryOf Kind.Start (pieces 32 (option_copied left.entry))) }
+    ensures found { IfOk result (IsEntryOf Kind.Start (words_left left.entry)) }
     ensures refused { IfErr result (λ e. Refuses e
-        ((entry : Entry) → IsEntryOf Kind.Start (pieces 32 (option_copied left.entry)) entry → ⊥)) }
+        ((entry : Entry) → IsEntryOf Kind.Start (words_left left.entry) entry → ⊥)) }
 {
     let Some((drv, left)) = number_first(left) else {
         return Err(LineFault::Bad);
@@ -225,9 +223,9 @@ fn started(alloc: Global, left: Option<&[u8]>) -> Result<Entry, LineFault>
 /// An end with outputs: its derivation and each output's references.
 #[tactic(auto, using(crate::proofs::LineKinds::finishes))]
 fn built(alloc: Global, left: Option<&[u8]>) -> Result<Entry, LineFault>
-    ensures found { IfOk result (IsEntryOf Kind.Finish (pieces 32 (option_copied left.entry))) }
+    ensures found { IfOk result (IsEntryOf Kind.Finish (words_left left.entry)) }
     ensures refused { IfErr result (λ e. Refuses e
-        ((entry : Entry) → IsEntryOf Kind.Finish (pieces 32 (option_copied left.entry)) entry → ⊥)) }
+        ((entry : Entry) → IsEntryOf Kind.Finish (words_left left.entry) entry → ⊥)) }
 {
     let Some((drv, left)) = number_first(left) else {
         return Err(LineFault::Bad);
@@ -242,9 +240,9 @@ fn built(alloc: Global, left: Option<&[u8]>) -> Result<Entry, LineFault>
 /// An end without outputs: its derivation and the cause.
 #[tactic(auto, using(crate::proofs::LineKinds::failures))]
 fn failed(left: Option<&[u8]>) -> Result<Entry, LineFault>
-    ensures found { IfOk result (IsEntryOf Kind.Failure (pieces 32 (option_copied left.entry))) }
+    ensures found { IfOk result (IsEntryOf Kind.Failure (words_left left.entry)) }
     ensures refused { IfErr result (λ e. Refuses e
-        ((entry : Entry) → IsEntryOf Kind.Failure (pieces 32 (option_copied left.entry)) entry → ⊥)) }
+        ((entry : Entry) → IsEntryOf Kind.Failure (words_left left.entry) entry → ⊥)) }
 {
     let Some((drv, left)) = number_first(left) else {
         return Err(LineFault::Bad);
@@ -258,9 +256,9 @@ fn failed(left: Option<&[u8]>) -> Result<Entry, LineFault>
 /// A stop, which has no further word.
 #[tactic(auto, using(crate::proofs::LineKinds::halts))]
 fn stopped(left: Option<&[u8]>) -> Result<Entry, LineFault>
-    ensures found { IfOk result (IsEntryOf Kind.Halt (pieces 32 (option_copied left.entry))) }
+    ensures found { IfOk result (IsEntryOf Kind.Halt (words_left left.entry)) }
     ensures refused { IfErr result (λ e. Refuses e
-        ((entry : Entry) → IsEntryOf Kind.Halt (pieces 32 (option_copied left.entry)) entry → ⊥)) }
+        ((entry : Entry) → IsEntryOf Kind.Halt (words_left left.entry) entry → ⊥)) }
 {
     match left {
         None => Ok(Entry::Stop),
@@ -271,9 +269,9 @@ fn stopped(left: Option<&[u8]>) -> Result<Entry, LineFault>
 /// A derivation that nothing may build.
 #[tactic(auto, using(crate::proofs::LineKinds::no_choices))]
 fn unbuildable(left: Option<&[u8]>) -> Result<Entry, LineFault>
-    ensures found { IfOk result (IsEntryOf Kind.NoChoice (pieces 32 (option_copied left.entry))) }
+    ensures found { IfOk result (IsEntryOf Kind.NoChoice (words_left left.entry)) }
     ensures refused { IfErr result (λ e. Refuses e
-        ((entry : Entry) → IsEntryOf Kind.NoChoice (pieces 32 (option_copied left.entry)) entry → ⊥)) }
+        ((entry : Entry) → IsEntryOf Kind.NoChoice (words_left left.entry) entry → ⊥)) }
 {
     let Some(drv) = number_alone(left) else {
         return Err(LineFault::Bad);
@@ -284,9 +282,9 @@ fn unbuildable(left: Option<&[u8]>) -> Result<Entry, LineFault>
 /// A lease that was given back: its derivation.
 #[tactic(auto, using(crate::proofs::LineKinds::returned))]
 fn returned(left: Option<&[u8]>) -> Result<Entry, LineFault>
-    ensures found { IfOk result (IsEntryOf Kind.Return (pieces 32 (option_copied left.entry))) }
+    ensures found { IfOk result (IsEntryOf Kind.Return (words_left left.entry)) }
     ensures refused { IfErr result (λ e. Refuses e
-        ((entry : Entry) → IsEntryOf Kind.Return (pieces 32 (option_copied left.entry)) entry → ⊥)) }
+        ((entry : Entry) → IsEntryOf Kind.Return (words_left left.entry) entry → ⊥)) }
 {
     let Some(drv) = number_alone(left) else {
         return Err(LineFault::Bad);
@@ -297,9 +295,9 @@ fn returned(left: Option<&[u8]>) -> Result<Entry, LineFault>
 /// A drained machine.
 #[tactic(auto, using(crate::proofs::LineKinds::drains))]
 fn drained(left: Option<&[u8]>) -> Result<Entry, LineFault>
-    ensures found { IfOk result (IsEntryOf Kind.Drained (pieces 32 (option_copied left.entry))) }
+    ensures found { IfOk result (IsEntryOf Kind.Drained (words_left left.entry)) }
     ensures refused { IfErr result (λ e. Refuses e
-        ((entry : Entry) → IsEntryOf Kind.Drained (pieces 32 (option_copied left.entry)) entry → ⊥)) }
+        ((entry : Entry) → IsEntryOf Kind.Drained (words_left left.entry) entry → ⊥)) }
 {
     let Some(machine) = number_alone(left) else {
         return Err(LineFault::Bad);
@@ -310,9 +308,9 @@ fn drained(left: Option<&[u8]>) -> Result<Entry, LineFault>
 /// An enabled machine.
 #[tactic(auto, using(crate::proofs::LineKinds::enables))]
 fn enabled(left: Option<&[u8]>) -> Result<Entry, LineFault>
-    ensures found { IfOk result (IsEntryOf Kind.Enabled (pieces 32 (option_copied left.entry))) }
+    ensures found { IfOk result (IsEntryOf Kind.Enabled (words_left left.entry)) }
     ensures refused { IfErr result (λ e. Refuses e
-        ((entry : Entry) → IsEntryOf Kind.Enabled (pieces 32 (option_copied left.entry)) entry → ⊥)) }
+        ((entry : Entry) → IsEntryOf Kind.Enabled (words_left left.entry) entry → ⊥)) }
 {
     let Some(machine) = number_alone(left) else {
         return Err(LineFault::Bad);

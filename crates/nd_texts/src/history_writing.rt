@@ -8,11 +8,12 @@ ghost use Rattle.nd_hook.specs.Written.{WritesPart};
 ghost use Rattle.nd_texts.specs.HistoryTexts.{cause_words, output_words, line_of, history_text, is_told_in, version_of, written_text};
 ghost use Rattle.nd_texts.specs.declared.kinds.Version.TheVariants.{First};
 ghost use Rattle.nd_texts.specs.Lines.{kind_of, others_of, word_of, spaced};
-ghost use Rattle.nd_texts.specs.Sending.{Sends, SendsPart};
+ghost use Rattle.nd_texts.specs.Sending.{IsPut};
 
 use crate::kinds::Version;
 use crate::lines::{is_told, kind, opening, word};
-use crate::page::{Page, put_number, put_word};
+use crate::page::Page;
+use crate::rows::{Word, put_word, put_words};
 use nd_history::{Entry, Why};
 use nd_hook::{Fault, Told, WriteError};
 use nd_path::{PathSet, StorePath};
@@ -73,31 +74,25 @@ fn needs_second(entries: &[Entry]) -> bool
 }
 
 /// Writes the first line and those of the entries.
-#[tactic(auto, using(crate::proofs::Sent::texts))]
 fn put_history<W: io::Write>(
     version: Version,
     entries: &[Entry],
     page: &mut Page,
     out: &mut Told<W>,
 ) -> Result<(), Fault>
-    ensures written { OnOk result (Sends (W.contents out.old.device) page.old (W.contents out.new.device) page.new (history_text version entries.now)) }
-    ensures partly { OnErr result (SendsPart (W.contents out.old.device) page.old (W.contents out.new.device) (history_text version entries.now)) }
-    ensures mark { out.new.is_marked ≡ (out.old.is_marked || is_err result) }
+    ensures { IsPut W.contents out.old page.old out.new page.new (history_text version entries.now) result }
 {
     page.put(opening(version), out)?;
     put_lines(entries, page, out)
 }
 
 /// Writes the lines of these entries.
-#[tactic(auto, using(crate::proofs::Sent::texts))]
 fn put_lines<W: io::Write>(
     entries: &[Entry],
     page: &mut Page,
     out: &mut Told<W>,
 ) -> Result<(), Fault>
-    ensures written { OnOk result (Sends (W.contents out.old.device) page.old (W.contents out.new.device) page.new (flat_map line_of entries.now)) }
-    ensures partly { OnErr result (SendsPart (W.contents out.old.device) page.old (W.contents out.new.device) (flat_map line_of entries.now)) }
-    ensures mark { out.new.is_marked ≡ (out.old.is_marked || is_err result) }
+    ensures { IsPut W.contents out.old page.old out.new page.new (flat_map line_of entries.now) result }
 {
     for entry in entries {
         put_line(entry, page, out)?;
@@ -106,38 +101,33 @@ fn put_lines<W: io::Write>(
 }
 
 /// Writes an entry's line.
-#[tactic(auto, using(crate::proofs::Spelled::one_line))]
 fn put_line<W: io::Write>(entry: &Entry, page: &mut Page, out: &mut Told<W>) -> Result<(), Fault>
-    ensures written { OnOk result (Sends (W.contents out.old.device) page.old (W.contents out.new.device) page.new (line_of entry.now)) }
-    ensures partly { OnErr result (SendsPart (W.contents out.old.device) page.old (W.contents out.new.device) (line_of entry.now)) }
-    ensures mark { out.new.is_marked ≡ (out.old.is_marked || is_err result) }
+    ensures { IsPut W.contents out.old page.old out.new page.new (line_of entry.now) result }
 {
-    put_words(entry, page, out)?;
+    put_entry(entry, page, out)?;
     page.put(b"\n", out)
 }
 
 /// Writes the words of an entry's line.
-#[tactic(auto, using(crate::proofs::Sent::texts))]
-fn put_words<W: io::Write>(entry: &Entry, page: &mut Page, out: &mut Told<W>) -> Result<(), Fault>
-    ensures written { OnOk result (Sends (W.contents out.old.device) page.old (W.contents out.new.device) page.new (word_of (kind_of entry.now) ++ spaced (others_of entry.now))) }
-    ensures partly { OnErr result (SendsPart (W.contents out.old.device) page.old (W.contents out.new.device) (word_of (kind_of entry.now) ++ spaced (others_of entry.now))) }
-    ensures mark { out.new.is_marked ≡ (out.old.is_marked || is_err result) }
+fn put_entry<W: io::Write>(entry: &Entry, page: &mut Page, out: &mut Told<W>) -> Result<(), Fault>
+    ensures { IsPut W.contents out.old page.old out.new page.new (word_of (kind_of entry.now) ++ spaced (others_of entry.now)) result }
 {
     page.put(word(kind(entry)), out)?;
     put_others(entry, page, out)
 }
 
 /// Writes the words behind the first of an entry's line.
-#[tactic(auto, using(crate::proofs::Spelled::words, crate::proofs::Spelled::no_words, crate::proofs::Sent::nothing))]
 fn put_others<W: io::Write>(entry: &Entry, page: &mut Page, out: &mut Told<W>) -> Result<(), Fault>
-    ensures written { OnOk result (Sends (W.contents out.old.device) page.old (W.contents out.new.device) page.new (spaced (others_of entry.now))) }
-    ensures partly { OnErr result (SendsPart (W.contents out.old.device) page.old (W.contents out.new.device) (spaced (others_of entry.now))) }
-    ensures mark { out.new.is_marked ≡ (out.old.is_marked || is_err result) }
+    ensures { IsPut W.contents out.old page.old out.new page.new (spaced (others_of entry.now)) result }
 {
     match entry {
         Entry::Chosen { drv, machine, slot } => {
-            put_number(*drv, page, out)?;
-            put_place(*machine, *slot, page, out)
+            let place = [
+                Word::Number(*drv as usize),
+                Word::Number(*machine as usize),
+                Word::Number(*slot as usize),
+            ];
+            put_words(&place, page, out)
         }
         Entry::NoBuilder { drv } | Entry::Down { drv } => put_number(*drv, page, out),
         Entry::Started { drv, paths } => {
@@ -157,38 +147,26 @@ fn put_others<W: io::Write>(entry: &Entry, page: &mut Page, out: &mut Told<W>) -
     }
 }
 
-/// Writes a machine and one of its slots.
-#[tactic(auto, using(crate::proofs::Spelled::words))]
-fn put_place<W: io::Write>(
-    machine: u32,
-    slot: u32,
-    page: &mut Page,
-    out: &mut Told<W>,
-) -> Result<(), Fault>
-    ensures written { OnOk result (Sends (W.contents out.old.device) page.old (W.contents out.new.device) page.new (spaced (decimal machine ∷ decimal slot ∷ []))) }
-    ensures partly { OnErr result (SendsPart (W.contents out.old.device) page.old (W.contents out.new.device) (spaced (decimal machine ∷ decimal slot ∷ []))) }
-    ensures mark { out.new.is_marked ≡ (out.old.is_marked || is_err result) }
+/// Writes a number as a word.
+fn put_number<W: io::Write>(number: u32, page: &mut Page, out: &mut Told<W>) -> Result<(), Fault>
+    ensures { IsPut W.contents out.old page.old out.new page.new (spaced (decimal number ∷ [])) result }
 {
-    put_number(machine, page, out)?;
-    put_number(slot, page, out)
+    put_word(&Word::Number(number as usize), page, out)
 }
 
 /// Writes why a lease ended without its outputs.
-#[tactic(auto, using(crate::proofs::Spelled::words))]
 fn put_cause<W: io::Write>(why: Why, page: &mut Page, out: &mut Told<W>) -> Result<(), Fault>
-    ensures written { OnOk result (Sends (W.contents out.old.device) page.old (W.contents out.new.device) page.new (spaced (cause_words why))) }
-    ensures partly { OnErr result (SendsPart (W.contents out.old.device) page.old (W.contents out.new.device) (spaced (cause_words why))) }
-    ensures mark { out.new.is_marked ≡ (out.old.is_marked || is_err result) }
+    ensures { IsPut W.contents out.old page.old out.new page.new (spaced (cause_words why)) result }
 {
     match why {
         Why::Status(status) => {
-            put_word(b"status", page, out)?;
-            put_number(u32::from(status), page, out)
+            let words = [Word::Text(b"status"), Word::Number(usize::from(status))];
+            put_words(&words, page, out)
         }
-        Why::Lost => put_word(b"lost", page, out),
-        Why::BadReferences => put_word(b"references", page, out),
-        Why::NoWorker => put_word(b"noworker", page, out),
-        Why::Memory => put_word(b"memory", page, out),
+        Why::Lost => put_word(&Word::Text(b"lost"), page, out),
+        Why::BadReferences => put_word(&Word::Text(b"references"), page, out),
+        Why::NoWorker => put_word(&Word::Text(b"noworker"), page, out),
+        Why::Memory => put_word(&Word::Text(b"memory"), page, out),
     }
 }
 
@@ -198,9 +176,7 @@ fn put_lists<W: io::Write>(
     page: &mut Page,
     out: &mut Told<W>,
 ) -> Result<(), Fault>
-    ensures written { OnOk result (Sends (W.contents out.old.device) page.old (W.contents out.new.device) page.new (spaced (flat_map output_words lists.now))) }
-    ensures partly { OnErr result (SendsPart (W.contents out.old.device) page.old (W.contents out.new.device) (spaced (flat_map output_words lists.now))) }
-    ensures mark { out.new.is_marked ≡ (out.old.is_marked || is_err result) }
+    ensures { IsPut W.contents out.old page.old out.new page.new (spaced (flat_map output_words lists.now)) result }
 {
     for list in lists {
         put_list(list, page, out)?;
@@ -209,13 +185,10 @@ fn put_lists<W: io::Write>(
 }
 
 /// Writes an `o` and the references of one output.
-#[tactic(auto, using(crate::proofs::Spelled::words))]
 fn put_list<W: io::Write>(list: &PathSet, page: &mut Page, out: &mut Told<W>) -> Result<(), Fault>
-    ensures written { OnOk result (Sends (W.contents out.old.device) page.old (W.contents out.new.device) page.new (spaced (output_words list.now))) }
-    ensures partly { OnErr result (SendsPart (W.contents out.old.device) page.old (W.contents out.new.device) (spaced (output_words list.now))) }
-    ensures mark { out.new.is_marked ≡ (out.old.is_marked || is_err result) }
+    ensures { IsPut W.contents out.old page.old out.new page.new (spaced (output_words list.now)) result }
 {
-    put_word(b"o", page, out)?;
+    put_word(&Word::Text(b"o"), page, out)?;
     put_paths(list.as_slice(), page, out)
 }
 
@@ -225,12 +198,10 @@ fn put_paths<W: io::Write>(
     page: &mut Page,
     out: &mut Told<W>,
 ) -> Result<(), Fault>
-    ensures written { OnOk result (Sends (W.contents out.old.device) page.old (W.contents out.new.device) page.new (spaced paths.now)) }
-    ensures partly { OnErr result (SendsPart (W.contents out.old.device) page.old (W.contents out.new.device) (spaced paths.now)) }
-    ensures mark { out.new.is_marked ≡ (out.old.is_marked || is_err result) }
+    ensures { IsPut W.contents out.old page.old out.new page.new (spaced paths.now) result }
 {
     for path in paths {
-        put_word(path.bytes(), page, out)?;
+        put_word(&Word::Text(path.bytes()), page, out)?;
     }
     Ok(())
 }

@@ -9,6 +9,7 @@ pub mod kinds;
 pub mod laws;
 mod lines;
 pub mod page;
+pub mod rows;
 mod words;
 
 pub use history_error::HistoryError;

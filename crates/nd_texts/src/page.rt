@@ -1,13 +1,10 @@
-//! A page that gathers the pieces of a text before they go to a writer, and words that go to it.
+//! A page that gathers the pieces of a text before they go to a writer.
 
-ghost use Rattle.std.specs.Prelude.{◌≡◌, ◌+◌, ◌≤◌, ◌∷◌, ◌++◌, ◌||◌, [], length, is_err, OnOk, OnErr};
-ghost use Rattle.std.specs.Fmt.{decimal};
+ghost use Rattle.std.specs.Prelude.{◌≡◌, ◌+◌, ◌≤◌, ◌++◌, ◌||◌, [], length, is_err, OnOk, OnErr};
 ghost use Rattle.std.specs.Io.KnownBytes.{Appends};
 ghost use Rattle.nd_hook.specs.Written.{WritesPart};
-ghost use Rattle.nd_texts.specs.Lines.{spaced};
-ghost use Rattle.nd_texts.specs.Sending.{Sends, SendsPart};
+ghost use Rattle.nd_texts.specs.Sending.{IsPut};
 
-use itoa::Buffer;
 use nd_hook::{Fault, Told};
 use std::io;
 use std::marker::Model;
@@ -50,9 +47,7 @@ impl Page {
     /// `Fault`: the writer refused. Its mark is then set.
     #[tactic(auto, using(crate::proofs::Sent::pages))]
     pub fn put<W: io::Write>(&mut self, piece: &[u8], out: &mut Told<W>) -> Result<(), Fault>
-        ensures written { OnOk result (Sends (W.contents out.old.device) self.old (W.contents out.new.device) self.new piece.now) }
-        ensures partly { OnErr result (SendsPart (W.contents out.old.device) self.old (W.contents out.new.device) piece.now) }
-        ensures mark { out.new.is_marked ≡ (out.old.is_marked || is_err result) }
+        ensures { IsPut W.contents out.old self.old out.new self.new piece.now result }
     {
         if piece.len() <= self.room() {
             self.hold(piece);
@@ -93,33 +88,4 @@ impl Page {
         self.used = 0;
         Ok(())
     }
-}
-
-/// Puts a number behind what the page holds: a space and then the number, in decimal.
-///
-/// `Fault`: the writer refused. Its mark is then set.
-pub fn put_number<W: io::Write>(
-    number: u32,
-    page: &mut Page,
-    out: &mut Told<W>,
-) -> Result<(), Fault>
-    ensures written { OnOk result (Sends (W.contents out.old.device) page.old (W.contents out.new.device) page.new (spaced (decimal number ∷ []))) }
-    ensures partly { OnErr result (SendsPart (W.contents out.old.device) page.old (W.contents out.new.device) (spaced (decimal number ∷ []))) }
-    ensures mark { out.new.is_marked ≡ (out.old.is_marked || is_err result) }
-{
-    let mut buffer = Buffer::new();
-    put_word(buffer.format(number).as_bytes(), page, out)
-}
-
-/// Puts a word behind what the page holds, with a space before it.
-///
-/// `Fault`: the writer refused. Its mark is then set.
-#[tactic(auto, using(crate::proofs::Spelled::one_word))]
-pub fn put_word<W: io::Write>(word: &[u8], page: &mut Page, out: &mut Told<W>) -> Result<(), Fault>
-    ensures written { OnOk result (Sends (W.contents out.old.device) page.old (W.contents out.new.device) page.new (spaced (word.now ∷ []))) }
-    ensures partly { OnErr result (SendsPart (W.contents out.old.device) page.old (W.contents out.new.device) (spaced (word.now ∷ []))) }
-    ensures mark { out.new.is_marked ≡ (out.old.is_marked || is_err result) }
-{
-    page.put(b" ", out)?;
-    page.put(word, out)
 }

@@ -9,7 +9,7 @@ ghost use Rattle.nd_bytes.specs.Decimal.{has_needless_zero};
 ghost use Rattle.nd_path.specs.Refusals.{IsPath};
 ghost use Rattle.nd_history.specs.declared.entry.Why.{Why};
 ghost use Rattle.nd_texts.specs.Sound.{greatest};
-ghost use Rattle.nd_texts.specs.Reading.{Refuses, IsNumberFirst, rises, is_end, cause_at, ArePathsFirst, ArePathWords, AreOutputs, IsCause};
+ghost use Rattle.nd_texts.specs.Reading.{Refuses, words_left, IsNumberFirst, HasNoNumberFirst, rises, is_end, cause_at, ArePathsFirst, ArePathWords, AreOutputs, IsCause};
 
 use crate::history_error::LineFault;
 use nd_bytes::{cut, decimal};
@@ -51,8 +51,8 @@ fn number(word: &[u8]) -> Option<u32>
 #[tactic(auto, using(crate::proofs::Parts::first_numbers))]
 pub(crate) fn number_first(left: Option<&[u8]>) -> Option<(u32, Option<&[u8]>)>
     ensures { MatchOption result
-        ((n : ℕ) (rest : List (List ℕ)) → IsNumberFirst (pieces 32 (option_copied left.entry)) n rest → ⊥)
-        (λ x. IsNumberFirst (pieces 32 (option_copied left.entry)) x.0 (pieces 32 (option_copied x.1))) }
+        (HasNoNumberFirst (words_left left.entry))
+        (λ x. IsNumberFirst (words_left left.entry) x.0 (words_left x.1)) }
 {
     let (word, rest) = cut(left?, b' ');
     Some((number(word)?, rest))
@@ -62,8 +62,8 @@ pub(crate) fn number_first(left: Option<&[u8]>) -> Option<(u32, Option<&[u8]>)>
 #[tactic(auto, using(crate::proofs::Parts::lone_numbers))]
 pub(crate) fn number_alone(left: Option<&[u8]>) -> Option<u32>
     ensures { MatchOption result
-        ((n : ℕ) → IsNumberFirst (pieces 32 (option_copied left.entry)) n [] → ⊥)
-        (λ n. IsNumberFirst (pieces 32 (option_copied left.entry)) n []) }
+        ((n : ℕ) → IsNumberFirst (words_left left.entry) n [] → ⊥)
+        (λ n. IsNumberFirst (words_left left.entry) n []) }
 {
     let (number, rest) = number_first(left)?;
     match rest {
@@ -76,8 +76,8 @@ pub(crate) fn number_alone(left: Option<&[u8]>) -> Option<u32>
 #[tactic(auto, using(crate::proofs::Parts::causes))]
 pub(crate) fn cause(left: Option<&[u8]>) -> Option<Why>
     ensures { MatchOption result
-        ((why : Why) → IsCause (pieces 32 (option_copied left.entry)) why → ⊥)
-        (IsCause (pieces 32 (option_copied left.entry))) }
+        ((why : Why) → IsCause (words_left left.entry) why → ⊥)
+        (IsCause (words_left left.entry)) }
 {
     let (word, rest) = cut(left?, b' ');
     match rest {
@@ -128,9 +128,9 @@ fn status_cause(word: &[u8], bytes: &[u8]) -> Option<Why>
 #[tactic(auto, using(crate::proofs::Parts::ends))]
 fn word_before_end(left: Option<&[u8]>) -> Option<(&[u8], Option<&[u8]>)>
     ensures found { MatchOption result
-        (is_end (pieces 32 (option_copied left.entry)) ≡ true)
-        (λ x. pieces 32 (option_copied left.entry) ≡ x.0.now ∷ pieces 32 (option_copied x.1)) }
-    ensures end { IfSome result (λ x. is_end (pieces 32 (option_copied left.entry)) ≡ false) }
+        (is_end (words_left left.entry) ≡ true)
+        (λ x. words_left left.entry ≡ x.0.now ∷ words_left x.1) }
+    ensures end { IfSome result (λ x. is_end (words_left left.entry) ≡ false) }
     ensures shorter { IfSome result (λ x. suc (left_over (option_copied x.1)) ≤ left_over (option_copied left.entry)) }
 {
     let (word, rest) = cut(left?, b' ');
@@ -164,10 +164,10 @@ pub(crate) fn paths_first(
     alloc: Global,
     left: Option<&[u8]>,
 ) -> Result<(PathSet, Option<&[u8]>), LineFault>
-    ensures found { IfOk result (λ x. ArePathsFirst (pieces 32 (option_copied left.entry)) x.0 (pieces 32 (option_copied x.1))) }
+    ensures found { IfOk result (λ x. ArePathsFirst (words_left left.entry) x.0 (words_left x.1)) }
     ensures shorter { IfOk result (λ x. left_over (option_copied x.1) ≤ left_over (option_copied left.entry)) }
     ensures refused { IfErr result (λ e. Refuses e
-        ((paths rest : List (List ℕ)) → ArePathsFirst (pieces 32 (option_copied left.entry)) paths rest → ⊥)) }
+        ((paths rest : List (List ℕ)) → ArePathsFirst (words_left left.entry) paths rest → ⊥)) }
 {
     let (paths, rest) = match path_words(alloc, left) {
         Ok(found) => found,
@@ -187,10 +187,10 @@ fn path_words(
     alloc: Global,
     left: Option<&[u8]>,
 ) -> Result<(Vec<StorePath>, Option<&[u8]>), LineFault>
-    ensures found { IfOk result (λ x. ArePathWords (pieces 32 (option_copied left.entry)) x.0.items (pieces 32 (option_copied x.1))) }
+    ensures found { IfOk result (λ x. ArePathWords (words_left left.entry) x.0.items (words_left x.1)) }
     ensures shorter { IfOk result (λ x. left_over (option_copied x.1) ≤ left_over (option_copied left.entry)) }
     ensures refused { IfErr result (λ e. Refuses e
-        ((paths rest : List (List ℕ)) → ArePathsFirst (pieces 32 (option_copied left.entry)) paths rest → ⊥)) }
+        ((paths rest : List (List ℕ)) → ArePathsFirst (words_left left.entry) paths rest → ⊥)) }
 {
     let mut paths: Vec<StorePath> = Vec::new(alloc);
     let mut rest = left;
@@ -224,9 +224,9 @@ fn push_path(alloc: Global, word: &[u8], paths: &mut Vec<StorePath>) -> Result<(
 /// The references of outputs that the words that are left are.
 #[tactic(auto, using(crate::proofs::PathLists::output_lists))]
 pub(crate) fn outputs(alloc: Global, left: Option<&[u8]>) -> Result<Refs, LineFault>
-    ensures found { IfOk result (AreOutputs (pieces 32 (option_copied left.entry))) }
+    ensures found { IfOk result (AreOutputs (words_left left.entry)) }
     ensures refused { IfErr result (λ e. Refuses e
-        ((refs : List (List (List ℕ))) → AreOutputs (pieces 32 (option_copied left.entry)) refs → ⊥)) }
+        ((refs : List (List (List ℕ))) → AreOutputs (words_left left.entry) refs → ⊥)) }
 {
     let mut sets = Vec::new(alloc);
     let mut rest = left;

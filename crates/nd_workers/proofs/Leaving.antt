@@ -7,10 +7,11 @@ use Rattle.std.proofs.lemmas.List.FromFn.{map-range_with_len_more}
 use Rattle.std.specs.List.{find, filter, filter_map, flat_map, cons_option, list_any, range_with_len}
 use Rattle.nd_history.specs.declared.entry.Entry.{Entry}
 use Rattle.nd_history.specs.declared.entry.Entry.TheVariants.{Failed, Stop}
-use Rattle.nd_history.specs.declared.entry.Ticket.{Ticket}
+use Rattle.nd_leases.specs.declared.ticket.Ticket.{Ticket}
 use Rattle.nd_history.specs.declared.entry.Why.{Why}
 use Rattle.nd_history.specs.Premises.{Premises}
-use Rattle.nd_history.specs.History.{live, current_of, is_on, has_stop}
+use Rattle.nd_history.specs.History.{live, current_of, has_stop}
+use Rattle.nd_leases.specs.Tickets.{is_on}
 use Rattle.nd_history.specs.Headline.{LeasesAreInOrder}
 use Rattle.nd_history.specs.Choices.{machines_in, jobs_of}
 use Rattle.nd_history.proofs.Slots.{count_cons, same_of}

@@ -5,11 +5,12 @@ use Rattle.std.specs.Prelude.{◌≡◌, ◌≢◌, ℕ, Bool, ◌&&◌, ◌==�
 use Rattle.std.specs.List.{filter_map, flat_map, list_any, range_with_len}
 use Rattle.nd_history.specs.declared.entry.Entry.{Entry}
 use Rattle.nd_history.specs.declared.entry.Entry.TheVariants.{Failed, Stop}
-use Rattle.nd_history.specs.declared.entry.Ticket.{Ticket}
+use Rattle.nd_leases.specs.declared.ticket.Ticket.{Ticket}
 use Rattle.nd_history.specs.declared.entry.Why.TheVariants.{NoWorker}
 use Rattle.nd_history.specs.Premises.{Premises}
 use Rattle.nd_history.specs.Choices.{machines_in, jobs_of}
-use Rattle.nd_history.specs.History.{same_place, current_of, has_stop}
+use Rattle.nd_history.specs.History.{current_of, has_stop}
+use Rattle.nd_leases.specs.Tickets.{same_place}
 
 -- the places of machine m: it with each of its slots
 abbrev pub places_on : Premises → ℕ → List (ℕ × ℕ)
@@ -36,9 +37,13 @@ given_up_at manned past p = if is_manned manned p then None else end_of (current
 abbrev pub stop_after : List Entry → List Entry
 stop_after past = if has_stop past then [] else Stop ∷ []
 
+-- the ends of the live leases on these places that no worker serves
+abbrev pub ends_on : List (ℕ × ℕ) → List Entry → List (ℕ × ℕ) → List Entry
+ends_on manned past places = filter_map (given_up_at manned past) places
+
 -- a stop where none stands, and then the ends of all live leases on places that no worker serves
 abbrev pub last_entries : Premises → List (ℕ × ℕ) → List Entry → List Entry
-last_entries i manned past = stop_after past ++ filter_map (given_up_at manned past) (places_of i)
+last_entries i manned past = stop_after past ++ ends_on manned past (places_of i)
 
 -- what is leased on other places is as it was
 pub record LeavesOthers (m s : ℕ) (before after : List Entry) : Type 0 where

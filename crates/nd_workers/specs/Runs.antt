@@ -1,8 +1,8 @@
 -- When a run is refused, and what is known of its end. The public clauses of a run cite it. This project's own choice.
-use Rattle.std.specs.Prelude.{◌≡◌, ℕ, ◌<◌, Bool, true, ◌&&◌, ◌==◌, List, ◌++◌, length, map, drop, count_by, nat_lt, reverse, Vec}
+use Rattle.std.specs.Prelude.{◌≡◌, ℕ, ◌<◌, Bool, true, ◌&&◌, ◌==◌, List, ◌++◌, length, map, drop, count_by, nat_lt, reverse, Option, Some, Vec}
 use Rattle.std.specs.List.{AllZip, zip, list_all}
 use Rattle.nd_history.specs.declared.entry.Entry.{Entry}
-use Rattle.nd_history.specs.History.{same_place}
+use Rattle.nd_leases.specs.Tickets.{same_place}
 use Rattle.nd_history.specs.Premises.{Premises}
 use Rattle.nd_history.specs.Choices.{machines_in, jobs_of}
 use Rattle.nd_history.specs.Statuses.{IsFinished}
@@ -12,6 +12,8 @@ use Rattle.nd_receipts.specs.declared.receipt.Receipt.{Receipt}
 use Rattle.nd_receipts.specs.Receipts.{AreCallsIn}
 use Rattle.nd_receipts.specs.Dealt.{AreReceipted}
 use Rattle.nd_transports.specs.Calls.{State}
+use Rattle.nd_workers.specs.declared.run_end.RunFault.{RunFault}
+use Rattle.nd_workers.specs.declared.run_end.RunFault.TheVariants.{Receipts}
 use Rattle.nd_workers.specs.declared.run_end.RunRefusal.{RunRefusal}
 use Rattle.nd_workers.specs.declared.run_end.RunRefusal.TheVariants.{Slots, TooManySlots, Memory}
 use Rattle.nd_workers.specs.declared.seat.Seat.{Seat}
@@ -39,6 +41,10 @@ abbrev pub IsRunRefused : Premises → List (ℕ × ℕ) → RunRefusal → Type
 IsRunRefused i places Slots = AreManned i places → ⊥
 IsRunRefused i places TooManySlots = AreManned i places × (1024 < length places)
 IsRunRefused i places Memory = Unit {0}
+
+-- what came back was compared with the history, and no difference was found: the run has no fault, or another one
+abbrev pub Agrees : Option RunFault → Type 0
+Agrees fault = fault ≡ Some Receipts → ⊥
 
 -- a run is over: its dispatch goes on from the one that was handed in, and nothing waits or is leased any more
 pub record IsOver (opening now : World) : Type 0 where

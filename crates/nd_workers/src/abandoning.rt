@@ -1,9 +1,9 @@
 //! What becomes of leases that no worker serves.
 
 ghost use Rattle.std.specs.Prelude.{◌≡◌, ◌≢◌, ◌+◌, ◌<◌, ◌≤◌, ◌++◌, [], length, reverse};
-ghost use Rattle.std.specs.List.{filter_map, cons_option};
+ghost use Rattle.std.specs.List.{cons_option};
 ghost use Rattle.nd_history.specs.Choices.{machines_in, jobs_of};
-ghost use Rattle.nd_workers.specs.Abandoned.{places_on, is_manned, given_up_at, stop_after, last_entries, LeavesOthers, LeavesOtherMachines};
+ghost use Rattle.nd_workers.specs.Abandoned.{places_on, is_manned, given_up_at, ends_on, stop_after, last_entries, LeavesOthers, LeavesOtherMachines};
 
 use nd_history::Why;
 use nd_ledger::Dispatch;
@@ -66,7 +66,7 @@ fn is_manned(manned: &[(u32, u32)], machine: u32, slot: u32) -> bool
 #[tactic(auto, using(crate::proofs::Leaving::machine_first, crate::proofs::Leaving::machine_more, crate::proofs::Leaving::machine_done, crate::proofs::Leaving::machine_others))]
 fn abandon_machine(dispatch: &mut Dispatch, manned: &[(u32, u32)], machine: u32)
     ensures inputs { dispatch.new.inputs ≡ dispatch.old.inputs }
-    ensures history { dispatch.new.history ≡ dispatch.old.history ++ filter_map (given_up_at manned.now (reverse dispatch.old.history)) (places_on dispatch.old.inputs machine) }
+    ensures history { dispatch.new.history ≡ dispatch.old.history ++ ends_on manned.now (reverse dispatch.old.history) (places_on dispatch.old.inputs machine) }
     ensures others { LeavesOtherMachines machine (reverse dispatch.old.history) (reverse dispatch.new.history) }
 {
     for slot in 0..jobs_on(dispatch, machine) {

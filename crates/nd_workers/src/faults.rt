@@ -7,7 +7,7 @@ ghost use Rattle.nd_receipts.specs.Made.{is_quiet};
 ghost use Rattle.nd_receipts.specs.Noted.{IsNotedIn};
 ghost use Rattle.nd_receipts.specs.Dealt.{AreApart, AreReceipted};
 ghost use Rattle.nd_receipts.specs.Walks.{AreUnknown};
-ghost use Rattle.nd_workers.specs.Runs.{IsOver, AreReceiptedSince, since};
+ghost use Rattle.nd_workers.specs.Runs.{Agrees, IsOver, AreReceiptedSince, since};
 ghost use Rattle.nd_workers.specs.Served.{IsSound};
 
 use crate::run_end::RunFault;
@@ -86,12 +86,12 @@ pub(crate) fn fault_of(
     short: bool,
     threadless: bool,
 ) -> Option<RunFault>
-    ensures sound { result ≡ None → sound ≡ true }
-    ensures dealt { result ≡ None → dealt ≡ true }
+    ensures sound { Agrees result → sound ≡ true }
+    ensures dealt { Agrees result → dealt ≡ true }
     ensures quiet { result ≡ None → list_all is_quiet (since opening.now dispatch.now) ≡ true }
     ensures thread { result ≡ Some RunFault.Thread → list_any is_stop dispatch.now.history ≡ true }
     ensures memory { result ≡ Some RunFault.Memory → list_any is_stop dispatch.now.history ≡ true }
-    ensures goes_on { (result ≡ Some RunFault.Receipts → ⊥) → IsOver opening.now dispatch.now }
+    ensures goes_on { Agrees result → IsOver opening.now dispatch.now }
 {
     if !dispatch.extends(opening) {
         return Some(RunFault::Receipts);

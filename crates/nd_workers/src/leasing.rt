@@ -3,13 +3,14 @@
 
 ghost use Rattle.std.specs.Prelude.{◌≡◌, ◌+◌, ◌<◌, ◌≤◌, [], true, IfOk, IfErr, OnOk, OnErr, ℕ, List};
 ghost use Rattle.nd_receipts.specs.Made.{is_worker_cause};
-ghost use Rattle.nd_receipts.specs.Noted.{HasNoted, HasBegun, HasEnded, HasFetched, IsFinished, GoesOn, track};
+ghost use Rattle.nd_receipts.specs.Noted.{HasNoted, HasBegun, HasEnded, HasFetched, IsFinished, GoesOn, track_of};
 
 use crate::desk::Desk;
 use crate::hand::Hand;
 use crate::opened::Opened;
 use nd_closure::Refs;
-use nd_history::{Entry, Ticket, Why};
+use nd_history::{Entry, Why};
+use nd_leases::Ticket;
 use nd_ledger::{Job, Refusal, Refused};
 use nd_path::PathSet;
 use nd_receipts::receipt::Kind;
@@ -244,7 +245,7 @@ fn build_lease<L: Opened, T: Transport, R: Wait>(
     requires room { 0 < hand.old.notes.room }
     requires phase { (T.state transport.old).phase ≡ Phase.Copied }
     requires drv { (T.state transport.old).drv ≡ ticket.drv }
-    ensures { OnOk result (IsFinished (track hand.old.notes (T.state transport.old).calls) (track hand.new.notes (T.state transport.new).calls) ticket.drv) }
+    ensures { OnOk result (IsFinished (track_of hand.old.notes (T.state transport.old)) (track_of hand.new.notes (T.state transport.new)) ticket.drv) }
 {
     match serve_build(transport) {
         Outcome::Built(refs) => {
@@ -278,7 +279,7 @@ fn fetch_lease<L: Opened, T: Transport, R: Wait>(
     job: Job,
 ) -> Result<bool, Refusal>
     requires { 0 < hand.old.notes.room }
-    ensures goes { IfOk result (HasFetched (track hand.old.notes (T.state transport.old).calls) (track hand.new.notes (T.state transport.new).calls) job.ticket.drv) }
+    ensures goes { IfOk result (HasFetched (track_of hand.old.notes (T.state transport.old)) (track_of hand.new.notes (T.state transport.new)) job.ticket.drv) }
     ensures phase { result ≡ Ok true → (T.state transport.new).phase ≡ Phase.Copied }
     ensures drv { result ≡ Ok true → (T.state transport.new).drv ≡ job.ticket.drv }
     ensures room { OnOk result (hand.old.notes.room ≤ hand.new.notes.room + 1) }
@@ -339,7 +340,7 @@ pub(crate) fn serve<L: Opened, T: Transport, R: Wait>(
     job: Job,
 ) -> Result<(), Refusal>
     requires { 1 < hand.old.notes.room }
-    ensures { OnOk result (GoesOn (track hand.old.notes (T.state transport.old).calls) (track hand.new.notes (T.state transport.new).calls)) }
+    ensures { OnOk result (GoesOn (track_of hand.old.notes (T.state transport.old)) (track_of hand.new.notes (T.state transport.new))) }
 {
     let ticket = job.ticket;
     let started = fetch_lease(rt, alloc, shared, hand, transport, job)?;

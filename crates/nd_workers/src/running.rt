@@ -7,7 +7,7 @@ ghost use Rattle.nd_receipts.specs.Made.{made, is_quiet};
 ghost use Rattle.nd_receipts.specs.Noted.{IsNotedIn};
 ghost use Rattle.nd_receipts.specs.Dealt.{AreApart, AreReceipted};
 ghost use Rattle.nd_receipts.specs.Walks.{AreUnknown};
-ghost use Rattle.nd_workers.specs.Runs.{AreManned, IsRunRefused, IsOver, AreServedIn, AreReceiptedSince, since};
+ghost use Rattle.nd_workers.specs.Runs.{AreManned, IsRunRefused, Agrees, IsOver, AreServedIn, AreReceiptedSince, since};
 ghost use Rattle.nd_workers.specs.Served.{places_served, HaveServed, IsSound, receipts_in};
 ghost use Rattle.nd_workers.specs.Steps.{RunsOn};
 
@@ -238,12 +238,12 @@ fn settle<T: Transport>(
     ensures workers { result.workers.items ≡ map (λ y. y.seat) stints.items }
     ensures count { vec_len result.receipts ≡ vec_len stints }
     ensures total { sum_by (λ v. vec_len v) result.receipts.items ≡ receipts_in stints.items }
-    ensures sound { result.fault ≡ None → All (IsSound result.dispatch.history) stints.items }
-    ensures receipted { result.fault ≡ None → AreReceiptedSince plan.opening result.dispatch plan.places.items result.receipts.items }
+    ensures sound { Agrees result.fault → All (IsSound result.dispatch.history) stints.items }
+    ensures receipted { Agrees result.fault → AreReceiptedSince plan.opening result.dispatch plan.places.items result.receipts.items }
     ensures quiet { result.fault ≡ None → list_all is_quiet (since plan.opening result.dispatch) ≡ true }
     ensures thread { result.fault ≡ Some RunFault.Thread → list_any is_stop result.dispatch.history ≡ true }
     ensures memory { result.fault ≡ Some RunFault.Memory → list_any is_stop result.dispatch.history ≡ true }
-    ensures goes_on { (result.fault ≡ Some RunFault.Receipts → ⊥) → IsOver plan.opening result.dispatch }
+    ensures goes_on { Agrees result.fault → IsOver plan.opening result.dispatch }
 {
     let Plan {
         opening,
@@ -404,12 +404,12 @@ fn run_in<L: Opened + Send + Sync, T: Transport, R: Threads + Wait + Sync>(
     ensures count { vec_len result.receipts ≡ vec_len seats }
     ensures total { made result.dispatch.history ≡ made dispatch.history + sum_by (λ v. vec_len v) result.receipts.items }
     ensures runs { RunsOn dispatch result.dispatch }
-    ensures goes_on { (result.fault ≡ Some RunFault.Receipts → ⊥) → IsOver dispatch result.dispatch }
-    ensures receipted { result.fault ≡ None → AreReceiptedSince dispatch result.dispatch plan.places.items result.receipts.items }
+    ensures goes_on { Agrees result.fault → IsOver dispatch result.dispatch }
+    ensures receipted { Agrees result.fault → AreReceiptedSince dispatch result.dispatch plan.places.items result.receipts.items }
     ensures quiet { result.fault ≡ None → list_all is_quiet (since dispatch result.dispatch) ≡ true }
     ensures thread { result.fault ≡ Some RunFault.Thread → list_any is_stop result.dispatch.history ≡ true }
     ensures memory { result.fault ≡ Some RunFault.Memory → list_any is_stop result.dispatch.history ≡ true }
-    ensures calls { result.fault ≡ None → AreServedIn T.state result.dispatch.history seats.items result.workers.items result.receipts.items }
+    ensures calls { Agrees result.fault → AreServedIn T.state result.dispatch.history seats.items result.workers.items result.receipts.items }
 {
     let Room {
         running,
@@ -449,12 +449,12 @@ fn run_named<L: Opened + Send + Sync, T: Transport, R: Threads + Wait + Sync>(
     ensures count { IfOk result (λ e. vec_len e.receipts ≡ vec_len seats) }
     ensures total { IfOk result (λ e. made e.dispatch.history ≡ made dispatch.history + sum_by (λ v. vec_len v) e.receipts.items) }
     ensures runs { IfOk result (λ e. RunsOn dispatch e.dispatch) }
-    ensures goes_on { IfOk result (λ e. (e.fault ≡ Some RunFault.Receipts → ⊥) → IsOver dispatch e.dispatch) }
-    ensures receipted { IfOk result (λ e. e.fault ≡ None → AreReceiptedSince dispatch e.dispatch plan.places.items e.receipts.items) }
+    ensures goes_on { IfOk result (λ e. Agrees e.fault → IsOver dispatch e.dispatch) }
+    ensures receipted { IfOk result (λ e. Agrees e.fault → AreReceiptedSince dispatch e.dispatch plan.places.items e.receipts.items) }
     ensures quiet { IfOk result (λ e. e.fault ≡ None → list_all is_quiet (since dispatch e.dispatch) ≡ true) }
     ensures thread { IfOk result (λ e. e.fault ≡ Some RunFault.Thread → list_any is_stop e.dispatch.history ≡ true) }
     ensures memory { IfOk result (λ e. e.fault ≡ Some RunFault.Memory → list_any is_stop e.dispatch.history ≡ true) }
-    ensures calls { IfOk result (λ e. e.fault ≡ None → AreServedIn T.state e.dispatch.history seats.items e.workers.items e.receipts.items) }
+    ensures calls { IfOk result (λ e. Agrees e.fault → AreServedIn T.state e.dispatch.history seats.items e.workers.items e.receipts.items) }
 {
     let Ok(room) = make_room::<L, T>(alloc, seats.len()) else {
         drop(manned);
@@ -480,12 +480,12 @@ pub fn run_with<T: Transport, R: Threads + Wait + Sync>(
     ensures count { IfOk result (λ e. vec_len e.receipts ≡ vec_len workers) }
     ensures total { IfOk result (λ e. made e.dispatch.history ≡ made dispatch.history + sum_by (λ v. vec_len v) e.receipts.items) }
     ensures runs { IfOk result (λ e. RunsOn dispatch e.dispatch) }
-    ensures goes_on { IfOk result (λ e. (e.fault ≡ Some RunFault.Receipts → ⊥) → IsOver dispatch e.dispatch) }
-    ensures receipted { IfOk result (λ e. e.fault ≡ None → AreReceiptedSince dispatch e.dispatch (places_served workers.items) e.receipts.items) }
+    ensures goes_on { IfOk result (λ e. Agrees e.fault → IsOver dispatch e.dispatch) }
+    ensures receipted { IfOk result (λ e. Agrees e.fault → AreReceiptedSince dispatch e.dispatch (places_served workers.items) e.receipts.items) }
     ensures quiet { IfOk result (λ e. e.fault ≡ None → list_all is_quiet (since dispatch e.dispatch) ≡ true) }
     ensures thread { IfOk result (λ e. e.fault ≡ Some RunFault.Thread → list_any is_stop e.dispatch.history ≡ true) }
     ensures memory { IfOk result (λ e. e.fault ≡ Some RunFault.Memory → list_any is_stop e.dispatch.history ≡ true) }
-    ensures calls { IfOk result (λ e. e.fault ≡ None → AreServedIn T.state e.dispatch.history workers.items e.workers.items e.receipts.items) }
+    ensures calls { IfOk result (λ e. Agrees e.fault → AreServedIn T.state e.dispatch.history workers.items e.workers.items e.receipts.items) }
 {
     let alloc = *workers.allocator();
     match prepare(alloc, &dispatch, workers.as_slice()) {
@@ -508,10 +508,10 @@ pub fn run_with<T: Transport, R: Threads + Wait + Sync>(
 ///
 /// It may end with a fault: `Thread` (1) where a thread wasn't started, `Memory` (2) where memory was
 /// refused for choices or for receipts, `Receipts` (3) where the receipts aren't the entries that
-/// workers made. After the first two the run was stopped. However it ends, the workers come back on the
-/// places and in the order in which they were handed in, each with a list of receipts; each choice since
-/// the opening is the pump's step of its place in the history, and no machine was drained or enabled.
-/// No lease is to be live at the start.
+/// workers made. After the first two the run was stopped, and what came back is compared as without a
+/// fault. However it ends, the workers come back on the places and in the order in which they were handed
+/// in, each with a list of receipts; each choice since the opening is the pump's step of its place in the
+/// history, and no machine was drained or enabled. No lease is to be live at the start.
 pub fn run<R: Threads + Wait + Sync>(
     rt: &R,
     dispatch: Dispatch,
@@ -526,12 +526,12 @@ pub fn run<R: Threads + Wait + Sync>(
     ensures count { IfOk result (λ e. vec_len e.receipts ≡ vec_len workers) }
     ensures total { IfOk result (λ e. made e.dispatch.history ≡ made dispatch.history + sum_by (λ v. vec_len v) e.receipts.items) }
     ensures runs { IfOk result (λ e. RunsOn dispatch e.dispatch) }
-    ensures goes_on { IfOk result (λ e. (e.fault ≡ Some RunFault.Receipts → ⊥) → IsOver dispatch e.dispatch) }
-    ensures receipted { IfOk result (λ e. e.fault ≡ None → AreReceiptedSince dispatch e.dispatch (places_served workers.items) e.receipts.items) }
+    ensures goes_on { IfOk result (λ e. Agrees e.fault → IsOver dispatch e.dispatch) }
+    ensures receipted { IfOk result (λ e. Agrees e.fault → AreReceiptedSince dispatch e.dispatch (places_served workers.items) e.receipts.items) }
     ensures quiet { IfOk result (λ e. e.fault ≡ None → list_all is_quiet (since dispatch e.dispatch) ≡ true) }
     ensures thread { IfOk result (λ e. e.fault ≡ Some RunFault.Thread → list_any is_stop e.dispatch.history ≡ true) }
     ensures memory { IfOk result (λ e. e.fault ≡ Some RunFault.Memory → list_any is_stop e.dispatch.history ≡ true) }
-    ensures calls { IfOk result (λ e. e.fault ≡ None → AreServedIn state e.dispatch.history workers.items e.workers.items e.receipts.items) }
+    ensures calls { IfOk result (λ e. Agrees e.fault → AreServedIn state e.dispatch.history workers.items e.workers.items e.receipts.items) }
 {
     run_with(rt, dispatch, workers)
 }

@@ -2,7 +2,7 @@
 
 ghost use Rattle.std.specs.Prelude.{◌≡◌, ◌+◌, ◌<◌, ◌≤◌, [], ℕ, List, length, vec_len, vec_capacity, sum_by, MatchResult};
 ghost use Rattle.std.specs.List.{AllZip};
-ghost use Rattle.nd_workers.specs.AtWork.{IsAtWork};
+ghost use Rattle.nd_workers.specs.AtWork.{IsAtWork, HaveEnded};
 ghost use Rattle.nd_workers.specs.Served.{seat_of, HasServed, HaveServed, receipts_in};
 
 use crate::hand::Hand;
@@ -229,7 +229,7 @@ pub(crate) fn in_scope<L: Opened + Send + Sync, T: Transport, R: Threads + Wait 
         thread::scope_env(),
         rt,
         |scope| -> Ended<L, T>
-            ensures { (result.all.parts ≡ vec_len ready.seats + 1) × (vec_len result.stints ≡ vec_len ready.seats) × (result.all.amount ≡ ready.rest.amount + receipts_in result.stints.items) × HaveServed T.state ready.seats.items result.stints.items }
+            ensures { HaveEnded T.state ready.seats ready.rest.amount result }
         { serve_all(scope, rt, alloc, shared, ready) },
     )
 }

@@ -1,7 +1,7 @@
 //! The loop of a worker.
 
 ghost use Rattle.std.specs.Prelude.{◌≡◌, ◌<◌, [], ℕ, List};
-ghost use Rattle.nd_receipts.specs.Noted.{GoesOn, track};
+ghost use Rattle.nd_receipts.specs.Noted.{GoesOn, track_of};
 ghost use Rattle.nd_workers.specs.Ends.{EndsWell};
 
 use crate::desk::Next;
@@ -76,7 +76,7 @@ fn turn<L: Opened, T: Transport, R: Wait>(
     hand: &mut Hand<L>,
     seat: &mut Seat<T>,
 ) -> End
-    ensures goes { EndsWell result (track hand.old.notes (T.state seat.old.transport).calls) (track hand.new.notes (T.state seat.new.transport).calls) }
+    ensures goes { EndsWell result (track_of hand.old.notes (T.state seat.old.transport)) (track_of hand.new.notes (T.state seat.new.transport)) }
     ensures machine { seat.new.machine ≡ seat.old.machine }
     ensures slot { seat.new.slot ≡ seat.old.slot }
 {
@@ -103,7 +103,7 @@ fn attend<L: Opened, T: Transport, R: Wait>(
     next: Next,
 ) -> End
     requires { 1 < hand.old.notes.room }
-    ensures { EndsWell result (track hand.old.notes (T.state transport.old).calls) (track hand.new.notes (T.state transport.new).calls) }
+    ensures { EndsWell result (track_of hand.old.notes (T.state transport.old)) (track_of hand.new.notes (T.state transport.new)) }
 {
     match next {
         Next::Finished => End::Finished,
@@ -130,7 +130,7 @@ pub(crate) fn work<L: Opened, T: Transport, R: Wait>(
     hand: Hand<L>,
     seat: Seat<T>,
 ) -> Done<L, T>
-    ensures goes { EndsWell result.end (track hand.notes (T.state seat.transport).calls) (track result.hand.notes (T.state result.seat.transport).calls) }
+    ensures goes { EndsWell result.end (track_of hand.notes (T.state seat.transport)) (track_of result.hand.notes (T.state result.seat.transport)) }
     ensures machine { result.seat.machine ≡ seat.machine }
     ensures slot { result.seat.slot ≡ seat.slot }
 {

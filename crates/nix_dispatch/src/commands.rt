@@ -4,6 +4,7 @@ ghost use Rattle.std.specs.Prelude.{◌≡◌, IfOk, codes};
 ghost use Rattle.clap.specs.Matches.{found_of, one_text};
 ghost use Rattle.nix_dispatch.specs.Options.{AreOptionsIn, IsNumberIn, IsFlagIn, text_in};
 
+use crate::failing::{Given, failure, heard, path_failure};
 use crate::files::{file_or_nothing, read_file, text_or_file};
 use crate::stand_ins::run_stand_ins;
 use crate::words;
@@ -12,10 +13,11 @@ use clap::error::ErrorKind;
 use nd_bytes::ByteString;
 use nd_cli::{CliFault, ParkOptions, ask_engine, path_engine};
 use nd_engines::{audit_engine, sim_engine};
+use nd_explain::{Failure, Heard, Source};
 use nd_hook::Told;
 use std::alloc::Global;
 use std::fmt;
-use std::io::{self, BufWriter};
+use std::io::{self, BufWriter, Read, Write};
 use std::rt::Files;
 use std::sync::Wait;
 use std::thread::Threads;
@@ -44,20 +46,24 @@ pub(crate) fn run<'a, R: Files + Input + Print + Eprint + AllocGlobal + Threads 
         }
     };
     let answer = answer_to(rt, alloc, &matches);
+    let explain = match matches.subcommand() {
+        Some((_, options)) => options.get_flag("explain"),
+        None => false,
+    };
     drop(matches);
     match answer {
         Some(Ok(status)) => status,
-        Some(Err(fault)) => told(rt, &fault),
+        Some(Err(failure)) => told_why(rt, &failure, explain),
         None => not_understood(rt, "the command line names no command"),
     }
 }
 
 /// What the command that was named answers, and `None` where none of the commands was.
-fn answer_to<R: Files + Input + Print + AllocGlobal + Threads + Wait + Sync>(
+fn answer_to<'a, R: Files + Input + Print + AllocGlobal + Threads + Wait + Sync>(
     rt: &R,
     alloc: Global,
-    matches: &ArgMatches,
-) -> Option<Result<u8, CliFault>> {
+    matches: &ArgMatches<'a>,
+) -> Option<Result<u8, Failure<'a>>> {
     match matches.subcommand() {
         Some(("path", options)) => Some(path(rt, alloc, options)),
         Some(("ask", options)) => Some(ask(rt, alloc, options)),
@@ -66,6 +72,16 @@ fn answer_to<R: Files + Input + Print + AllocGlobal + Threads + Wait + Sync>(
         Some(("run", options)) => Some(run_stand_ins(rt, alloc, options)),
         _ => None,
     }
+}
+
+/// Says why a command gave no answer, where asked with what is known about it, and answers the exit
+/// status.
+fn told_why<R: Eprint>(rt: &R, failure: &Failure, explain: bool) -> u8 {
+    let status = told(rt, &failure.fault);
+    if explain {
+        say(rt, failure);
+    }
+    status
 }
 
 /// Says in one line on standard error why the command line isn't understood, and answers the exit
@@ -86,90 +102,114 @@ fn say<R: Eprint, T: fmt::Display>(rt: &R, value: &T) {
     let _ = eprintln!(rt; "{value}");
 }
 
-fn path<R: Input + Print + AllocGlobal>(
+fn path<'a, R: Input + Print + AllocGlobal>(
     rt: &R,
     alloc: Global,
-    options: &ArgMatches,
-) -> Result<u8, CliFault> {
-    let name = options.get_str("name").unwrap_or("");
-    let mut output = Told::new(io::writer(rt));
-    path_engine(
-        alloc,
-        name.as_bytes(),
-        &mut Told::new(rt.reader()),
-        &mut output,
-    )
+    options: &ArgMatches<'a>,
+) -> Result<u8, Failure<'a>> {
+    let name = options.get_str("name").unwrap_or("").as_bytes();
+    let mut output = Told::new(Heard::new(io::writer(rt)));
+    let mut input = Told::new(heard(alloc, options, rt.reader()));
+    match path_engine(alloc, name, &mut input, &mut output) {
+        Ok(status) => Ok(status),
+        Err(CliFault::Write) => Err(write_failure(&output.into_inner())),
+        Err(fault) => Err(path_failure(alloc, fault, name, &input.into_inner())),
+    }
 }
 
-fn ask<R: Files + Input + Print + AllocGlobal + Threads + Sync>(
+fn ask<'a, R: Files + Input + Print + AllocGlobal + Threads + Sync>(
     rt: &R,
     alloc: Global,
-    options: &ArgMatches,
-) -> Result<u8, CliFault> {
+    options: &ArgMatches<'a>,
+) -> Result<u8, Failure<'a>> {
     let park = match park_options(rt, alloc, options) {
         Ok(park) => park,
-        Err(fault) => return Err(fault),
+        Err(failure) => return Err(failure),
     };
     let Ok(buffered) = BufWriter::new(alloc, io::writer(rt)) else {
         drop(park);
-        return Err(CliFault::Memory);
+        return Err(Failure::of(CliFault::Memory));
     };
-    let mut output = Told::new(buffered);
-    let mut input = Told::new(rt.reader());
+    let mut output = Told::new(Heard::new(buffered));
+    let mut input = Told::new(heard(alloc, options, rt.reader()));
     let answer = ask_engine(rt, alloc, &park, &mut input, &mut output);
-    drop(output);
+    let given = Given {
+        options,
+        park: &park,
+        other: &[],
+    };
+    let answer = answer_or_failure(
+        alloc,
+        answer,
+        given,
+        input.into_inner(),
+        output.into_inner(),
+    );
     drop(park);
     answer
 }
 
-fn sim<R: Files + Input + Print + AllocGlobal + Threads + Sync>(
+fn sim<'a, R: Files + Input + Print + AllocGlobal + Threads + Sync>(
     rt: &R,
     alloc: Global,
-    options: &ArgMatches,
-) -> Result<u8, CliFault> {
+    options: &ArgMatches<'a>,
+) -> Result<u8, Failure<'a>> {
     let park = match park_options(rt, alloc, options) {
         Ok(park) => park,
-        Err(fault) => return Err(fault),
+        Err(failure) => return Err(failure),
     };
-    let script = match read_file(rt, alloc, options.get_str("script").unwrap_or("")) {
+    let name = options.get_str("script").unwrap_or("");
+    let script = match read_file(rt, alloc, "script", name) {
         Ok(script) => script,
-        Err(fault) => {
+        Err(failure) => {
             drop(park);
-            return Err(fault);
+            return Err(failure);
         }
     };
     let Ok(buffered) = BufWriter::new(alloc, io::writer(rt)) else {
         drop(script);
         drop(park);
-        return Err(CliFault::Memory);
+        return Err(Failure::of(CliFault::Memory));
     };
-    let mut output = Told::new(buffered);
-    let mut input = Told::new(rt.reader());
+    let mut output = Told::new(Heard::new(buffered));
+    let mut input = Told::new(heard(alloc, options, rt.reader()));
     let answer = sim_engine(rt, alloc, &park, script.as_slice(), &mut input, &mut output);
-    drop(output);
+    let given = Given {
+        options,
+        park: &park,
+        other: script.as_slice(),
+    };
+    let answer = answer_or_failure(
+        alloc,
+        answer,
+        given,
+        input.into_inner(),
+        output.into_inner(),
+    );
     drop(script);
     drop(park);
     answer
 }
 
-fn audit<R: Files + Input + Print + AllocGlobal + Threads + Sync>(
+fn audit<'a, R: Files + Input + Print + AllocGlobal + Threads + Sync>(
     rt: &R,
     alloc: Global,
-    options: &ArgMatches,
-) -> Result<u8, CliFault> {
+    options: &ArgMatches<'a>,
+) -> Result<u8, Failure<'a>> {
     let park = match park_options(rt, alloc, options) {
         Ok(park) => park,
-        Err(fault) => return Err(fault),
+        Err(failure) => return Err(failure),
     };
-    let history = match read_file(rt, alloc, options.get_str("history").unwrap_or("")) {
+    let name = options.get_str("history").unwrap_or("");
+    let history = match read_file(rt, alloc, "history", name) {
         Ok(history) => history,
-        Err(fault) => {
+        Err(failure) => {
             drop(park);
-            return Err(fault);
+            return Err(failure);
         }
     };
-    let mut output = Told::new(io::writer(rt));
-    let mut input = Told::new(rt.reader());
+    let mut output = Told::new(Heard::new(io::writer(rt)));
+    let mut input = Told::new(heard(alloc, options, rt.reader()));
     let verdict = audit_engine(
         rt,
         alloc,
@@ -178,22 +218,55 @@ fn audit<R: Files + Input + Print + AllocGlobal + Threads + Sync>(
         &mut input,
         &mut output,
     );
+    let given = Given {
+        options,
+        park: &park,
+        other: history.as_slice(),
+    };
+    let answer = answer_or_failure(
+        alloc,
+        verdict,
+        given,
+        input.into_inner(),
+        output.into_inner(),
+    );
     drop(history);
     drop(park);
-    verdict
+    answer
+}
+
+/// What a command over a bundle answers, with what is known of its fault where it gave no answer.
+fn answer_or_failure<'a, R: Read + Drop, W: Write + Drop>(
+    alloc: Global,
+    answer: Result<u8, CliFault>,
+    given: Given<'a, '_>,
+    input: Heard<R>,
+    output: Heard<W>,
+) -> Result<u8, Failure<'a>> {
+    match answer {
+        Ok(status) => Ok(status),
+        Err(CliFault::Write) => Err(write_failure(&output)),
+        Err(fault) => Err(failure(alloc, fault, given, &input)),
+    }
+}
+
+/// A refused write to this output.
+pub(crate) fn write_failure<'a, W: Write>(output: &Heard<W>) -> Failure<'a> {
+    Failure::at(CliFault::Write, Source::Output, output.refusal())
 }
 
 /// The options of a command over a bundle. The files that they name are read here, the builders list
 /// before the info text.
-pub(crate) fn park_options<R: Files>(
+pub(crate) fn park_options<'a, R: Files>(
     rt: &R,
     alloc: Global,
-    options: &ArgMatches,
-) -> Result<ParkOptions, CliFault>
+    options: &ArgMatches<'a>,
+) -> Result<ParkOptions, Failure<'a>>
     ensures { IfOk result (λ park. AreOptionsIn options.now park) }
 {
-    let builders = text_or_file(rt, alloc, options.get_str("builders").unwrap_or(""))?;
-    let info = file_or_nothing(rt, alloc, options.get_str("info"))?;
+    let builders = options.get_str("builders").unwrap_or("");
+    let builders = text_or_file(rt, alloc, "builders", builders)?;
+    let info = file_or_nothing(rt, alloc, "info", options.get_str("info"))?;
     Ok(ParkOptions {
         builders,
         system: text_of(alloc, options, "system")?,
@@ -207,10 +280,13 @@ pub(crate) fn park_options<R: Files>(
 }
 
 /// The text of the option of this name, and no bytes without it.
-fn text_of(alloc: Global, options: &ArgMatches, name: &str) -> Result<ByteString, CliFault>
+fn text_of<'a>(alloc: Global, options: &ArgMatches, name: &str) -> Result<ByteString, Failure<'a>>
     ensures { IfOk result (λ text. text ≡ text_in options.now name.now) }
 {
-    Ok(ByteString::from_slice(alloc, options.get_str(name).unwrap_or("").as_bytes())?)
+    match ByteString::from_slice(alloc, options.get_str(name).unwrap_or("").as_bytes()) {
+        Ok(text) => Ok(text),
+        Err(_) => Err(Failure::of(CliFault::Memory)),
+    }
 }
 
 /// The local jobs, which are 1 without the option.

@@ -5,6 +5,7 @@ ghost use Rattle.nix_dispatch.specs.Options.{StandsFor};
 
 use nd_bytes::ByteString;
 use nd_cli::{CliFault, read_input};
+use nd_explain::{Failure, Heard, Source};
 use nd_hook::Told;
 use std::alloc::Global;
 use std::fs;
@@ -12,43 +13,55 @@ use std::rt::Files;
 
 /// What the value of an option stands for: the bytes of the file that it names behind `@`, and else
 /// its own bytes.
-pub(crate) fn text_or_file<R: Files>(
+pub(crate) fn text_or_file<'a, R: Files>(
     rt: &R,
     alloc: Global,
-    value: &str,
-) -> Result<ByteString, CliFault>
+    option: &'a str,
+    value: &'a str,
+) -> Result<ByteString, Failure<'a>>
     ensures { IfOk result (StandsFor value.now) }
 {
     match value.strip_prefix('@') {
-        Some(name) => read_file(rt, alloc, name),
-        None => Ok(ByteString::from_slice(alloc, value.as_bytes())?),
+        Some(name) => read_file(rt, alloc, option, name),
+        None => match ByteString::from_slice(alloc, value.as_bytes()) {
+            Ok(text) => Ok(text),
+            Err(_) => Err(Failure::of(CliFault::Memory)),
+        },
     }
 }
 
 /// The bytes of the file of an option, and none without the option.
-pub(crate) fn file_or_nothing<R: Files>(
+pub(crate) fn file_or_nothing<'a, R: Files>(
     rt: &R,
     alloc: Global,
-    name: Option<&str>,
-) -> Result<ByteString, CliFault>
+    option: &'a str,
+    name: Option<&'a str>,
+) -> Result<ByteString, Failure<'a>>
     ensures { name.entry ≡ None → IfOk result (λ bytes. bytes ≡ []) }
 {
     match name {
-        Some(name) => read_file(rt, alloc, name),
+        Some(name) => read_file(rt, alloc, option, name),
         None => Ok(ByteString::new(Vec::new(alloc))),
     }
 }
 
-/// The bytes of a file, to its end or to one byte past the limit of an input.
+/// The bytes of the file that an option names, to its end or to one byte past the limit of an input.
 ///
 /// `Read`: it can't be opened, or a read was refused. `Memory`.
-pub(crate) fn read_file<R: Files>(
+pub(crate) fn read_file<'a, R: Files>(
     rt: &R,
     alloc: Global,
-    name: &str,
-) -> Result<ByteString, CliFault> {
-    let Ok(file) = fs::open(rt, name) else {
-        return Err(CliFault::Read);
+    option: &'a str,
+    name: &'a str,
+) -> Result<ByteString, Failure<'a>> {
+    let source = Source::File { option, name };
+    let file = match fs::open(rt, name) {
+        Ok(file) => file,
+        Err(error) => return Err(Failure::at(CliFault::Read, source, Some(error))),
     };
-    read_input(alloc, &mut Told::new(file))
+    let mut input = Told::new(Heard::new(file));
+    match read_input(alloc, &mut input) {
+        Ok(bytes) => Ok(bytes),
+        Err(fault) => Err(Failure::at(fault, source, input.into_inner().refusal())),
+    }
 }

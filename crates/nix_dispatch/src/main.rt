@@ -6,6 +6,7 @@
 #![tactic(auto)]
 
 mod commands;
+mod failing;
 mod files;
 mod stand_ins;
 mod words;

@@ -3,10 +3,12 @@
 ghost use Rattle.std.specs.Prelude.{map};
 ghost use Rattle.nd_workers.specs.Runs.{AreManned};
 
-use crate::commands::park_options;
+use crate::commands::{park_options, write_failure};
+use crate::failing::{Given, failure, heard, placed};
 use crate::files::file_or_nothing;
 use clap::ArgMatches;
 use nd_cli::CliFault;
+use nd_explain::{Failure, Heard};
 use nd_hook::Told;
 use nd_ledger::Dispatch;
 use nd_run::{RunInputs, run_engine, run_inputs, stand_ins};
@@ -19,14 +21,14 @@ use std::thread::Threads;
 
 /// Runs what is given with a stand-in for each slot of the park, and writes the history, and where asked
 /// the report. Without `--stand` each stand-in says yes to all.
-pub(crate) fn run_stand_ins<R: Files + Input + Print + AllocGlobal + Threads + Wait + Sync>(
+pub(crate) fn run_stand_ins<'a, R: Files + Input + Print + AllocGlobal + Threads + Wait + Sync>(
     rt: &R,
     alloc: Global,
-    options: &ArgMatches,
-) -> Result<u8, CliFault> {
+    options: &ArgMatches<'a>,
+) -> Result<u8, Failure<'a>> {
     let RunInputs { dispatch, rules } = match inputs(rt, alloc, options) {
         Ok(given) => given,
-        Err(fault) => return Err(fault),
+        Err(failure) => return Err(failure),
     };
     let seats = stand_ins(alloc, &dispatch, rules.as_slice());
     drop(rules);
@@ -34,43 +36,52 @@ pub(crate) fn run_stand_ins<R: Files + Input + Print + AllocGlobal + Threads + W
         Ok(seats) => run_seated(rt, alloc, dispatch, seats, options.get_flag("report")),
         Err(fault) => {
             drop(dispatch);
-            Err(fault)
+            Err(placed(options, fault))
         }
     }
 }
 
 /// What is read and accepted: the files that the options name, and then the bundle.
-fn inputs<R: Files + Input + Threads + Sync>(
+fn inputs<'a, R: Files + Input + Threads + Sync>(
     rt: &R,
     alloc: Global,
-    options: &ArgMatches,
-) -> Result<RunInputs, CliFault> {
+    options: &ArgMatches<'a>,
+) -> Result<RunInputs, Failure<'a>> {
     let park = match park_options(rt, alloc, options) {
         Ok(park) => park,
-        Err(fault) => return Err(fault),
+        Err(failure) => return Err(failure),
     };
-    let stand = match file_or_nothing(rt, alloc, options.get_str("stand")) {
+    let stand = match file_or_nothing(rt, alloc, "stand", options.get_str("stand")) {
         Ok(stand) => stand,
-        Err(fault) => {
+        Err(failure) => {
             drop(park);
-            return Err(fault);
+            return Err(failure);
         }
     };
-    let mut input = Told::new(rt.reader());
-    let given = run_inputs(rt, alloc, &park, stand.as_slice(), &mut input);
+    let mut input = Told::new(heard(alloc, options, rt.reader()));
+    let inputs = run_inputs(rt, alloc, &park, stand.as_slice(), &mut input);
+    let given = Given {
+        options,
+        park: &park,
+        other: stand.as_slice(),
+    };
+    let inputs = match inputs {
+        Ok(inputs) => Ok(inputs),
+        Err(fault) => Err(failure(alloc, fault, given, &input.into_inner())),
+    };
     drop(stand);
     drop(park);
-    given
+    inputs
 }
 
 /// A run by these stand-ins.
-fn run_seated<R: Print + AllocGlobal + Threads + Wait + Sync>(
+fn run_seated<'a, R: Print + AllocGlobal + Threads + Wait + Sync>(
     rt: &R,
     alloc: Global,
     dispatch: Dispatch,
     seats: Vec<Seat<Box<StandIn>>>,
     report: bool,
-) -> Result<u8, CliFault>
+) -> Result<u8, Failure<'a>>
     requires { AreManned dispatch.inputs (map (λ w. (w.machine, w.slot)) seats.items) }
 {
     let mut workers = Vec::new(alloc);
@@ -89,13 +100,18 @@ fn run_seated<R: Print + AllocGlobal + Threads + Wait + Sync>(
         if workers.push(worker).is_err() {
             drop(workers);
             drop(dispatch);
-            return Err(CliFault::Memory);
+            return Err(Failure::of(CliFault::Memory));
         }
     }
     let Ok(buffer) = BufWriter::new(alloc, io::writer(rt)) else {
         drop(workers);
         drop(dispatch);
-        return Err(CliFault::Memory);
+        return Err(Failure::of(CliFault::Memory));
     };
-    run_engine(rt, dispatch, workers, report, &mut Told::new(buffer))
+    let mut output = Told::new(Heard::new(buffer));
+    match run_engine(rt, dispatch, workers, report, &mut output) {
+        Ok(status) => Ok(status),
+        Err(CliFault::Write) => Err(write_failure(&output.into_inner())),
+        Err(fault) => Err(Failure::of(fault)),
+    }
 }

@@ -40,7 +40,8 @@ fn path_command<'a>(alloc: Global) -> Result<Command<'a>, AllocError> {
         .action(ArgAction::Set);
     Command::new(alloc, "path")
         .about("Prints the store path of the derivation text on standard input")
-        .arg(name)
+        .arg(name)?
+        .arg(explain_flag(alloc))
 }
 
 fn ask_command<'a>(alloc: Global) -> Result<Command<'a>, AllocError> {
@@ -125,7 +126,16 @@ fn with_park_options<'a>(alloc: Global, command: Command<'a>) -> Result<Command<
         .arg(jobs)?
         .arg(keep_going)?
         .arg(check_paths)?
-        .arg(info)
+        .arg(info)?
+        .arg(explain_flag(alloc))
+}
+
+/// The flag of every command by which a fault is explained.
+fn explain_flag<'a>(alloc: Global) -> Arg<'a> {
+    Arg::new(alloc, "explain")
+        .long("explain")
+        .action(ArgAction::SetTrue)
+        .help("Says behind a fault where it is, what stands there, its cause and its cure")
 }
 
 /// An option with a value, which may be any word.

@@ -9,7 +9,7 @@ pub returns-in-Ok-clause-written : goal.returns-in-Ok-clause-written
 returns-in-Ok-clause-written g c =
     let park = c.args.park.now in
     said_legal c.say_legal.result (premises park.graph park.machines.items park.local park.info c.args.keep_going) c.args.entries.now (length c.args.entries.now)
-    (g.W.Write.contents c.args.output.now.device) (g.W.Write.contents c.say_legal.new.output.device) refl
+    g.W.Write.contents c.args.output.now c.say_legal.new.output refl
     (subst (λ (machines : List Builder). IsLegal (premises park.graph machines park.local park.info c.args.keep_going) (reverse c.args.entries.now)) c.deref.ensures.value c.in-Ok.ensures.legal)
     c.say_legal.ensures.status c.say_legal.ensures.written
 
@@ -17,7 +17,7 @@ pub returns-in-Ok-clause-partly : goal.returns-in-Ok-clause-partly
 returns-in-Ok-clause-partly g c =
     let park = c.args.park.now in
     said_legal_part c.say_legal.result (premises park.graph park.machines.items park.local park.info c.args.keep_going) c.args.entries.now (length c.args.entries.now)
-    (g.W.Write.contents c.args.output.now.device) (g.W.Write.contents c.say_legal.new.output.device) refl
+    g.W.Write.contents c.args.output.now c.say_legal.new.output refl
     (subst (λ (machines : List Builder). IsLegal (premises park.graph machines park.local park.info c.args.keep_going) (reverse c.args.entries.now)) c.deref.ensures.value c.in-Ok.ensures.legal)
     c.say_legal.ensures.partly
 
@@ -35,7 +35,7 @@ returns-in-Err-Illegal-clause-written g c =
     let park = c.args.park.now in
     let refused = rw c.in-Err-Illegal.field-0-is at c.in-Err-Illegal.ensures.refused in
     said_illegal c.say_illegal.result (premises park.graph park.machines.items park.local park.info c.args.keep_going) c.args.entries.now c.in-Err-Illegal.index c.in-Err-Illegal.rule
-    (g.W.Write.contents c.args.output.now.device) (g.W.Write.contents c.say_illegal.new.output.device)
+    g.W.Write.contents c.args.output.now c.say_illegal.new.output
     (subst (λ (machines : List Builder). IsFirstIllegal (premises park.graph machines park.local park.info c.args.keep_going) c.args.entries.now c.in-Err-Illegal.index c.in-Err-Illegal.rule) c.deref.ensures.value refused)
     c.say_illegal.ensures.status c.say_illegal.ensures.written
 
@@ -44,7 +44,7 @@ returns-in-Err-Illegal-clause-partly g c =
     let park = c.args.park.now in
     let refused = rw c.in-Err-Illegal.field-0-is at c.in-Err-Illegal.ensures.refused in
     said_illegal_part c.say_illegal.result (premises park.graph park.machines.items park.local park.info c.args.keep_going) c.args.entries.now c.in-Err-Illegal.index c.in-Err-Illegal.rule
-    (g.W.Write.contents c.args.output.now.device) (g.W.Write.contents c.say_illegal.new.output.device)
+    g.W.Write.contents c.args.output.now c.say_illegal.new.output
     (subst (λ (machines : List Builder). IsFirstIllegal (premises park.graph machines park.local park.info c.args.keep_going) c.args.entries.now c.in-Err-Illegal.index c.in-Err-Illegal.rule) c.deref.ensures.value refused)
     c.say_illegal.ensures.partly
 

@@ -10,20 +10,20 @@ use Rattle.nd_engines.proofs.reading.read_sim_inputs.Goals as goal
 
 pub returns-in-Err-clause-fault : goal.returns-in-Err-clause-fault
 returns-in-Err-clause-fault g c = λ (writer_marked : Bool).
-    sim_unread c.args.options.now c.args.script.now (g.R.Read.remaining c.args.input.now.device) (g.R.Read.remaining c.read_input.new.input.device)
-    c.read_input.new.input.is_marked writer_marked c.in-Err.fault c.in-Err.ensures.fault
+    sim_unread c.args.options.now c.args.script.now g.R.Read.remaining c.args.input.now c.read_input.new.input
+    writer_marked c.in-Err.fault c.in-Err.ensures.fault
 
 pub returns-in-Err-open_dispatch-clause-fault : goal.returns-in-Err-open_dispatch-clause-fault
 returns-in-Err-open_dispatch-clause-fault g c = λ (writer_marked : Bool).
     let same : c.as_slice.result.now ≡ c.in-Ok.text = c.as_slice.ensures in
-    sim_park_refused c.args.options.now c.args.script.now (g.R.Read.remaining c.args.input.now.device) (g.R.Read.remaining c.read_input.new.input.device)
-    c.read_input.new.input.is_marked writer_marked c.in-Ok.text c.in-Err-open_dispatch.fault c.in-Ok.ensures.read
+    sim_park_refused c.args.options.now c.args.script.now g.R.Read.remaining c.args.input.now c.read_input.new.input
+    writer_marked c.in-Ok.text c.in-Err-open_dispatch.fault c.in-Ok.ensures.read
     (subst (λ (t : List ℕ). IsParkFault c.args.options.now t c.in-Err-open_dispatch.fault) same c.in-Err-open_dispatch.ensures.refused)
 
 pub returns-in-Ok-read_script-clause-read : goal.returns-in-Ok-read_script-clause-read
 returns-in-Ok-read_script-clause-read g c =
     let same : c.as_slice.result.now ≡ c.in-Ok.text = c.as_slice.ensures in
-    sim_given c.args.options.now c.args.script.now (g.R.Read.remaining c.args.input.now.device) (g.R.Read.remaining c.read_input.new.input.device)
+    sim_given c.args.options.now c.args.script.now g.R.Read.remaining c.args.input.now c.read_input.new.input
     c.in-Ok.text c.in-Ok-open_dispatch.dispatch c.in-Ok-read_script.commands.items c.in-Ok.ensures.read
     (subst (λ (t : List ℕ). IsOpened c.args.options.now t c.in-Ok-open_dispatch.dispatch) same c.in-Ok-open_dispatch.ensures.opened)
     c.in-Ok-read_script.ensures.read
@@ -31,8 +31,8 @@ returns-in-Ok-read_script-clause-read g c =
 pub returns-clause-fault : goal.returns-clause-fault
 returns-clause-fault g c = λ (writer_marked : Bool).
     let same : c.as_slice.result.now ≡ c.in-Ok.text = c.as_slice.ensures in
-    script_fault c.args.options.now c.args.script.now (g.R.Read.remaining c.args.input.now.device) (g.R.Read.remaining c.read_input.new.input.device)
-    c.read_input.new.input.is_marked writer_marked c.in-Ok.text c.in-Ok-open_dispatch.dispatch c.in-Err-read_script.fault c.in-Ok.ensures.read
+    script_fault c.args.options.now c.args.script.now g.R.Read.remaining c.args.input.now c.read_input.new.input
+    writer_marked c.in-Ok.text c.in-Ok-open_dispatch.dispatch c.in-Err-read_script.fault c.in-Ok.ensures.read
     (subst (λ (t : List ℕ). IsOpened c.args.options.now t c.in-Ok-open_dispatch.dispatch) same c.in-Ok-open_dispatch.ensures.opened)
     c.in-Err-read_script.ensures.refused
 

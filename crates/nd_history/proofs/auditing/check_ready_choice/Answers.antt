@@ -6,12 +6,6 @@ use Rattle.nd_history.proofs.Rules.{judged_worse, judged_remote}
 use Rattle.nd_history.proofs.Slots.{load_within}
 use Rattle.nd_history.proofs.auditing.check_ready_choice.Goals as goal
 
-pub decide_now-requires-clause-fits : goal.decide_now-requires-clause-fits
-decide_now-requires-clause-fits c = λ m.
-    let within : load m (reverse c.args.book.now.entries) ≤ jobs_of (premises_of c.args.inputs.now) m = load_within (premises_of c.args.inputs.now) (reverse c.args.book.now.entries) c.requires.fit.legal m in
-    let small : jobs_of (premises_of c.args.inputs.now) m ≤ 65535 = c.requires.fit.small.jobs m in
-    omega (arith, within, small)
-
 pub returns-then-machine-place : goal.returns-then-machine-place
 returns-then-machine-place c =
     judged_worse (premises_of c.args.inputs.now) (reverse c.args.book.now.entries) c.args.drv c.in-Remote.place c.args.machine c.args.slot

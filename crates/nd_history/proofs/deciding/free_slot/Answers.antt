@@ -1,9 +1,14 @@
-use Rattle.std.proofs.Common.{◌≤◌, reverse, arith}
+use Rattle.std.proofs.Common.{◌<◌, ◌≤◌, reverse, arith, inl, inr}
+use Rattle.std.proofs.lemmas.Bool.{cases_lt}
 use Rattle.nd_history.specs.History.{load}
-use Rattle.nd_history.proofs.Slots.{full}
+use Rattle.nd_history.proofs.Slots.{within_load}
 use Rattle.nd_history.proofs.deciding.free_slot.Goals as goal
 
-pub unreachable-requires : goal.unreachable-requires
-unreachable-requires c =
-    let many : c.args.jobs ≤ load c.args.machine (reverse c.args.book.now.entries) = full (reverse c.args.book.now.entries) c.args.machine c.args.jobs (λ k lt. c.loop-slot.invariant k (omega arith)) in
-    omega (arith, many, c.requires)
+pub overflow_cast-result : goal.overflow_cast-result
+overflow_cast-result c = let lt = within_load (reverse c.args.book.now.entries) c.args.machine c.least_free.result c.least_free.ensures in omega (arith, lt, c.requires.load, c.ranges.jobs)
+
+pub returns : goal.returns
+returns c = record {
+  within = let lt = within_load (reverse c.args.book.now.entries) c.args.machine c.least_free.result c.least_free.ensures in omega (arith, lt, c.requires.load);
+  least = c.least_free.ensures;
+}

@@ -1,4 +1,4 @@
-use Rattle.std.proofs.Common.{◌+◌, ◌<◌, ◌≤◌, length, reverse, arith, refl}
+use Rattle.std.proofs.Common.{◌≡◌, ◌+◌, ◌<◌, ◌≤◌, length, reverse, arith, refl}
 use Rattle.nd_choose.specs.Best.{jobs_at}
 use Rattle.nd_history.specs.Premises.{premises_of}
 use Rattle.nd_history.specs.History.{load}
@@ -7,12 +7,6 @@ use Rattle.nd_history.proofs.Slots.{load_within}
 use Rattle.nd_history.proofs.OneChoice.{remote_best, best_has_room}
 use Rattle.nd_history.proofs.Steps.{step_remote, place_ranged, jobs_read}
 use Rattle.nd_history.proofs.stepping.step_of_ready.Goals as goal
-
-pub decide_now-requires-clause-fits : goal.decide_now-requires-clause-fits
-decide_now-requires-clause-fits c = λ m.
-    let within : load m (reverse c.args.book.now.entries) ≤ jobs_of (premises_of c.args.inputs.now) m = load_within (premises_of c.args.inputs.now) (reverse c.args.book.now.entries) c.requires.fit.legal m in
-    let small : jobs_of (premises_of c.args.inputs.now) m ≤ 65535 = c.requires.fit.small.jobs m in
-    omega (arith, within, small)
 
 pub offset_bounds-as_slice-place : goal.offset_bounds-as_slice-place
 offset_bounds-as_slice-place c =
@@ -47,7 +41,10 @@ free_slot-slot-requires-in-Remote c =
     let is = rw c.as_slice.ensures at c.index-as_slice-place.is in
     let jobs = jobs_read c.args.inputs.now.machines c.in-Remote.place c.index-as_slice-place.result lt is in
     let room : load (c.in-Remote.place + 1) (reverse c.args.book.now.entries) < jobs_at c.args.inputs.now.machines c.in-Remote.place = best_has_room (premises_of c.args.inputs.now) (reverse c.args.book.now.entries) c.args.drv c.in-Remote.place lt best in
-    rw (c.jobs-jobs.ensures.value, ← jobs) room
+    let place : c.in-Remote.place < length c.args.inputs.now.machines = lt in
+    let park : c.args.book.now.machines ≡ length c.args.inputs.now.machines + 1 = c.requires.fit.park in
+    let last : c.in-Remote.place + 1 < c.args.book.now.machines = omega (arith, place, park) in
+    record { park = last; load = rw (c.jobs-jobs.ensures.value, ← jobs) room }
 
 pub returns-in-Remote : goal.returns-in-Remote
 returns-in-Remote c =

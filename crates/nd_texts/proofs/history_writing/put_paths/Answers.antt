@@ -1,20 +1,24 @@
-use Rattle.std.proofs.Common.{◌≡◌, get_or, refl, arith}
-use Rattle.std.proofs.lemmas.Grind.{common_steps}
-use Rattle.nd_texts.proofs.Sent.{nothing}
-use Rattle.nd_texts.proofs.Spelled.{on_err, no_words, word_more, word_part_more}
+use Rattle.std.proofs.Common.{◌≡◌, ℕ, ◌≤◌, List, [], ◌∷◌, length, get_or, refl, arith}
+use Rattle.nd_texts.specs.Lines.{spaced}
+use Rattle.nd_texts.proofs.Sent.{no_text, put_renamed, item_put, item_refused, items_put}
+use Rattle.nd_texts.proofs.Spelled.{paths_spaced}
 use Rattle.nd_texts.proofs.history_writing.put_paths.Goals as goal
 
 pub loop-path-init : goal.loop-path-init
-loop-path-init g c = record { so_far = no_words _ _ _ (nothing _ _ _ refl); mark = refl }
+loop-path-init g c = no_text _ _ _ _ _ refl
 
 pub loop-path-preserved : goal.loop-path-preserved
 loop-path-preserved g c =
-    let is : c.bytes.result.now ≡ get_or c.args.paths.now c.loop-path.path-index c.bytes.result.now = cc (c.path-item.is, c.bytes.ensures.value) in record {
-      so_far = word_more _ _ _ _ _ _ c.args.paths.now c.loop-path.path-index c.bytes.result.now c.loop-path-test.true is c.loop-path.invariant.so_far c.in_ok-put_word.ensures.written;
-      mark = let said = c.in_ok-put_word.ensures.mark in let kept = c.loop-path.invariant.mark in grind (arith, common_steps);
-    }
-
-pub returns-in_err-put_word-clause-partly : goal.returns-in_err-put_word-clause-partly
-returns-in_err-put_word-clause-partly g c =
     let is : c.bytes.result.now ≡ get_or c.args.paths.now c.loop-path.path-index c.bytes.result.now = cc (c.path-item.is, c.bytes.ensures.value) in
-    on_err _ _ (word_part_more _ _ _ _ _ c.args.paths.now c.loop-path.path-index c.bytes.result.now c.loop-path-test.true is c.loop-path.invariant.so_far c.in_err-put_word.ensures.partly)
+    item_put _ (λ (path : List ℕ). spaced (path ∷ [])) _ _ _ _ _ _ c.args.paths.now c.loop-path.path-index _ _ _ c.loop-path-test.true is c.loop-path.invariant c.in_ok-put_word.ensures
+
+pub returns-in_err-put_word : goal.returns-in_err-put_word
+returns-in_err-put_word g c =
+    let is : c.bytes.result.now ≡ get_or c.args.paths.now c.loop-path.path-index c.bytes.result.now = cc (c.path-item.is, c.bytes.ensures.value) in
+    put_renamed _ _ _ _ _ _ _ _ (paths_spaced c.args.paths.now) (item_refused _ (λ (path : List ℕ). spaced (path ∷ [])) _ _ _ _ _ _ c.args.paths.now c.loop-path.path-index _ _ _ _ c.loop-path-test.true is c.from_residual.ensures.0
+    c.loop-path.invariant c.in_err-put_word.ensures)
+
+pub returns : goal.returns
+returns g c =
+    let past : length c.args.paths.now ≤ c.loop-path.path-index = omega arith in
+    put_renamed _ _ _ _ _ _ _ _ (paths_spaced c.args.paths.now) (items_put _ (λ (path : List ℕ). spaced (path ∷ [])) _ _ _ _ c.args.paths.now c.loop-path.path-index _ past c.loop-path.invariant)

@@ -19,9 +19,9 @@ pub returns-clause-quiet : goal.returns-clause-quiet
 returns-clause-quiet g c = rw (← c.requires.opening) c.settle.ensures.quiet
 
 pub returns-clause-calls : goal.returns-clause-calls
-returns-clause-calls g c = λ none.
+returns-clause-calls g c = λ agrees.
     let of : Seat g.row.T.Denot → Seated = seat_of g.T.Transport.state in
-    zip_known_via {S = IsSound c.settle.result.dispatch.history} _ _ _ c.serve_leases-served.ensures.each (c.settle.ensures.sound none) c.settle.ensures.each
+    zip_known_via {S = IsSound c.settle.result.dispatch.history} _ _ _ c.serve_leases-served.ensures.each (c.settle.ensures.sound agrees) c.settle.ensures.each
     (λ w y z p s q. subst (λ (x : Seat g.row.T.Denot). IsServedIn c.settle.result.dispatch.history (of w) (of x) z.1.items) (sym q.0) (served_in c.settle.result.dispatch.history (of w) (of y.seat) y.end y.notes z.1.items s.0 s.1 p q.1))
 
 pub returns-clause-total : goal.returns-clause-total

@@ -1,12 +1,18 @@
 use Rattle.std.proofs.Common.{reverse, refl}
 use Rattle.nd_history.specs.declared.entry.Entry.TheVariants.{Chosen}
 use Rattle.nd_history.specs.Premises.{premises_of}
-use Rattle.nd_ledger.proofs.Boards.{can_follow}
-use Rattle.nd_ledger.proofs.Keeping.{kept_step}
+use Rattle.nd_history.proofs.Boards.{can_follow}
+use Rattle.nd_history.proofs.Following.{may_record}
+use Rattle.nd_ledger.proofs.Keeping.{fit_kept, kept_step}
 use Rattle.nd_ledger.proofs.dispatch.Dispatch.admit_choice.Goals as goal
 
-pub record_step-requires : goal.record_step-requires
-record_step-requires c =
+pub record_step-requires-clause-may : goal.record_step-requires-clause-may
+record_step-requires-clause-may c =
+    let d = c.self.inside in
+    may_record (premises_of d.inputs) d.book (Chosen c.args.drv c.args.machine c.args.slot) (fit_kept d c.self.invariant) c.in_default.ensures
+
+pub record_step-requires-clause-can : goal.record_step-requires-clause-can
+record_step-requires-clause-can c =
     let d = c.self.inside in
     can_follow (premises_of d.inputs) (reverse d.book.entries) d.board (Chosen c.args.drv c.args.machine c.args.slot) c.self.invariant.legal c.self.invariant.marked c.in_default.ensures
 

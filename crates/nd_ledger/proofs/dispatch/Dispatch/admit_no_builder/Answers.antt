@@ -1,12 +1,12 @@
 use Rattle.std.proofs.Common.{reverse, refl}
 use Rattle.nd_history.specs.declared.entry.Entry.TheVariants.{NoBuilder}
 use Rattle.nd_history.specs.Premises.{premises_of}
-use Rattle.nd_ledger.proofs.Boards.{can_follow}
+use Rattle.nd_history.proofs.Boards.{can_follow}
 use Rattle.nd_ledger.proofs.Keeping.{kept_step}
 use Rattle.nd_ledger.proofs.dispatch.Dispatch.admit_no_builder.Goals as goal
 
-pub record_step-requires : goal.record_step-requires
-record_step-requires c =
+pub record_step-requires-clause-can : goal.record_step-requires-clause-can
+record_step-requires-clause-can c =
     let d = c.self.inside in
     can_follow (premises_of d.inputs) (reverse d.book.entries) d.board (NoBuilder c.args.drv) c.self.invariant.legal c.self.invariant.marked c.in_default.ensures
 

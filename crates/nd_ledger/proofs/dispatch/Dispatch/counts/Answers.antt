@@ -3,7 +3,7 @@ use Rattle.nd_history.specs.Premises.{premises_of}
 use Rattle.nd_history.specs.Standing.{drvs_in}
 use Rattle.nd_history.specs.Statuses.{AreCountsIn}
 use Rattle.nd_ledger.specs.Worlds.{World}
-use Rattle.nd_ledger.proofs.Boards.{counts_said}
+use Rattle.nd_history.proofs.Boards.{counts_said}
 use Rattle.nd_ledger.proofs.dispatch.Dispatch.counts.Goals as goal
 
 pub returns-clause-drvs : goal.returns-clause-drvs

@@ -3,7 +3,7 @@ use Rattle.nd_history.specs.Premises.{premises_of}
 use Rattle.nd_history.specs.Statuses.{IsFinished}
 use Rattle.nd_history.proofs.Tallies.{told_waiting, told_leased}
 use Rattle.nd_ledger.specs.Worlds.{World}
-use Rattle.nd_ledger.proofs.Boards.{counts_said}
+use Rattle.nd_history.proofs.Boards.{counts_said}
 use Rattle.nd_ledger.proofs.dispatch.Dispatch.finished.Goals as goal
 
 pub returns-then-counts-gt0 : goal.returns-then-counts-gt0

@@ -7,8 +7,8 @@ use Rattle.nd_history.specs.Legal.{IsLegal}
 use Rattle.nd_ledger.specs.Inner.{room_for}
 use Rattle.nd_stores.specs.Stored.{AreStored}
 use Rattle.nd_failure.specs.Progress.{Progress}
-use Rattle.nd_ledger.specs.Marks.{AreMarked}
-use Rattle.nd_ledger.proofs.Marking.{marked_first}
+use Rattle.nd_history.specs.Marks.{AreMarked}
+use Rattle.nd_history.proofs.Marking.{marked_first}
 use Rattle.nd_ledger.proofs.Tickets.{small_park}
 use Rattle.nd_ledger.proofs.dispatch.Dispatch.new.Goals as goal
 

@@ -2,11 +2,11 @@ use Rattle.std.proofs.Common.{reverse, ap, ◌∙◌, subst}
 use Rattle.nd_ledger.specs.Worlds.{World}
 use Rattle.nd_history.specs.Premises.{Premises, premises_of}
 use Rattle.nd_history.specs.Pumping.{IsPumpStep}
-use Rattle.nd_history.proofs.Following.{newest_first}
-use Rattle.nd_ledger.proofs.Keeping.{kept_step, step_quiet}
+use Rattle.nd_history.proofs.Following.{newest_first, may_record}
+use Rattle.nd_ledger.proofs.Keeping.{fit_kept, kept_step, step_quiet}
 use Rattle.nd_history.proofs.Resting.{waits_for_leases}
 use Rattle.nd_history.proofs.Steps.{pumped_more, pump_smaller, pump_counted}
-use Rattle.nd_ledger.proofs.Boards.{can_follow}
+use Rattle.nd_history.proofs.Boards.{can_follow}
 use Rattle.nd_ledger.proofs.dispatch.Dispatch.pump.Goals as goal
 
 pub loop-step-preserved : goal.loop-step-preserved
@@ -44,8 +44,13 @@ returns-clause-idle c =
     let d = c.loop-step.self-inside in
     waits_for_leases (premises_of d.inputs) (reverse d.book.entries) c.order-order.result.now c.loop-step.invariant.kept.sound.ranged c.order-order.ensures.fall c.in_default.ensures
 
-pub record_step-requires : goal.record_step-requires
-record_step-requires c =
+pub record_step-requires-clause-may : goal.record_step-requires-clause-may
+record_step-requires-clause-may c =
+    let d = c.loop-step.self-inside in
+    may_record (premises_of d.inputs) d.book c.in-Some.step (fit_kept d c.loop-step.invariant.kept) c.in-Some.ensures.step.allowed
+
+pub record_step-requires-clause-can : goal.record_step-requires-clause-can
+record_step-requires-clause-can c =
     let d = c.loop-step.self-inside in
     let kept = c.loop-step.invariant.kept in
     can_follow (premises_of d.inputs) (reverse d.book.entries) d.board c.in-Some.step kept.legal kept.marked c.in-Some.ensures.step.allowed

@@ -3,7 +3,7 @@ use Rattle.nd_history.specs.Premises.{premises_of}
 use Rattle.nd_history.specs.Standing.{drvs_in}
 use Rattle.nd_history.specs.Statuses.{HasStatusIn}
 use Rattle.nd_ledger.specs.Worlds.{World}
-use Rattle.nd_ledger.proofs.Boards.{status_said}
+use Rattle.nd_history.proofs.Boards.{status_said}
 use Rattle.nd_ledger.proofs.dispatch.Dispatch.status.Goals as goal
 
 pub returns : goal.returns

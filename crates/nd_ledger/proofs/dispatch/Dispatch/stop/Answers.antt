@@ -1,4 +1,4 @@
-use Rattle.std.proofs.Common.{rules, ◌≡◌, reverse, false, subst}
+use Rattle.std.proofs.Common.{◌≡◌, reverse, false, sym, ◌∙◌, subst}
 use Rattle.nd_history.specs.History.{has_stop}
 use Rattle.nd_ledger.proofs.Keeping.{kept_stop}
 use Rattle.nd_history.specs.Legal.{IsAllowed}
@@ -8,12 +8,12 @@ use Rattle.nd_ledger.proofs.dispatch.Dispatch.stop.Goals as goal
 
 pub invariant_of-self : goal.invariant_of-self
 invariant_of-self c =
-    let none : has_stop (reverse c.self.inside.book.entries) ≡ false = search rules in
+    let none : has_stop (reverse c.self.inside.book.entries) ≡ false = sym c.self.invariant.marked.stop ∙ sym c.has_stop.ensures ∙ c.if-has_stop.false in
     let r = c.enter.ensures in
     kept_stop c.self.inside c.enter.new.book c.enter.new.board (record { entries = r.entries; room = r.room; drvs = r.drvs; machines = r.machines; board = r.board }) c.self.invariant none
 
 pub returns-clause-allowed : goal.returns-clause-allowed
 returns-clause-allowed c =
-    let none : has_stop (reverse c.self.inside.book.entries) ≡ false = search rules in
+    let none : has_stop (reverse c.self.inside.book.entries) ≡ false = sym c.self.invariant.marked.stop ∙ sym c.has_stop.ensures ∙ c.if-has_stop.false in
     let P = λ (w : World). IsAllowed w.inputs Stop (reverse w.history) in
     subst P c.self.view_is (record { ranged = tt; may = none })

@@ -1,0 +1,131 @@
+#!/bin/sh
+# Provokes each refusal that the command line can bring about, and shows what `--explain` says of it. Each
+# fault's line and status have to be the same with the option and without it, nothing may be written on
+# standard output, and the cause and the cure have to be those of its row in the table "Refusals" of README.md,
+# of which every row has to come up but those that a command line can't bring about.
+set -eu
+cd "$(dirname "$0")/.."
+program=crates/nix_dispatch/out/nix_dispatch
+folder=$(mktemp -d)
+trap 'rm -rf "$folder"' EXIT
+INPUT=
+: > "$folder/seen"
+
+fail() {
+  echo "explain: $*"
+  exit 1
+}
+
+# The cell of a row of the table, its cells counted from 1.
+cell() {
+  awk -F ' [|] ' -v row="| \`$1\`" -v at="$2" '$1 == row { sub(/ [|]$/, "", $at); print $at }' README.md
+}
+
+# refused LINE STATUS WHERE COMMAND WORD ..: over the input $folder/in, or the file of INPUT.
+refused() {
+  line=$1 status=$2 where=$3 command=$4
+  shift 4
+  for option in '' --explain; do
+    got=0
+    "$program" "$command" $option "$@" < "${INPUT:-$folder/in}" > "$folder/out" 2> "$folder/said$option" || got=$?
+    [ "$got" -eq "$status" ] || fail "$line: the status is $got"
+    [ ! -s "$folder/out" ] || fail "$line: something is written"
+  done
+  explained "$line" "$where"
+}
+
+# What was said with the option and without it, in $folder/said and $folder/said--explain.
+explained() {
+  [ "$(cat "$folder/said")" = "nix-dispatch: $1" ] || fail "$1: $(cat "$folder/said")"
+  [ "$(head -n 1 "$folder/said--explain")" = "nix-dispatch: $1" ] || fail "$1: $(cat "$folder/said--explain")"
+  cat "$folder/said--explain"
+  echo
+  row=$(printf '%s' "$1" | sed 's/ [0-9]*$/ N/; s/^[a-z]*: TooLarge$/INPUT: TooLarge/')
+  printf '%s\n' "$row" >> "$folder/seen"
+  [ -n "$(cell "$row" 3)" ] || fail "$row: no row in README.md"
+  grep -qxF "where: $2" "$folder/said--explain" || fail "$1: not at $2"
+  grep -qxF "cause: $(cell "$row" 3)" "$folder/said--explain" || fail "$row: another cause in README.md"
+  grep -qxF "cure: $(cell "$row" 4)" "$folder/said--explain" || fail "$row: another cure in README.md"
+}
+
+# A line of a bundle: the digit of its digest and its output's, its name, its inputs, its environment.
+line() {
+  digest=$(printf "%032d" 0 | tr 0 "$1")
+  printf '%s' "/nix/store/$digest-$2.drv Derive([(\"out\",\"${5-/nix/store/$digest-$2}\",\"\",\"\")],[$3],[],\"x86_64-linux\",\"/bin/sh\",[],[$4])"
+}
+on() {
+  digest=$(printf "%032d" 0 | tr 0 "$1")
+  printf '%s' "(\"/nix/store/$digest-$2.drv\",[\"$3\"])"
+}
+bundle() { printf '%s\n' "$@" > "$folder/in"; }
+good=$(line 0 n0 '' '')
+
+# The bundle.
+bundle "$good" 'no-space-here	and a tab'
+sed -i '2s/ //g' "$folder/in"
+refused 'drvs: BadLine 2' 3 'standard input, line 2' ask
+bundle "/tmp/n0.drv Derive()"
+refused 'drvs: BadPath 1' 3 'standard input, line 1' ask
+bundle "$good." "$good"
+refused 'drvs: BadDerivation 1' 3 'standard input, line 1' ask
+bundle "$(line 0 n0 '' '' '')"
+refused 'drvs: UnknownOutput 1' 3 'standard input, line 1' ask
+bundle "$(line 0 n0 '' '("__json","[]")')"
+refused 'drvs: BadAttribute 1' 3 'standard input, line 1' ask
+bundle "$good"
+refused 'drvs: WrongPath 1' 3 'standard input, line 1' ask --check-paths
+bundle "$good" "$good"
+refused 'drvs: Duplicate 2' 3 'standard input, line 2' ask
+bundle "$(line 1 n1 "$(on 0 n0 out)" '')"
+refused 'drvs: MissingInput 1' 3 'standard input, line 1' ask
+bundle "$good" "$(line 1 n1 "$(on 0 n0 dev)" '')"
+refused 'drvs: MissingOutput 2' 3 'standard input, line 2' ask
+bundle "$(line 0 n0 "$(on 0 n0 out)" '')"
+refused 'drvs: Cycle' 3 'standard input' ask
+awk 'BEGIN { for (i = 0; i <= 65536; i++) printf "/nix/store/%032d-n.drv Derive([],[],[],\"s\",\"b\",[],[])\n", i }' > "$folder/in"
+refused 'drvs: TooMany' 3 'standard input' ask
+head -c 67108865 /dev/zero > "$folder/in"
+refused 'drvs: TooLarge' 3 'standard input' ask
+
+# The other inputs.
+bundle "$good"
+refused 'builders: Uri 2' 3 '--builders, entry 2' ask --builders 'a;;- x86_64-linux'
+printf 'a # ; b\n\n;c - - many;d\n' > "$folder/builders"
+refused 'builders: Jobs 2' 3 "--builders, file $folder/builders, entry 2" ask --builders "@$folder/builders"
+refused 'builders: Speed 1' 3 '--builders, entry 1' ask --builders 'a - - 1 0'
+refused 'builders: Include 1' 3 '--builders, entry 1' ask --builders ' @/etc/nix/more'
+awk 'BEGIN { for (i = 0; i < 1025; i++) print "host" i }' > "$folder/builders"
+refused 'builders: TooMany 1025' 3 "--builders, file $folder/builders, entry 1025" ask --builders "@$folder/builders"
+refused 'builders: TooManySlots' 3 '--builders' run --builders 'a - - 1024'
+printf '/nix/store/%032d-s\nsource\n' 0 > "$folder/info"
+refused 'info: BadLine 2' 3 "--info, file $folder/info, line 2" ask --info "$folder/info"
+printf 'start 0\nbuild 0\n' > "$folder/script"
+refused 'script: BadLine 2' 3 "--script, file $folder/script, line 2" sim --script "$folder/script"
+printf 'lose 1\n' > "$folder/stand"
+refused 'stand: BadLine 1' 3 "--stand, file $folder/stand, line 1" run --stand "$folder/stand"
+printf 'chosen 0 0 0\n' > "$folder/history"
+refused 'history: Version' 3 "--history, file $folder/history, line 1" audit --history "$folder/history"
+printf 'nix-dispatch-history 1\nchosen 0 0 0' > "$folder/history"
+refused 'history: BadLine 2' 3 "--history, file $folder/history, line 2" audit --history "$folder/history"
+printf 'Derive()\303\244' > "$folder/in"
+refused 'derivation: BadPath' 3 'NAME' path hello
+refused 'derivation: BadDerivation' 3 'standard input' path hello.drv
+
+# The devices.
+bundle "$good"
+refused 'read failed' 5 '--script, file /nowhere' sim --script /nowhere
+INPUT=/
+refused 'read failed' 5 'standard input' ask
+INPUT=
+for option in '' --explain; do
+  got=0
+  "$program" ask $option < "$folder/in" > /dev/full 2> "$folder/said$option" || got=$?
+  [ "$got" -eq 5 ] || fail "write failed: the status is $got"
+done
+explained 'write failed' 'standard output'
+
+# Those that come up for want of memory or of threads, and the one that no run brings about.
+printf '%s\n' 'out of memory' 'thread not started' 'receipts differ' >> "$folder/seen"
+sed -n '/^## Refusals/,/^## /s/^| `\([^`]*\)` .*/\1/p' README.md | sort > "$folder/rows"
+sort -u "$folder/seen" | cmp - "$folder/rows" || fail 'README.md has other rows'
+echo "explain: $(wc -l < "$folder/rows") rows, each with the words of README.md"

@@ -1,0 +1,24 @@
+//! What `--explain` says of a fault: where it is, what stands there, what the system said, and what
+//! the rule wants.
+#![tactic(auto)]
+
+pub mod causes;
+pub mod cures;
+pub mod excerpts;
+pub mod failures;
+pub mod hearing;
+pub mod parts;
+pub mod pieces;
+pub mod sources;
+
+pub use causes::cause_of;
+pub use cures::cure_of;
+pub use excerpts::excerpt;
+pub use failures::Failure;
+pub use hearing::Heard;
+pub use parts::{Part, part_of, place_of};
+pub use pieces::{entry_of, line_of, piece_of};
+pub use sources::Source;
+
+#[cfg(test)]
+mod tests;

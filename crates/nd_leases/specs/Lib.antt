@@ -1,0 +1,4 @@
+pub mod Rows
+pub mod Tickets
+pub mod Tables
+pub mod Whole

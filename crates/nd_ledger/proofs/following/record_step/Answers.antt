@@ -1,0 +1,5 @@
+use Rattle.nd_history.proofs.Following.{same_may}
+use Rattle.nd_ledger.proofs.following.record_step.Goals as goal
+
+pub make_slot-requires : goal.make_slot-requires
+make_slot-requires c = same_may c.args.book.now c.make_room.new.self c.args.step c.in_ok-make_room.ensures.entries c.in_ok-make_room.ensures.drvs c.in_ok-make_room.ensures.machines c.requires.may

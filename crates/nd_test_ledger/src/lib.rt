@@ -1,0 +1,18 @@
+//! Tests of the dispatch by its calls: what a start wants, copies, and what a call that was refused for
+//! want of memory leaves; and of the texts of histories and reports.
+#![tactic(auto)]
+
+#[cfg(test)]
+mod calls;
+#[cfg(test)]
+mod copies;
+#[cfg(test)]
+mod devices;
+#[cfg(test)]
+mod refusing;
+#[cfg(test)]
+mod replaying;
+#[cfg(test)]
+mod reports;
+#[cfg(test)]
+mod texts;

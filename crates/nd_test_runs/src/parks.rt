@@ -1,0 +1,89 @@
+//! The dispatches of the examples, and their workers.
+
+use nd_ledger::Dispatch;
+use nd_test_fixtures::parks::{builders_alone, close, dispatch_of};
+use nd_workers::run_end::{NotRun, Ran};
+use nd_workers::running::run_with;
+use nd_workers::{Rule, Seat, StandIn, Transport};
+use std::alloc::Global;
+use std::sync::Wait;
+use std::thread::Threads;
+
+/// A dispatch over this bundle and these builders alone, or none where memory is wanting.
+pub(crate) fn dispatch(alloc: Global, bundle: &str, builders: &str) -> Option<Dispatch> {
+    match dispatch_of(alloc, &builders_alone(bundle, builders)) {
+        Ok(dispatch) => Some(dispatch),
+        Err(_) => None,
+    }
+}
+
+/// A worker with a stand-in that follows this rule and, where there is a fuse, lets so many calls pass.
+pub(crate) fn stand_at(
+    alloc: Global,
+    machine: u32,
+    slot: u32,
+    rule: Rule,
+    passes: Option<u32>,
+) -> Option<Seat<StandIn>> {
+    let mut rules = Vec::new(alloc);
+    rules.push(rule).ok()?;
+    let mut transport = StandIn::new(machine, rules);
+    if let Some(passes) = passes {
+        transport.fuse(passes);
+    }
+    Some(Seat {
+        machine,
+        slot,
+        transport,
+    })
+}
+
+/// So many workers on the slots of machine 1; fewer where memory is wanting.
+pub(crate) fn stands(alloc: Global, count: u32) -> Vec<Seat<StandIn>> {
+    let mut seats = Vec::new(alloc);
+    for slot in 0..count {
+        push_stand(&mut seats, slot, StandIn::new(1, Vec::new(alloc)));
+    }
+    seats
+}
+
+/// Puts a worker on this slot of machine 1.
+fn push_stand(seats: &mut Vec<Seat<StandIn>>, slot: u32, transport: StandIn) -> bool {
+    seats
+        .push(Seat {
+            machine: 1,
+            slot,
+            transport,
+        })
+        .is_ok()
+}
+
+/// Runs a dispatch. No test asks for what the run promises, so that this alone is proved beside it.
+pub(crate) fn ran<T: Transport, R: Threads + Wait + Sync>(
+    rt: &R,
+    opened: Dispatch,
+    seats: Vec<Seat<T>>,
+) -> Result<Ran<T>, NotRun<T>> {
+    run_with(rt, opened, seats)
+}
+
+/// Lets go of what came back of a run.
+pub(crate) fn close_run(end: Ran<StandIn>) {
+    let Ran {
+        dispatch,
+        workers: _,
+        receipts: _,
+        fault: _,
+    } = end;
+    close(dispatch);
+}
+
+/// Lets go of what a refused run handed back.
+pub(crate) fn close_refused(refused: NotRun<StandIn>) {
+    let NotRun {
+        why: _,
+        dispatch,
+        workers: _,
+    } = refused;
+    close(dispatch);
+}
