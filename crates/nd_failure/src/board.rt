@@ -6,10 +6,10 @@ ghost use Rattle.nd_graph.specs.Graphs.{rows_of};
 ghost use Rattle.nd_failure.specs.Statuses.{HasStatus, CanFail, AreCounts, IsNextReady, total_of};
 
 use crate::edges::Edges;
-use nd_flags::NodeSet;
 use crate::spread::spread;
 use crate::status::{Counts, Mark, Status};
 use crate::unbuilt::{UnbuiltInputs, wake};
+use nd_flags::NodeSet;
 use nd_graph::Graph;
 use std::alloc::{AllocError, Global};
 use std::marker::Model;

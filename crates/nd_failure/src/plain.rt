@@ -8,8 +8,8 @@ ghost use Rattle.nd_failure.specs.Plain.{HasFailedInput, AreBuilt, AreSound};
 ghost use Rattle.nd_failure.specs.Kept.{AreDoomed};
 
 use crate::edges::Rows;
-use nd_flags::NodeSet;
 use crate::status::{Counts, Mark, Status};
+use nd_flags::NodeSet;
 use nd_graph::Graph;
 use std::alloc::{AllocError, Global};
 use std::marker::Model;

@@ -17,22 +17,22 @@ least_of groups places lists flags ready g k sized seated flagged first =
     record {
       ready = record { group = seated.group g k within; ready = sym (flagged.same g k within) ∙ first.member };
       least = λ d before is_ready.
-        let node : d < length groups = subst (λ (n : ℕ). d < n) sized (IsMember-within ready d is_ready.ready) in
-        let seat = seated.seat d node in
-        let p = place_in places d in
-        let here : p < length (list_of lists g) = subst (λ (h : ℕ). p < length (list_of lists h)) is_ready.group seat.place in
-        let there : drv_at lists g p ≡ d = subst (λ (h : ℕ). drv_at lists h p ≡ d) is_ready.group seat.there in
-        let up : IsMember (flags_of flags g) p = flagged.same g p here ∙ ap (λ (e : ℕ). get_or ready e false) there ∙ is_ready.ready in
-        elim (cases_lt p k) [
-          | inl less ↦ first.least p (omega arith) less up
-          | inr from_on ↦ elim (cases_lt k p) [
-            | inl more ↦ let rises = seated.rising g k p more here in omega (arith, rises, there, before)
-            | inr up_to ↦
-                let one : k ≡ p = omega arith in
-                let is : drv_at lists g k ≡ d = ap (λ (q : ℕ). drv_at lists g q) one ∙ there in
-                omega (arith, is, before)
-          ]
-        ];
+          let node : d < length groups = subst (λ (n : ℕ). d < n) sized (IsMember-within ready d is_ready.ready) in
+          let seat = seated.seat d node in
+          let p = place_in places d in
+          let here : p < length (list_of lists g) = subst (λ (h : ℕ). p < length (list_of lists h)) is_ready.group seat.place in
+          let there : drv_at lists g p ≡ d = subst (λ (h : ℕ). drv_at lists h p ≡ d) is_ready.group seat.there in
+          let up : IsMember (flags_of flags g) p = flagged.same g p here ∙ ap (λ (e : ℕ). get_or ready e false) there ∙ is_ready.ready in
+          elim (cases_lt p k) [
+            | inl less ↦ first.least p (omega arith) less up
+            | inr from_on ↦ elim (cases_lt k p) [
+              | inl more ↦ let rises = seated.rising g k p more here in omega (arith, rises, there, before)
+              | inr up_to ↦
+                  let one : k ≡ p = omega arith in
+                  let is : drv_at lists g k ≡ d = ap (λ (q : ℕ). drv_at lists g q) one ∙ there in
+                  omega (arith, is, before)
+            ]
+          ];
     }
 
 -- the lists with one more derivation at the end of that of group h
@@ -60,12 +60,14 @@ stays : (lists new : List (List ℕ)) (h n g k : ℕ) → Grows lists new h n �
     → (k < length (list_of new g)) × (drv_at new g k ≡ drv_at lists g k)
 stays lists new h n g k grows within = elim (cases_eq g h) [
   | inl same ↦
-      let before : k < length (list_of lists h) = subst (λ (j : ℕ). k < length (list_of lists j)) same within in
-      ( subst (λ (j : ℕ). k < length (list_of new j)) (sym same) (omega (arith, before, grows.longer))
-      , subst (λ (j : ℕ). drv_at new j k ≡ drv_at lists j k) (sym same) (grows.front k before) )
-  | inr apart ↦
-      ( subst (λ (xs : List ℕ). k < length xs) (sym (grows.other g apart)) within
-      , ap (λ (xs : List ℕ). get_or xs k 0) (grows.other g apart) )
+      let before : k < length (list_of lists h) = subst (λ (j : ℕ). k < length (list_of lists j)) same within in (
+        subst (λ (j : ℕ). k < length (list_of new j)) (sym same) (omega (arith, before, grows.longer)),
+        subst (λ (j : ℕ). drv_at new j k ≡ drv_at lists j k) (sym same) (grows.front k before),
+      )
+  | inr apart ↦ (
+    subst (λ (xs : List ℕ). k < length xs) (sym (grows.other g apart)) within,
+    ap (λ (xs : List ℕ). get_or xs k 0) (grows.other g apart),
+  )
 ]
 
 -- what stands in a list stood there before, or is the new one at its end
@@ -76,16 +78,18 @@ split lists new h n g k grows within = elim (cases_eq g h) [
   | inl same ↦
       let here : k < length (list_of new h) = subst (λ (j : ℕ). k < length (list_of new j)) same within in
       elim (cases_lt k (length (list_of lists h))) [
-        | inl before ↦ inl
-            ( subst (λ (j : ℕ). k < length (list_of lists j)) (sym same) before
-            , subst (λ (j : ℕ). drv_at new j k ≡ drv_at lists j k) (sym same) (grows.front k before) )
+        | inl before ↦ inl (
+          subst (λ (j : ℕ). k < length (list_of lists j)) (sym same) before,
+          subst (λ (j : ℕ). drv_at new j k ≡ drv_at lists j k) (sym same) (grows.front k before),
+        )
         | inr from_on ↦
             let last : k ≡ length (list_of lists h) = omega (arith, here, grows.longer) in
             inr (same, last, subst (λ (j : ℕ). drv_at new j k ≡ n) (sym same) (ap (λ (i : ℕ). drv_at new h i) last ∙ grows.back))
       ]
-  | inr apart ↦ inl
-      ( subst (λ (xs : List ℕ). k < length xs) (grows.other g apart) within
-      , ap (λ (xs : List ℕ). get_or xs k 0) (grows.other g apart) )
+  | inr apart ↦ inl (
+    subst (λ (xs : List ℕ). k < length xs) (grows.other g apart) within,
+    ap (λ (xs : List ℕ). get_or xs k 0) (grows.other g apart),
+  )
 ]
 
 -- one more derivation stands at the end of its group's list
@@ -98,9 +102,9 @@ seated_more n groups places new_places lists new sized within places_are lists_a
     let h : ℕ = group_in groups n in
     let grows = grown lists new h n within lists_are in
     let placed : (d : ℕ) → d < n → place_in new_places d ≡ place_in places d = λ d before.
-        ap (λ (xs : List ℕ). place_in xs d) places_are ∙ get_or_append_left places (length (list_of lists h) ∷ []) 0 d (omega (arith, sized, before)) in
+    ap (λ (xs : List ℕ). place_in xs d) places_are ∙ get_or_append_left places (length (list_of lists h) ∷ []) 0 d (omega (arith, sized, before)) in
     let last : place_in new_places n ≡ length (list_of lists h) =
-        ap (λ (xs : List ℕ). place_in xs n) places_are ∙ get_or_push places (length (list_of lists h)) 0 n sized in
+    ap (λ (xs : List ℕ). place_in xs n) places_are ∙ get_or_push places (length (list_of lists h)) 0 n sized in
     record {
       seat = λ d in_range. elim (cases_lt d n) [
         | inl before ↦
@@ -137,7 +141,7 @@ seated_more n groups places new_places lists new sized within places_are lists_a
             omega (arith, earlier.1, stood.1, old.rising g j k less stood.0)
         | inr added ↦
             let before : j < length (list_of lists g) =
-                subst (λ (i : ℕ). j < length (list_of lists i)) (sym added.0) (omega (arith, less, added.1)) in
+            subst (λ (i : ℕ). j < length (list_of lists i)) (sym added.0) (omega (arith, less, added.1)) in
             let earlier = stays lists new h n g j grows before in
             omega (arith, earlier.1, added.2, old.node g j before)
       ];

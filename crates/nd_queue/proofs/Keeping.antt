@@ -29,10 +29,10 @@ pub kept_removed : (q : Inside) (r : Readied) (h : List Bool) (d f : ℕ) → d 
 kept_removed q r h d f node is_put first is_flagged kept =
     let after : Readied = record q.grouped { ready = set q.grouped.ready d false } in
     let found : IsFirstReadyIn after (group_in q.grouped.groups d) (Some f) =
-        subst (λ (r : Readied). IsFirstReadyIn r (group_in q.grouped.groups d) (Some f)) is_put first in
+    subst (λ (r : Readied). IsFirstReadyIn r (group_in q.grouped.groups d) (Some f)) is_put first in
     let in_ready : d < length q.grouped.ready = omega (arith, kept.ready, node) in
     let in_heads : f < length (set q.heads d false) =
-        omega (arith, IsMember-within after.ready f found.ready.ready, length-set q.grouped.ready d false, length-set q.heads d false, kept.ready, kept.sized) in
+    omega (arith, IsMember-within after.ready f found.ready.ready, length-set q.grouped.ready d false, length-set q.heads d false, kept.ready, kept.sized) in
     subst (λ (r : Readied). IsKept (record q { grouped = r; heads = h })) (sym is_put)
     (subst (λ (h : List Bool). IsKept (record q { grouped = after; heads = h })) (sym is_flagged)
     (record {
@@ -50,7 +50,7 @@ pub kept_emptied : (q : Inside) (r : Readied) (h : List Bool) (d : ℕ) → d < 
 kept_emptied q r h d node is_put none is_flagged kept =
     let after : Readied = record q.grouped { ready = set q.grouped.ready d false } in
     let found : IsFirstReadyIn after (group_in q.grouped.groups d) None =
-        subst (λ (r : Readied). IsFirstReadyIn r (group_in q.grouped.groups d) None) is_put none in
+    subst (λ (r : Readied). IsFirstReadyIn r (group_in q.grouped.groups d) None) is_put none in
     let in_ready : d < length q.grouped.ready = omega (arith, kept.ready, node) in
     subst (λ (r : Readied). IsKept (record q { grouped = r; heads = h })) (sym is_put)
     (subst (λ (h : List Bool). IsKept (record q { grouped = after; heads = h })) (sym is_flagged)
@@ -74,7 +74,7 @@ kept_woken q p h g f is_woken first is_flagged kept =
       sized = length-set q.heads f true ∙ kept.sized;
       headed = subst (λ (xs : List Bool). AreHeaded (record (queued q) { parked = xs }) (set q.heads f true)) (sym is_woken)
           (flagged_more (record (queued q) { parked = set q.parked.items g false }) q.heads q.grouped.count g f in_heads first
-            (woken_others (queued q) q.heads g kept.headed));
+          (woken_others (queued q) q.heads g kept.headed));
     })
 
 pub kept_searched : (q : Inside) (h : List Bool) (d : ℕ) → (IsDue (queued q) d → ⊥) → h ≡ set q.heads d false

@@ -5,7 +5,7 @@ use std::alloc::{AllocError, Global};
 use std::marker::Model;
 
 /// A list of numbers.
-#[derive(Drop, Debug, Clone)]
+#[derive(Drop, Debug)]
 struct Numbers {
     items: Vec<usize>,
 }
@@ -19,7 +19,7 @@ impl Model for Numbers {
 }
 
 /// A list of numbers for each group.
-#[derive(Drop, Debug, Clone)]
+#[derive(Drop, Debug)]
 pub(crate) struct Lists {
     lists: Vec<Numbers>,
 }
@@ -60,12 +60,5 @@ impl Lists {
     {
         self.lists[group].items.push(number)?;
         Ok(())
-    }
-
-    /// Equal lists.
-    pub(crate) fn try_clone(&self) -> Result<Lists, AllocError>
-        ensures { IfOk result (λ copy. copy ≡ self.now) }
-    {
-        self.clone()
     }
 }

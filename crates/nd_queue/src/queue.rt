@@ -10,7 +10,7 @@ use std::marker::Model;
 
 /// The derivations that are ready, by group, and which groups are parked. The first derivation that is
 /// ready and of no parked group is found without a walk over the others: a parked group is passed over
-/// as a whole. Only `new` and `try_clone` take memory.
+/// as a whole. Only `new` takes memory.
 ///
 /// A flag stands at the least ready derivation of each group that isn't parked, and it may stand at
 /// others, from which it is taken once they come up.

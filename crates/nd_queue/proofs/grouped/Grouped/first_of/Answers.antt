@@ -14,7 +14,7 @@ returns c =
     let known : g < length b.lists = subst (λ (r : Readied). g < r.count) (sym c.self.view_is) c.requires in
     let within : g < length b.flags.items = omega (arith, known, c.self.invariant.flagged.groups) in
     let first = subst (λ (row : List Bool). IsLeastFrom row 0 place)
-        (c.index.ensures ∙ get_or_default b.flags.items g c.index.result.now [] within) c.in_ok-place.ensures in
+    (c.index.ensures ∙ get_or_default b.flags.items g c.index.result.now [] within) c.in_ok-place.ensures in
     subst (λ (r : Readied). IsLeastReady r g (slice_index_or c.list.result.now place 0)) c.self.view_is
     (subst (λ (xs : List ℕ). IsLeastReady (readied b) g (slice_index_or xs place 0)) (sym c.list.ensures)
     (least_of b.groups.items b.places.items b.lists b.flags.items b.ready.items g place c.self.invariant.sized c.self.invariant.seated c.self.invariant.flagged first))

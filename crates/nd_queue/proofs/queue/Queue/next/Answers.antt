@@ -14,7 +14,7 @@ loop-drv-preserved c =
     let d = c.in-Some.drv in
     let within : d < length q.heads = IsMember-within q.heads d c.in-Some.ensures.member in
     let told = subst (λ (xs : List Bool). IsTrue c.is_due.result ↔ IsDue (record { groups = q.grouped.groups; ready = q.grouped.ready; parked = xs }) d)
-        c.as_slice.ensures.value c.is_due.ensures in
+    c.as_slice.ensures.value c.is_due.ensures in
     let stale : IsDue (queued q) d → ⊥ = λ due. false≢true (sym c.if-is_due.false ∙ told.1 due) in
     record {
       kept = kept_searched q c.remove.new.self d stale c.remove.ensures c.loop-drv.invariant.kept;

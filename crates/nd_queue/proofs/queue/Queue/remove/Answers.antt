@@ -11,7 +11,7 @@ invariant_of-self c =
     (subst (λ (q : Queued). c.args.drv < length q.groups) (sym c.self.view_is) c.requires)
     c.put.ensures
     (subst (λ (g : ℕ). IsFirstReadyIn c.put.new.self g (Some c.in-Some.first))
-      (c.group-group.ensures.value ∙ ap (λ (r : Readied). group_in r.groups c.args.drv) c.put.ensures) c.in-Some.ensures)
+    (c.group-group.ensures.value ∙ ap (λ (r : Readied). group_in r.groups c.args.drv) c.put.ensures) c.in-Some.ensures)
     (c.insert.ensures ∙ ap (λ (h : List Bool). set h c.in-Some.first true) c.remove.ensures)
     c.self.invariant
 
@@ -21,6 +21,6 @@ invariant_of-self-in_default c =
     (subst (λ (q : Queued). c.args.drv < length q.groups) (sym c.self.view_is) c.requires)
     c.put.ensures
     (subst (λ (g : ℕ). IsFirstReadyIn c.put.new.self g None)
-      (c.group-group.ensures.value ∙ ap (λ (r : Readied). group_in r.groups c.args.drv) c.put.ensures) c.in_default.ensures)
+    (c.group-group.ensures.value ∙ ap (λ (r : Readied). group_in r.groups c.args.drv) c.put.ensures) c.in_default.ensures)
     c.remove.ensures
     c.self.invariant
