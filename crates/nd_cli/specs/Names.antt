@@ -2,8 +2,8 @@
 use Rattle.std.specs.Prelude.{ℕ, List, ◌++◌, codes}
 use Rattle.std.specs.Fmt.{decimal}
 use Rattle.nd_cli.specs.declared.fault.Place.{Place}
-use Rattle.nd_cli.specs.declared.fault.DerivationRefusal.{DerivationRefusal}
-use Rattle.nd_cli.specs.declared.fault.HistoryRefusal.{HistoryRefusal}
+use Rattle.nd_cli.specs.declared.fault.DerivationError.{DerivationError}
+use Rattle.nd_cli.specs.declared.fault.HistoryTextError.{HistoryTextError}
 
 -- an input
 abbrev pub place_name : Place → List ℕ
@@ -16,11 +16,11 @@ place_name Place.Stand = codes "stand"
 place_name Place.History = codes "history"
 
 -- why a derivation text has no path
-abbrev pub refusal_name : DerivationRefusal → List ℕ
-refusal_name DerivationRefusal.BadPath = codes "BadPath"
-refusal_name DerivationRefusal.BadDerivation = codes "BadDerivation"
+abbrev pub refusal_name : DerivationError → List ℕ
+refusal_name DerivationError.BadPath = codes "BadPath"
+refusal_name DerivationError.BadDerivation = codes "BadDerivation"
 
 -- why a history text is refused
-abbrev pub history_refusal_text : HistoryRefusal → List ℕ
-history_refusal_text HistoryRefusal.Version = codes "Version"
-history_refusal_text (HistoryRefusal.BadLine number) = codes "BadLine " ++ decimal number
+abbrev pub history_error_text : HistoryTextError → List ℕ
+history_error_text HistoryTextError.Version = codes "Version"
+history_error_text (HistoryTextError.BadLine number) = codes "BadLine " ++ decimal number

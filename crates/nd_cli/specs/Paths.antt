@@ -8,8 +8,8 @@ use Rattle.nd_hook.specs.Watched.{Watched}
 use Rattle.nd_hook.specs.Written.{WritesPart}
 use Rattle.nd_cli.specs.Inputs.{limit, ReadsWhole, is_write_fault}
 use Rattle.nd_cli.specs.declared.fault.Place.{Place}
-use Rattle.nd_cli.specs.declared.fault.DerivationRefusal.{DerivationRefusal}
-use Rattle.nd_cli.specs.declared.fault.DerivationRefusal.TheVariants.{BadPath, BadDerivation}
+use Rattle.nd_cli.specs.declared.fault.DerivationError.{DerivationError}
+use Rattle.nd_cli.specs.declared.fault.DerivationError.TheVariants.{BadPath, BadDerivation}
 use Rattle.nd_cli.specs.declared.fault.CliFault.{CliFault}
 use Rattle.nd_cli.specs.declared.fault.CliFault.TheVariants.{Derivation, Drvs, Builders, Info, Script, Stand, History, TooLarge, TooManySlots, Read, Write, Memory, Thread, Receipts}
 
@@ -42,7 +42,7 @@ LeavesPath name remaining reader reader_after contents writer writer_after e =
     is_write_fault e ≡ true → AnswersPathInPart name remaining reader reader_after contents writer writer_after
 
 -- why a text within the limit has no path under this name
-abbrev pub as_graph_error : DerivationRefusal → GraphError
+abbrev pub as_graph_error : DerivationError → GraphError
 as_graph_error BadPath = GraphError.BadPath 0
 as_graph_error BadDerivation = GraphError.BadDerivation 0
 

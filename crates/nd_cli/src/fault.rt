@@ -50,14 +50,14 @@ impl fmt::Display for Place {
 
 /// Why a derivation text has no path.
 #[derive(Clone, Copy, Debug, PartialEq, Eq)]
-pub enum DerivationRefusal {
+pub enum DerivationError {
     /// The name is no store path's, or doesn't end in `.drv`.
     BadPath,
     /// The text is no derivation text, or a path in it is none of its kind.
     BadDerivation,
 }
 
-impl fmt::Display for DerivationRefusal {
+impl fmt::Display for DerivationError {
     ghost use Rattle.std.specs.Prelude.{Some};
     ghost use Rattle.nd_cli.specs.Names.{refusal_name};
 
@@ -65,15 +65,15 @@ impl fmt::Display for DerivationRefusal {
 
     fn fmt<W: fmt::Write>(&self, f: &mut fmt::Formatter<W>) -> fmt::Result {
         match self {
-            DerivationRefusal::BadPath => write!(f, "BadPath"),
-            DerivationRefusal::BadDerivation => write!(f, "BadDerivation"),
+            DerivationError::BadPath => write!(f, "BadPath"),
+            DerivationError::BadDerivation => write!(f, "BadDerivation"),
         }
     }
 }
 
 /// Why a history text is refused.
 #[derive(Clone, Copy, Debug, PartialEq, Eq)]
-pub enum HistoryRefusal {
+pub enum HistoryTextError {
     /// The text begins with no version's first line and its newline.
     Version,
     /// The line with this number, the first one being 1, is no entry's, or lacks its newline. It is the
@@ -81,16 +81,16 @@ pub enum HistoryRefusal {
     BadLine(usize),
 }
 
-impl fmt::Display for HistoryRefusal {
+impl fmt::Display for HistoryTextError {
     ghost use Rattle.std.specs.Prelude.{Some};
-    ghost use Rattle.nd_cli.specs.Names.{history_refusal_text};
+    ghost use Rattle.nd_cli.specs.Names.{history_error_text};
 
-    ghost output = { λ e. Some (history_refusal_text e) };
+    ghost output = { λ e. Some (history_error_text e) };
 
     fn fmt<W: fmt::Write>(&self, f: &mut fmt::Formatter<W>) -> fmt::Result {
         match self {
-            HistoryRefusal::Version => write!(f, "Version"),
-            HistoryRefusal::BadLine(line) => write!(f, "BadLine {line}"),
+            HistoryTextError::Version => write!(f, "Version"),
+            HistoryTextError::BadLine(line) => write!(f, "BadLine {line}"),
         }
     }
 }
@@ -100,7 +100,7 @@ impl fmt::Display for HistoryRefusal {
 pub enum CliFault {
     /// The derivation text, or the name that it is to have, is refused. Status 3.
     #[error("nix-dispatch: derivation: {0}")]
-    Derivation(DerivationRefusal),
+    Derivation(DerivationError),
     /// The bundle is refused. Status 3.
     #[error("nix-dispatch: drvs: {0}")]
     Drvs(GraphError),
@@ -118,7 +118,7 @@ pub enum CliFault {
     Stand(ScriptError),
     /// The history text is refused. Status 3.
     #[error("nix-dispatch: history: {0}")]
-    History(HistoryRefusal),
+    History(HistoryTextError),
     /// An input has more than 67,108,864 bytes. Status 3.
     #[error("nix-dispatch: {0}: TooLarge")]
     TooLarge(Place),

@@ -11,7 +11,7 @@ pub mod park;
 pub mod path;
 
 pub use ask::ask_engine;
-pub use fault::{CliFault, DerivationRefusal, HistoryRefusal, Place};
+pub use fault::{CliFault, DerivationError, HistoryTextError, Place};
 pub use input::{LIMIT, read_input};
 pub use options::ParkOptions;
 pub use park::{Park, read_park};

@@ -8,7 +8,7 @@ ghost use Rattle.nd_cli.specs.Statuses.{RefusesNoInput};
 ghost use Rattle.nd_cli.specs.Inputs.{limit, OkUnlessMemory, is_write_fault, is_read_failure, is_write_failure};
 ghost use Rattle.nd_cli.specs.Paths.{HasPath, AnswersPath, LeavesPath, IsPathFault, IsTextFault};
 
-use crate::fault::{CliFault, DerivationRefusal, Place};
+use crate::fault::{CliFault, DerivationError, Place};
 use crate::input::{LIMIT, read_input};
 use nd_graph::{GraphError, drv_path};
 use nd_hook::{Fault, Told};
@@ -73,9 +73,9 @@ fn derivation_path(alloc: Global, name: &[u8], text: &[u8]) -> Result<StorePath,
     match drv_path(alloc, name, text) {
         Ok(path) => Ok(path),
         Err(GraphError::Memory) => Err(CliFault::Memory),
-        Err(GraphError::BadPath(_)) => Err(CliFault::Derivation(DerivationRefusal::BadPath)),
+        Err(GraphError::BadPath(_)) => Err(CliFault::Derivation(DerivationError::BadPath)),
         Err(GraphError::BadDerivation(_)) => {
-            Err(CliFault::Derivation(DerivationRefusal::BadDerivation))
+            Err(CliFault::Derivation(DerivationError::BadDerivation))
         }
         Err(_) => unreachable!(),
     }

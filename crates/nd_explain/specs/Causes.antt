@@ -1,7 +1,7 @@
 -- The cause of each fault, as the table "Refusals" of README.md has it. Public clauses cite `cause_words`.
 use Rattle.std.specs.Prelude.{ℕ, List, codes}
-use Rattle.nd_cli.specs.declared.fault.DerivationRefusal.{DerivationRefusal}
-use Rattle.nd_cli.specs.declared.fault.HistoryRefusal.{HistoryRefusal}
+use Rattle.nd_cli.specs.declared.fault.DerivationError.{DerivationError}
+use Rattle.nd_cli.specs.declared.fault.HistoryTextError.{HistoryTextError}
 use Rattle.nd_graph.specs.declared.fault.GraphError.{GraphError}
 use Rattle.nd_machines.specs.declared.machine_error.MachineError.{MachineError}
 use Rattle.nd_closure.specs.declared.info_error.InfoError.{InfoError}
@@ -14,9 +14,9 @@ abbrev pub no_memory : List ℕ
 no_memory = codes "there was no memory"
 
 -- a derivation text, or of its name
-abbrev pub derivation_cause : DerivationRefusal → List ℕ
-derivation_cause DerivationRefusal.BadPath = codes "the name is no name of a store path, or doesn't end in .drv"
-derivation_cause DerivationRefusal.BadDerivation = codes "the text is no derivation text, or has a path that is no store path of its kind"
+abbrev pub derivation_cause : DerivationError → List ℕ
+derivation_cause DerivationError.BadPath = codes "the name is no name of a store path, or doesn't end in .drv"
+derivation_cause DerivationError.BadDerivation = codes "the text is no derivation text, or has a path that is no store path of its kind"
 
 -- a bundle
 abbrev pub bundle_cause : GraphError → List ℕ
@@ -58,9 +58,9 @@ stand_cause (ScriptError.BadLine n) = codes "the line is no rule, or names a der
 stand_cause ScriptError.Memory = no_memory
 
 -- a history text
-abbrev pub history_cause : HistoryRefusal → List ℕ
-history_cause HistoryRefusal.Version = codes "the text doesn't begin with the line of a version"
-history_cause (HistoryRefusal.BadLine n) = codes "the line is no entry of its version, or has no newline at its end"
+abbrev pub history_cause : HistoryTextError → List ℕ
+history_cause HistoryTextError.Version = codes "the text doesn't begin with the line of a version"
+history_cause (HistoryTextError.BadLine n) = codes "the line is no entry of its version, or has no newline at its end"
 
 -- any fault
 abbrev pub cause_words : CliFault → List ℕ

@@ -1,7 +1,7 @@
 -- What can be done about each fault, as the table "Refusals" of README.md has it. Public clauses cite `cure_words`.
 use Rattle.std.specs.Prelude.{ℕ, List, codes}
-use Rattle.nd_cli.specs.declared.fault.DerivationRefusal.{DerivationRefusal}
-use Rattle.nd_cli.specs.declared.fault.HistoryRefusal.{HistoryRefusal}
+use Rattle.nd_cli.specs.declared.fault.DerivationError.{DerivationError}
+use Rattle.nd_cli.specs.declared.fault.HistoryTextError.{HistoryTextError}
 use Rattle.nd_graph.specs.declared.fault.GraphError.{GraphError}
 use Rattle.nd_machines.specs.declared.machine_error.MachineError.{MachineError}
 use Rattle.nd_closure.specs.declared.info_error.InfoError.{InfoError}
@@ -14,9 +14,9 @@ abbrev pub no_memory : List ℕ
 no_memory = codes "give the program more memory, or less to do"
 
 -- a derivation text, or of its name
-abbrev pub derivation_cure : DerivationRefusal → List ℕ
-derivation_cure DerivationRefusal.BadPath = codes "give the name of the .drv file behind its digest, as hello.drv"
-derivation_cure DerivationRefusal.BadDerivation = codes "take the .drv file as Nix wrote it"
+abbrev pub derivation_cure : DerivationError → List ℕ
+derivation_cure DerivationError.BadPath = codes "give the name of the .drv file behind its digest, as hello.drv"
+derivation_cure DerivationError.BadDerivation = codes "take the .drv file as Nix wrote it"
 
 -- a bundle
 abbrev pub bundle_cure : GraphError → List ℕ
@@ -58,9 +58,9 @@ stand_cure (ScriptError.BadLine n) = codes "write a rule of the table \"Stand te
 stand_cure ScriptError.Memory = no_memory
 
 -- a history text
-abbrev pub history_cure : HistoryRefusal → List ℕ
-history_cure HistoryRefusal.Version = codes "begin with the line nix-dispatch-history 1 or nix-dispatch-history 2"
-history_cure (HistoryRefusal.BadLine n) = codes "take the history as it was written, to its last newline"
+abbrev pub history_cure : HistoryTextError → List ℕ
+history_cure HistoryTextError.Version = codes "begin with the line nix-dispatch-history 1 or nix-dispatch-history 2"
+history_cure (HistoryTextError.BadLine n) = codes "take the history as it was written, to its last newline"
 
 -- any fault
 abbrev pub cure_words : CliFault → List ℕ

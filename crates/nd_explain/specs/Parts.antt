@@ -1,8 +1,8 @@
 -- Which input a fault is about, and which part of it. Public clauses cite this.
 use Rattle.std.specs.Prelude.{ℕ, Option, Some, None}
 use Rattle.nd_cli.specs.declared.fault.Place.{Place}
-use Rattle.nd_cli.specs.declared.fault.DerivationRefusal.{DerivationRefusal}
-use Rattle.nd_cli.specs.declared.fault.HistoryRefusal.{HistoryRefusal}
+use Rattle.nd_cli.specs.declared.fault.DerivationError.{DerivationError}
+use Rattle.nd_cli.specs.declared.fault.HistoryTextError.{HistoryTextError}
 use Rattle.nd_cli.specs.declared.fault.CliFault.{CliFault}
 use Rattle.nd_cli.specs.declared.fault.CliFault.TheVariants.{Derivation, Drvs, Builders, Info, Script, Stand, History, TooLarge, TooManySlots, Read, Write, Memory, Thread, Receipts}
 use Rattle.nd_graph.specs.declared.fault.GraphError.{GraphError}
@@ -64,9 +64,9 @@ line_of_script (ScriptError.BadLine n) = Line n
 line_of_script ScriptError.Memory = Nowhere
 
 -- the line of a history text, whose version stands on the first one
-abbrev pub line_of_history : HistoryRefusal → Part
-line_of_history HistoryRefusal.Version = Line 1
-line_of_history (HistoryRefusal.BadLine n) = Line n
+abbrev pub line_of_history : HistoryTextError → Part
+line_of_history HistoryTextError.Version = Line 1
+line_of_history (HistoryTextError.BadLine n) = Line n
 
 -- the part of that input that is refused
 abbrev pub part_named : CliFault → Part

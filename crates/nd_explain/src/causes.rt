@@ -3,7 +3,7 @@
 ghost use Rattle.std.specs.Prelude.{◌≡◌};
 ghost use Rattle.nd_explain.specs.Causes.{cause_words, bundle_cause, builders_cause, info_cause, script_cause, stand_cause, history_cause, derivation_cause};
 
-use nd_cli::{CliFault, DerivationRefusal, HistoryRefusal};
+use nd_cli::{CliFault, DerivationError, HistoryTextError};
 use nd_closure::InfoError;
 use nd_graph::GraphError;
 use nd_machines::MachineError;
@@ -36,12 +36,12 @@ pub fn cause_of(fault: &CliFault) -> &'static str
 }
 
 /// The cause of a refusal of a derivation text, or of its name.
-fn of_derivation(refusal: &DerivationRefusal) -> &'static str
+fn of_derivation(refusal: &DerivationError) -> &'static str
     ensures { result.now ≡ derivation_cause refusal.now }
 {
     match refusal {
-        DerivationRefusal::BadPath => "the name is no name of a store path, or doesn't end in .drv",
-        DerivationRefusal::BadDerivation =>
+        DerivationError::BadPath => "the name is no name of a store path, or doesn't end in .drv",
+        DerivationError::BadDerivation =>
             "the text is no derivation text, or has a path that is no store path of its kind",
     }
 }
@@ -121,12 +121,12 @@ fn of_stand(refusal: &ScriptError) -> &'static str
 }
 
 /// The cause of a refusal of a history text.
-fn of_history(refusal: &HistoryRefusal) -> &'static str
+fn of_history(refusal: &HistoryTextError) -> &'static str
     ensures { result.now ≡ history_cause refusal.now }
 {
     match refusal {
-        HistoryRefusal::Version => "the text doesn't begin with the line of a version",
-        HistoryRefusal::BadLine(_) =>
+        HistoryTextError::Version => "the text doesn't begin with the line of a version",
+        HistoryTextError::BadLine(_) =>
             "the line is no entry of its version, or has no newline at its end",
     }
 }

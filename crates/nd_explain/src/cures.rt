@@ -3,7 +3,7 @@
 ghost use Rattle.std.specs.Prelude.{◌≡◌};
 ghost use Rattle.nd_explain.specs.Cures.{cure_words, bundle_cure, builders_cure, info_cure, script_cure, stand_cure, history_cure, derivation_cure};
 
-use nd_cli::{CliFault, DerivationRefusal, HistoryRefusal};
+use nd_cli::{CliFault, DerivationError, HistoryTextError};
 use nd_closure::InfoError;
 use nd_graph::GraphError;
 use nd_machines::MachineError;
@@ -35,13 +35,13 @@ pub fn cure_of(fault: &CliFault) -> &'static str
 }
 
 /// The cure of a refusal of a derivation text, or of its name.
-fn of_derivation(refusal: &DerivationRefusal) -> &'static str
+fn of_derivation(refusal: &DerivationError) -> &'static str
     ensures { result.now ≡ derivation_cure refusal.now }
 {
     match refusal {
-        DerivationRefusal::BadPath =>
+        DerivationError::BadPath =>
             "give the name of the .drv file behind its digest, as hello.drv",
-        DerivationRefusal::BadDerivation => "take the .drv file as Nix wrote it",
+        DerivationError::BadDerivation => "take the .drv file as Nix wrote it",
     }
 }
 
@@ -114,12 +114,12 @@ fn of_stand(refusal: &ScriptError) -> &'static str
 }
 
 /// The cure of a refusal of a history text.
-fn of_history(refusal: &HistoryRefusal) -> &'static str
+fn of_history(refusal: &HistoryTextError) -> &'static str
     ensures { result.now ≡ history_cure refusal.now }
 {
     match refusal {
-        HistoryRefusal::Version =>
+        HistoryTextError::Version =>
             "begin with the line nix-dispatch-history 1 or nix-dispatch-history 2",
-        HistoryRefusal::BadLine(_) => "take the history as it was written, to its last newline",
+        HistoryTextError::BadLine(_) => "take the history as it was written, to its last newline",
     }
 }

@@ -3,7 +3,7 @@
 ghost use Rattle.std.specs.Prelude.{◌≡◌};
 ghost use Rattle.nd_explain.specs.Parts.{place_named, part_named, line_of_bundle, entry_of_builders};
 
-use nd_cli::{CliFault, DerivationRefusal, HistoryRefusal, Place};
+use nd_cli::{CliFault, DerivationError, HistoryTextError, Place};
 use nd_closure::InfoError;
 use nd_graph::GraphError;
 use nd_machines::MachineError;
@@ -50,7 +50,7 @@ pub fn part_of(fault: &CliFault) -> Part
     ensures { result ≡ part_named fault.now }
 {
     match fault {
-        CliFault::Derivation(DerivationRefusal::BadPath | DerivationRefusal::BadDerivation) => {
+        CliFault::Derivation(DerivationError::BadPath | DerivationError::BadDerivation) => {
             Part::Whole
         }
         CliFault::Drvs(refusal) => bundle_part(refusal),
@@ -58,8 +58,8 @@ pub fn part_of(fault: &CliFault) -> Part
         CliFault::Info(InfoError::BadLine(line)) => Part::Line(*line),
         CliFault::Script(ScriptError::BadLine(line)) => Part::Line(*line),
         CliFault::Stand(ScriptError::BadLine(line)) => Part::Line(*line),
-        CliFault::History(HistoryRefusal::Version) => Part::Line(1),
-        CliFault::History(HistoryRefusal::BadLine(line)) => Part::Line(*line),
+        CliFault::History(HistoryTextError::Version) => Part::Line(1),
+        CliFault::History(HistoryTextError::BadLine(line)) => Part::Line(*line),
         CliFault::Info(InfoError::Memory)
         | CliFault::Script(ScriptError::Memory)
         | CliFault::Stand(ScriptError::Memory)

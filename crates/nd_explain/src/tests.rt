@@ -1,7 +1,7 @@
 //! What is printed of a fault, and what is remembered of a device.
 
 use crate::{Failure, Heard, Source, entry_of, excerpt, line_of};
-use nd_cli::{CliFault, HistoryRefusal};
+use nd_cli::{CliFault, HistoryTextError};
 use nd_machines::MachineError;
 use std::alloc::Global;
 use std::fmt;
@@ -73,7 +73,7 @@ cause: the first field of the entry, its URI, is -\ncure: begin the entry with t
 
 /// The refused first line of a history text whose text isn't at hand.
 fn is_version_told(alloc: Global) -> bool {
-    let fault = CliFault::History(HistoryRefusal::Version);
+    let fault = CliFault::History(HistoryTextError::Version);
     let source = Source::File {
         option: "history",
         name: "h",

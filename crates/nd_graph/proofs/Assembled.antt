@@ -14,7 +14,7 @@ use Rattle.nd_graph.specs.declared.columns.Columns.{Columns}
 use Rattle.nd_graph.specs.declared.fault.GraphError.{GraphError}
 use Rattle.nd_graph.specs.declared.fault.GraphError.TheVariants.{BadLine, BadPath, BadDerivation, UnknownOutput, BadAttribute, WrongPath, Duplicate, MissingInput, MissingOutput, Cycle, TooMany, Memory}
 use Rattle.nd_graph.specs.declared.graph.Input.{Input}
-use Rattle.nd_graph.specs.declared.refusal.LineFault.{LineFault}
+use Rattle.nd_graph.specs.declared.refusal.LineError.{LineError}
 use Rattle.nd_graph.specs.declared.line.LineNode.{LineNode}
 use Rattle.nd_graph.specs.declared.line.NamedInput.{NamedInput}
 use Rattle.nd_graph.proofs.Linked.{rows_have}
@@ -154,7 +154,7 @@ too_many paths names wants rows order distinct resolved ordered many = record {
 }
 
 -- the nodes that were read
-pub read_paired : (read : List (Result LineNode LineFault)) (nodes : List LineNode) → ReadsFit read → IsRead read nodes → AreFit nodes
+pub read_paired : (read : List (Result LineNode LineError)) (nodes : List LineNode) → ReadsFit read → IsRead read nodes → AreFit nodes
 read_paired read nodes pairs is = record {
   fit = λ node on.
       let there : Contains (map said nodes) (Ok node) = (
@@ -162,14 +162,14 @@ read_paired read nodes pairs is = record {
         rw (length-map nodes said) on.1,
         get_or-map said nodes on.0 node (Ok node) on.1 ∙ ap said on.2,
       ) in
-      pairs.fit node (subst (λ (xs : List (Result LineNode LineFault)). Contains xs (Ok node)) (sym is.all) there);
+      pairs.fit node (subst (λ (xs : List (Result LineNode LineError)). Contains xs (Ok node)) (sym is.all) there);
 }
 
-pub graph_read : (read : List (Result LineNode LineFault)) (nodes : List LineNode) (graph : Nodes) → IsRead read nodes → IsGraphOf nodes graph → IsSound graph → IsAcyclic (rows_of graph) → IsGraphRead read graph
+pub graph_read : (read : List (Result LineNode LineError)) (nodes : List LineNode) (graph : Nodes) → IsRead read nodes → IsGraphOf nodes graph → IsSound graph → IsAcyclic (rows_of graph) → IsGraphRead read graph
 graph_read read nodes graph is of sound acyclic = record { nodes = nodes; read_is = is; of = of; sound = sound; acyclic = acyclic }
 
-pub fault_read : (read : List (Result LineNode LineFault)) (nodes : List LineNode) (error : GraphError) → IsRead read nodes → IsWholeFault (links_of nodes) error → IsReadFault read error
+pub fault_read : (read : List (Result LineNode LineError)) (nodes : List LineNode) (error : GraphError) → IsRead read nodes → IsWholeFault (links_of nodes) error → IsReadFault read error
 fault_read read nodes error is fault = of_whole nodes is fault
 
-pub line_refused : (read : List (Result LineNode LineFault)) (nodes : List LineNode) (fault : LineFault) (behind : List (Result LineNode LineFault)) (error : GraphError) → read ≡ map said nodes ++ Err fault ∷ behind → error ≡ fault_at fault (length nodes + 1) → IsReadFault read error
+pub line_refused : (read : List (Result LineNode LineError)) (nodes : List LineNode) (fault : LineError) (behind : List (Result LineNode LineError)) (error : GraphError) → read ≡ map said nodes ++ Err fault ∷ behind → error ≡ fault_at fault (length nodes + 1) → IsReadFault read error
 line_refused read nodes fault behind error parts is = of_line (record { before = nodes; fault = fault; behind = behind; parts = parts; error_is = is })

@@ -24,8 +24,8 @@ use Rattle.nd_graph.specs.Reads.{front, back, named, IsLine, IsFaulty}
 use Rattle.nd_graph.specs.Structured.{features_in, preference_in}
 use Rattle.nd_graph.specs.Wishes.{Says}
 use Rattle.nd_graph.specs.declared.line.LineNode.{LineNode}
-use Rattle.nd_graph.specs.declared.refusal.LineFault.{LineFault}
-use Rattle.nd_graph.specs.declared.refusal.LineFault.TheVariants.{BadLine, BadPath, BadDerivation, UnknownOutput, BadAttribute, WrongPath, Memory}
+use Rattle.nd_graph.specs.declared.refusal.LineError.{LineError}
+use Rattle.nd_graph.specs.declared.refusal.LineError.TheVariants.{BadLine, BadPath, BadDerivation, UnknownOutput, BadAttribute, WrongPath, Memory}
 use Rattle.nd_graph.specs.declared.structured.Wishes.{Wishes}
 
 -- ---- rising lists with the same members are equal
@@ -131,7 +131,7 @@ derived_once line d e =
     (text, same_parts e.text d.parts e.parts (subst (λ (t : List ℕ). Derives t d.parts) text d.derives) e.derives)
 
 -- the line passes the test of this refusal
-abbrev Passes : Bool → List ℕ → LineFault → Type 0
+abbrev Passes : Bool → List ℕ → LineError → Type 0
 Passes check line BadLine = (text : List ℕ) × (back line ≡ Some text)
 Passes check line BadPath = is_drv (front line) ≡ true
 Passes check line BadDerivation = HasDerivation line
@@ -141,7 +141,7 @@ Passes check line WrongPath = check ≡ true → (d : HasDerivation line) × IsO
 Passes check line Memory = Unit {0}
 
 -- the tests' order
-abbrev stage : LineFault → ℕ
+abbrev stage : LineError → ℕ
 stage BadLine = 0
 stage BadPath = 1
 stage BadDerivation = 2
@@ -150,7 +150,7 @@ stage BadAttribute = 4
 stage WrongPath = 5
 stage Memory = 6
 
-stage_once : (f g : LineFault) → stage f ≡ stage g → f ≡ g
+stage_once : (f g : LineError) → stage f ≡ stage g → f ≡ g
 stage_once BadLine BadLine same = refl
 stage_once BadLine g same = absurd (omega arith)
 stage_once BadPath BadPath same = refl
@@ -167,7 +167,7 @@ stage_once Memory Memory same = refl
 stage_once Memory g same = absurd (omega arith)
 
 -- a line with a node passes all tests
-node_passes : (check : Bool) (line : List ℕ) (node : LineNode) (f : LineFault) → IsLine check line node → Passes check line f
+node_passes : (check : Bool) (line : List ℕ) (node : LineNode) (f : LineError) → IsLine check line node → Passes check line f
 node_passes check line node BadLine is = (is.text, is.splits.text_is)
 node_passes check line node BadPath is = is.splits.path_is
 node_passes check line node BadDerivation is = record { text = is.text; parts = is.is_node.parts; text_is = is.splits.text_is; derives = is.is_node.tells.derives }
@@ -179,7 +179,7 @@ node_passes check line node WrongPath is =
 node_passes check line node Memory is = tt
 
 -- a refused line passes the tests before that of its refusal
-passes_before : (check : Bool) (line : List ℕ) (f g : LineFault) → IsFaulty check line f → (f ≡ Memory → ⊥) → stage g < stage f → Passes check line g
+passes_before : (check : Bool) (line : List ℕ) (f g : LineError) → IsFaulty check line f → (f ≡ Memory → ⊥) → stage g < stage f → Passes check line g
 passes_before check line BadLine g bad other lt = absurd (omega arith)
 passes_before check line BadPath BadLine bad other lt = (bad.0, bad.1)
 passes_before check line BadPath g bad other lt = absurd (omega arith)
@@ -205,7 +205,7 @@ passes_before check line WrongPath g bad other lt = absurd (omega arith)
 passes_before check line Memory g bad other lt = absurd (other refl)
 
 -- a refused line fails the test of its refusal
-fails_its_own : (check : Bool) (line : List ℕ) (f : LineFault) → IsFaulty check line f → (f ≡ Memory → ⊥) → Passes check line f → ⊥
+fails_its_own : (check : Bool) (line : List ℕ) (f : LineError) → IsFaulty check line f → (f ≡ Memory → ⊥) → Passes check line f → ⊥
 fails_its_own check line BadLine bad other pass = let wrong : None ≡ Some pass.0 = sym bad ∙ pass.1 in cc
 fails_its_own check line BadPath bad other pass = true≢false (sym pass ∙ bad.2)
 fails_its_own check line BadDerivation bad other pass =
@@ -231,7 +231,7 @@ fails_its_own check line WrongPath bad other pass =
 fails_its_own check line Memory bad other pass = other refl
 
 -- a line with a node is not refused
-pub no_node : (check : Bool) (line : List ℕ) (node : LineNode) (f : LineFault) → IsLine check line node → IsFaulty check line f → (f ≡ Memory → ⊥) → ⊥
+pub no_node : (check : Bool) (line : List ℕ) (node : LineNode) (f : LineError) → IsLine check line node → IsFaulty check line f → (f ≡ Memory → ⊥) → ⊥
 no_node check line node f is bad other = fails_its_own check line f bad other (node_passes check line node f is)
 
 -- ---- one reading
@@ -253,7 +253,7 @@ same_node check line a b of_a of_b =
     let outputs : a.outputs ≡ b.outputs = has_a.outputs ∙ ap (λ (p : Parts). map (λ (o : Output). o.path) p.outputs) parts ∙ sym has_b.outputs in
     λ i. record { path = path i; need = need i; inputs = inputs i; sources = sources i; output_names = names i; outputs = outputs i }
 
-memory_or_not : (f : LineFault) → (f ≡ Memory) ⊎ (f ≡ Memory → ⊥)
+memory_or_not : (f : LineError) → (f ≡ Memory) ⊎ (f ≡ Memory → ⊥)
 memory_or_not BadLine = inr (λ same. cc)
 memory_or_not BadPath = inr (λ same. cc)
 memory_or_not BadDerivation = inr (λ same. cc)
@@ -262,7 +262,7 @@ memory_or_not BadAttribute = inr (λ same. cc)
 memory_or_not WrongPath = inr (λ same. cc)
 memory_or_not Memory = inl refl
 
-pub same_fault : (check : Bool) (line : List ℕ) (f g : LineFault) → IsFaulty check line f → IsFaulty check line g → (f ≡ Memory → ⊥) → (g ≡ Memory → ⊥) → f ≡ g
+pub same_fault : (check : Bool) (line : List ℕ) (f g : LineError) → IsFaulty check line f → IsFaulty check line g → (f ≡ Memory → ⊥) → (g ≡ Memory → ⊥) → f ≡ g
 same_fault check line f g bad_f bad_g f_other g_other =
     elim (cases_lt (stage f) (stage g)) [
       | inl lt ↦ absurd (fails_its_own check line f bad_f f_other (passes_before check line g f bad_g g_other lt))

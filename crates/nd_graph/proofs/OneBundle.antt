@@ -18,8 +18,8 @@ use Rattle.nd_graph.specs.declared.fault.GraphError.TheVariants as bundle
 use Rattle.nd_graph.specs.declared.graph.Input.{Input}
 use Rattle.nd_graph.specs.declared.line.LineNode.{LineNode}
 use Rattle.nd_graph.specs.declared.line.NamedInput.{NamedInput}
-use Rattle.nd_graph.specs.declared.refusal.LineFault.{LineFault}
-use Rattle.nd_graph.specs.declared.refusal.LineFault.TheVariants.{BadLine, BadPath, BadDerivation, UnknownOutput, BadAttribute, WrongPath, Memory}
+use Rattle.nd_graph.specs.declared.refusal.LineError.{LineError}
+use Rattle.nd_graph.specs.declared.refusal.LineError.TheVariants.{BadLine, BadPath, BadDerivation, UnknownOutput, BadAttribute, WrongPath, Memory}
 use Rattle.nd_graph.proofs.Apart.{one_place, Passes, fails_its_own, same_whole}
 use Rattle.nd_graph.proofs.Linked.{rows_have, rows_reach}
 use Rattle.nd_graph.proofs.Once.{below, no_node, not_both, same_fault, same_node}
@@ -89,17 +89,17 @@ heads : (x y : List ℕ) (xs ys : List (List ℕ)) → x ∷ xs ≡ y ∷ ys →
 heads x y xs ys same = ap (λ (zs : List (List ℕ)). get_or zs 0 []) same
 
 -- where all lines say nodes, none is refused
-all_or_one : (check : Bool) (before : List (List ℕ)) (line : List ℕ) (behind : List (List ℕ)) (nodes : List LineNode) (f : LineFault) → AllZip (IsLine check) (before ++ line ∷ behind) nodes → IsFaulty check line f → (f ≡ Memory → ⊥) → ⊥
+all_or_one : (check : Bool) (before : List (List ℕ)) (line : List ℕ) (behind : List (List ℕ)) (nodes : List LineNode) (f : LineError) → AllZip (IsLine check) (before ++ line ∷ behind) nodes → IsFaulty check line f → (f ≡ Memory → ⊥) → ⊥
 all_or_one check [] line behind [] f zip bad other = absurd zip
 all_or_one check [] line behind (n ∷ nodes) f zip bad other = no_node check line n f zip.0 bad other
 all_or_one check (l ∷ before) line behind [] f zip bad other = absurd zip
 all_or_one check (l ∷ before) line behind (n ∷ nodes) f zip bad other = all_or_one check before line behind nodes f zip.1 bad other
 
-no_line : (check : Bool) (text : List ℕ) (nodes : List LineNode) (f : LineFault) (n : ℕ) → AllZip (IsLine check) (lines text) nodes → IsLineRefused check text f n → (f ≡ Memory → ⊥) → ⊥
+no_line : (check : Bool) (text : List ℕ) (nodes : List LineNode) (f : LineError) (n : ℕ) → AllZip (IsLine check) (lines text) nodes → IsLineRefused check text f n → (f ≡ Memory → ⊥) → ⊥
 no_line check text nodes f n says is other = all_or_one check is.before is.line is.behind nodes f (subst (λ (ls : List (List ℕ)). AllZip (IsLine check) ls nodes) is.parts says) is.refused other
 
 -- two first lines are one, with one refusal
-first_once : (check : Bool) (xs : List (List ℕ)) (x : List ℕ) (xs_behind ys : List (List ℕ)) (y : List ℕ) (ys_behind : List (List ℕ)) (ms ns : List LineNode) (f g : LineFault) → xs ++ x ∷ xs_behind ≡ ys ++ y ∷ ys_behind
+first_once : (check : Bool) (xs : List (List ℕ)) (x : List ℕ) (xs_behind ys : List (List ℕ)) (y : List ℕ) (ys_behind : List (List ℕ)) (ms ns : List LineNode) (f g : LineError) → xs ++ x ∷ xs_behind ≡ ys ++ y ∷ ys_behind
     → AllZip (IsLine check) xs ms → AllZip (IsLine check) ys ns → IsFaulty check x f → IsFaulty check y g → (f ≡ Memory → ⊥) → (g ≡ Memory → ⊥) → (f ≡ g) × (length xs ≡ length ys)
 first_once check [] x xs_behind [] y ys_behind ms ns f g same say_ms say_ns bad_f bad_g f_other g_other =
     let one : x ≡ y = heads x y xs_behind ys_behind same in
@@ -116,16 +116,16 @@ first_once check (l ∷ xs) x xs_behind (k ∷ ys) y ys_behind (m ∷ ms) (n ∷
     let rest = first_once check xs x xs_behind ys y ys_behind ms ns f g (tails l k (xs ++ x ∷ xs_behind) (ys ++ y ∷ ys_behind) same) say_ms.1 say_ns.1 bad_f bad_g f_other g_other in
     (rest.0, ap (λ (n : ℕ). suc n) rest.1)
 
-same_line : (check : Bool) (text : List ℕ) (f g : LineFault) (n m : ℕ) → IsLineRefused check text f n → IsLineRefused check text g m → (f ≡ Memory → ⊥) → (g ≡ Memory → ⊥) → fault_at f n ≡ fault_at g m
+same_line : (check : Bool) (text : List ℕ) (f g : LineError) (n m : ℕ) → IsLineRefused check text f n → IsLineRefused check text g m → (f ≡ Memory → ⊥) → (g ≡ Memory → ⊥) → fault_at f n ≡ fault_at g m
 same_line check text f g n m a b f_other g_other =
     let one = first_once check a.before a.line a.behind b.before b.line b.behind a.nodes b.nodes f g (sym a.parts ∙ b.parts) a.says b.says a.refused b.refused f_other g_other in
     let number : n ≡ m = a.number_is ∙ ap (λ (k : ℕ). k + 1) one.1 ∙ sym b.number_is in
-    ap (λ (h : LineFault). fault_at h n) one.0 ∙ ap (fault_at g) number
+    ap (λ (h : LineError). fault_at h n) one.0 ∙ ap (fault_at g) number
 
 -- ---- a refusal is of a line or over the whole
 
 data IsCause (check : Bool) (text : List ℕ) (fault : GraphError) : Type 0 where
-  of_line : (f : LineFault) (n : ℕ) → IsLineRefused check text f n → (f ≡ Memory → ⊥) → fault ≡ fault_at f n → IsCause check text fault
+  of_line : (f : LineError) (n : ℕ) → IsLineRefused check text f n → (f ≡ Memory → ⊥) → fault ≡ fault_at f n → IsCause check text fault
   of_whole : IsWholeRefused check text fault → IsCause check text fault
 
 cause : (check : Bool) (text : List ℕ) (fault : GraphError) → IsFirstFault check text fault → (fault ≡ bundle.Memory → ⊥) → IsCause check text fault

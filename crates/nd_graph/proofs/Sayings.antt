@@ -17,8 +17,8 @@ use Rattle.nd_graph.specs.Reads.{front, back, Splits, named, Tells, IsNode, IsLi
 use Rattle.nd_graph.specs.declared.derived.Contents.{Contents}
 use Rattle.nd_graph.specs.declared.line.NamedInput.{NamedInput}
 use Rattle.nd_graph.specs.declared.line.LineNode.{LineNode}
-use Rattle.nd_graph.specs.declared.refusal.LineFault.{LineFault}
-use Rattle.nd_graph.specs.declared.refusal.LineFault.TheVariants.{BadLine, BadPath, BadDerivation, UnknownOutput, BadAttribute, WrongPath, Memory}
+use Rattle.nd_graph.specs.declared.refusal.LineError.{LineError}
+use Rattle.nd_graph.specs.declared.refusal.LineError.TheVariants.{BadLine, BadPath, BadDerivation, UnknownOutput, BadAttribute, WrongPath, Memory}
 use Rattle.nd_graph.proofs.Rising.{both}
 
 kept_or : (b : Bool) (x : Output) (xs ys : List Output) → b ≡ true → xs ≡ ys → cond b (x ∷ xs) xs ≡ x ∷ ys
@@ -60,7 +60,7 @@ tells text parts contents path builder env need derives has known builder_is env
     }
 
 -- what is refused without the check is refused with it
-pub bad_anyhow : (check : Bool) (path text : List ℕ) (fault : LineFault) → IsBad false path text fault → IsBad check path text fault
+pub bad_anyhow : (check : Bool) (path text : List ℕ) (fault : LineError) → IsBad false path text fault → IsBad check path text fault
 bad_anyhow check path text BadLine bad = bad
 bad_anyhow check path text BadPath bad = bad
 bad_anyhow check path text BadDerivation bad = bad
@@ -95,7 +95,7 @@ wrong_path path text node path_is told another = record {
 }
 
 -- a path that is refused by the check is refused
-pub bad_checked : (check : Bool) (path text : List ℕ) (node : LineNode) (fault : LineFault) → check ≡ true → node.path ≡ path → ((parts : Parts) × Tells text parts node) → IsAnother node text fault → IsBad check path text fault
+pub bad_checked : (check : Bool) (path text : List ℕ) (node : LineNode) (fault : LineError) → check ≡ true → node.path ≡ path → ((parts : Parts) × Tells text parts node) → IsAnother node text fault → IsBad check path text fault
 bad_checked check path text node BadLine on path_is told bad = bad
 bad_checked check path text node BadPath on path_is told bad = bad
 bad_checked check path text node BadDerivation on path_is told bad = absurd bad
@@ -117,7 +117,7 @@ node_checked check path text node path_is told own = record {
 
 pub ruleset checks = (bad_anyhow)
 
-faulty : (check : Bool) (line : List ℕ) (fault : LineFault) → IsBadText check line fault → IsFaulty check line fault
+faulty : (check : Bool) (line : List ℕ) (fault : LineError) → IsBadText check line fault → IsFaulty check line fault
 faulty check line BadLine bad = absurd bad.is_bad
 faulty check line BadPath bad = absurd bad.is_bad
 faulty check line BadDerivation bad = bad
@@ -129,7 +129,7 @@ faulty check line Memory bad = tt
 splits : (line before text : List ℕ) → before ≡ front line → back line ≡ Some text → is_drv before ≡ true → Splits line text
 splits line before text before_is text_is drv = record { text_is = text_is; path_is = subst (λ (b : List ℕ). is_drv b ≡ true) before_is drv }
 
-pub bad_line : (check : Bool) (line before text : List ℕ) (fault : LineFault) → before ≡ front line → back line ≡ Some text → is_drv before ≡ true → IsBad check before text fault → IsFaulty check line fault
+pub bad_line : (check : Bool) (line before text : List ℕ) (fault : LineError) → before ≡ front line → back line ≡ Some text → is_drv before ≡ true → IsBad check before text fault → IsFaulty check line fault
 bad_line check line before text fault before_is text_is drv bad = faulty check line fault (record { text = text; splits = splits line before text before_is text_is drv; is_bad = subst (λ (b : List ℕ). IsBad check b text fault) before_is bad })
 
 pub good_line : (check : Bool) (line before text : List ℕ) (node : LineNode) → before ≡ front line → back line ≡ Some text → is_drv before ≡ true → IsNode check before text node → IsLine check line node
@@ -139,7 +139,7 @@ pub bad_path : (line before text : List ℕ) → before ≡ front line → back 
 bad_path line before text before_is text_is no_path = (text, text_is, subst (λ (b : List ℕ). is_drv b ≡ false) before_is no_path)
 
 -- what reading the text behind the path answers is what reading the line answers
-pub line_read : (check : Bool) (line before text path : List ℕ) (result : Result LineNode LineFault) → before ≡ front line → back line ≡ Some text → is_drv before ≡ true → path ≡ before → IfOk result (IsNode check path text) → IfErr result (IsBad check path text) → Reads check line result
+pub line_read : (check : Bool) (line before text path : List ℕ) (result : Result LineNode LineError) → before ≡ front line → back line ≡ Some text → is_drv before ≡ true → path ≡ before → IfOk result (IsNode check path text) → IfErr result (IsBad check path text) → Reads check line result
 line_read check line before text path (Ok node) before_is text_is drv path_is is_node bad = good_line check line before text node before_is text_is drv (subst (λ (p : List ℕ). IsNode check p text node) path_is is_node)
 line_read check line before text path (Err fault) before_is text_is drv path_is is_node bad = bad_line check line before text fault before_is text_is drv (subst (λ (p : List ℕ). IsBad check p text fault) path_is bad)
 

@@ -3,8 +3,8 @@
 use Rattle.std.specs.Prelude.{◌≡◌, ℕ, ◌+◌, Bool, List, ◌∷◌, ◌++◌, length, Result, Ok, Err}
 use Rattle.std.specs.List.{AllZip}
 use Rattle.nd_graph.specs.declared.line.LineNode.{LineNode}
-use Rattle.nd_graph.specs.declared.refusal.LineFault.{LineFault}
-use Rattle.nd_graph.specs.declared.refusal.LineFault.TheVariants as line_fault
+use Rattle.nd_graph.specs.declared.refusal.LineError.{LineError}
+use Rattle.nd_graph.specs.declared.refusal.LineError.TheVariants as line_error
 use Rattle.nd_graph.specs.declared.fault.GraphError.{GraphError}
 use Rattle.nd_graph.specs.declared.fault.GraphError.TheVariants.{BadLine, BadPath, BadDerivation, UnknownOutput, BadAttribute, WrongPath, Duplicate, MissingInput, MissingOutput, Cycle, TooMany, Memory}
 use Rattle.nd_graph.specs.Graphs.{Nodes, rows_of, IsSound}
@@ -23,7 +23,7 @@ pub record IsBundle (check : Bool) (text : List ℕ) (graph : Nodes) : Type 0 wh
   pub acyclic : IsAcyclic (rows_of graph)
 
 -- the first line that is refused has this number, from 1, and this refusal
-pub record IsLineRefused (check : Bool) (text : List ℕ) (fault : LineFault) (number : ℕ) : Type 0 where
+pub record IsLineRefused (check : Bool) (text : List ℕ) (fault : LineError) (number : ℕ) : Type 0 where
   pub before : List (List ℕ)
   pub line : List ℕ
   pub behind : List (List ℕ)
@@ -41,12 +41,12 @@ pub record IsWholeRefused (check : Bool) (text : List ℕ) (fault : GraphError) 
 
 -- The first refusal of the bundle with this text. Want of memory may come at any point.
 abbrev pub IsFirstFault : Bool → List ℕ → GraphError → Type 0
-IsFirstFault check text (BadLine n) = IsLineRefused check text line_fault.BadLine n
-IsFirstFault check text (BadPath n) = IsLineRefused check text line_fault.BadPath n
-IsFirstFault check text (BadDerivation n) = IsLineRefused check text line_fault.BadDerivation n
-IsFirstFault check text (UnknownOutput n) = IsLineRefused check text line_fault.UnknownOutput n
-IsFirstFault check text (BadAttribute n) = IsLineRefused check text line_fault.BadAttribute n
-IsFirstFault check text (WrongPath n) = IsLineRefused check text line_fault.WrongPath n
+IsFirstFault check text (BadLine n) = IsLineRefused check text line_error.BadLine n
+IsFirstFault check text (BadPath n) = IsLineRefused check text line_error.BadPath n
+IsFirstFault check text (BadDerivation n) = IsLineRefused check text line_error.BadDerivation n
+IsFirstFault check text (UnknownOutput n) = IsLineRefused check text line_error.UnknownOutput n
+IsFirstFault check text (BadAttribute n) = IsLineRefused check text line_error.BadAttribute n
+IsFirstFault check text (WrongPath n) = IsLineRefused check text line_error.WrongPath n
 IsFirstFault check text (Duplicate n) = IsWholeRefused check text (Duplicate n)
 IsFirstFault check text (MissingInput n) = IsWholeRefused check text (MissingInput n)
 IsFirstFault check text (MissingOutput n) = IsWholeRefused check text (MissingOutput n)

@@ -11,8 +11,8 @@ use Rattle.nd_path.specs.StorePath.{name_of}
 use Rattle.nd_graph.specs.Derived.{IsOwnPath}
 use Rattle.nd_graph.specs.declared.line.NamedInput.{NamedInput}
 use Rattle.nd_graph.specs.declared.line.LineNode.{LineNode}
-use Rattle.nd_graph.specs.declared.refusal.LineFault.{LineFault}
-use Rattle.nd_graph.specs.declared.refusal.LineFault.TheVariants.{BadLine, BadPath, BadDerivation, UnknownOutput, BadAttribute, WrongPath, Memory}
+use Rattle.nd_graph.specs.declared.refusal.LineError.{LineError}
+use Rattle.nd_graph.specs.declared.refusal.LineError.TheVariants.{BadLine, BadPath, BadDerivation, UnknownOutput, BadAttribute, WrongPath, Memory}
 
 -- the names, the known paths, and whether all are known
 pub record TellsOutputs (outputs : List Output) (found : Outputs) : Type 0 where
@@ -44,7 +44,7 @@ pub record HasAnother (node : LineNode) (text : List ℕ) : Type 0 where
   pub differs : own ≡ node.path → ⊥
 
 -- the fault is `WrongPath` where the node's text has another path, or it is want of memory
-abbrev pub IsAnother : LineNode → List ℕ → LineFault → Type 0
+abbrev pub IsAnother : LineNode → List ℕ → LineError → Type 0
 IsAnother node text BadLine = ⊥
 IsAnother node text BadPath = ⊥
 IsAnother node text BadDerivation = ⊥

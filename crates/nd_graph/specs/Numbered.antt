@@ -1,12 +1,12 @@
--- A line's refusal as one of the bundle. Cited by the clause of `LineFault::at`.
+-- A line's refusal as one of the bundle. Cited by the clause of `LineError::at`.
 use Rattle.std.specs.Prelude.{ℕ}
-use Rattle.nd_graph.specs.declared.refusal.LineFault.{LineFault}
-use Rattle.nd_graph.specs.declared.refusal.LineFault.TheVariants.{BadLine, BadPath, BadDerivation, UnknownOutput, BadAttribute, WrongPath, Memory}
+use Rattle.nd_graph.specs.declared.refusal.LineError.{LineError}
+use Rattle.nd_graph.specs.declared.refusal.LineError.TheVariants.{BadLine, BadPath, BadDerivation, UnknownOutput, BadAttribute, WrongPath, Memory}
 use Rattle.nd_graph.specs.declared.fault.GraphError.{GraphError}
 use Rattle.nd_graph.specs.declared.fault.GraphError.TheVariants as bundle
 
 -- with the number of the line, but for want of memory, which has none
-abbrev pub fault_at : LineFault → ℕ → GraphError
+abbrev pub fault_at : LineError → ℕ → GraphError
 fault_at BadLine line = bundle.BadLine line
 fault_at BadPath line = bundle.BadPath line
 fault_at BadDerivation line = bundle.BadDerivation line

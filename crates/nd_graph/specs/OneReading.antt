@@ -6,14 +6,14 @@ use Rattle.nd_graph.specs.Reads.{Reads}
 use Rattle.nd_graph.specs.declared.fault.GraphError.{GraphError}
 use Rattle.nd_graph.specs.declared.fault.GraphError.TheVariants as bundle
 use Rattle.nd_graph.specs.declared.line.LineNode.{LineNode}
-use Rattle.nd_graph.specs.declared.refusal.LineFault.{LineFault}
-use Rattle.nd_graph.specs.declared.refusal.LineFault.TheVariants.{Memory}
+use Rattle.nd_graph.specs.declared.refusal.LineError.{LineError}
+use Rattle.nd_graph.specs.declared.refusal.LineError.TheVariants.{Memory}
 
 -- Two readings of a line are the same answer, unless one of them wants memory: the refusals exclude one another and
 -- the node, and a line has one node.
 abbrev pub OneReading : Type 0
 OneReading =
-    (check : Bool) (line : List ℕ) (one other : Result LineNode LineFault) → Reads check line one → Reads check line other
+    (check : Bool) (line : List ℕ) (one other : Result LineNode LineError) → Reads check line one → Reads check line other
     → (one ≡ Err Memory) ⊎ ((other ≡ Err Memory) ⊎ (one ≡ other))
 
 -- Two readings of a bundle are the same answer, unless one of them wants memory: the refusals exclude one another and

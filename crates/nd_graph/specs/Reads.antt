@@ -11,8 +11,8 @@ use Rattle.nd_graph.specs.Derived.{Derives, IsOwnPath}
 use Rattle.nd_graph.specs.Attributes.{Needs, AsksNothing}
 use Rattle.nd_graph.specs.declared.line.NamedInput.{NamedInput}
 use Rattle.nd_graph.specs.declared.line.LineNode.{LineNode}
-use Rattle.nd_graph.specs.declared.refusal.LineFault.{LineFault}
-use Rattle.nd_graph.specs.declared.refusal.LineFault.TheVariants.{BadLine, BadPath, BadDerivation, UnknownOutput, BadAttribute, WrongPath, Memory}
+use Rattle.nd_graph.specs.declared.refusal.LineError.{LineError}
+use Rattle.nd_graph.specs.declared.refusal.LineError.TheVariants.{BadLine, BadPath, BadDerivation, UnknownOutput, BadAttribute, WrongPath, Memory}
 
 -- what stands before the first space
 abbrev pub front : List ℕ → List ℕ
@@ -69,7 +69,7 @@ pub record IsElsewhere (path text : List ℕ) : Type 0 where
 
 -- When the text behind a path is refused: it is no derivation's; an output isn't known; its structured attributes
 -- say nothing; with the check, its path is another one. The causes exclude one another, the earlier one first.
-abbrev pub IsBad : Bool → List ℕ → List ℕ → LineFault → Type 0
+abbrev pub IsBad : Bool → List ℕ → List ℕ → LineError → Type 0
 IsBad check path text BadLine = ⊥
 IsBad check path text BadPath = ⊥
 IsBad check path text BadDerivation = (parts : Parts) → Derives text parts → ⊥
@@ -79,13 +79,13 @@ IsBad check path text WrongPath = (check ≡ true) × IsElsewhere path text
 IsBad check path text Memory = Unit {0}
 
 -- the line splits, and its text is refused
-pub record IsBadText (check : Bool) (line : List ℕ) (fault : LineFault) : Type 0 where
+pub record IsBadText (check : Bool) (line : List ℕ) (fault : LineError) : Type 0 where
   pub text : List ℕ
   pub splits : Splits line text
   pub is_bad : IsBad check (front line) text fault
 
 -- When the line is refused with which refusal. Want of memory may come at any point.
-abbrev pub IsFaulty : Bool → List ℕ → LineFault → Type 0
+abbrev pub IsFaulty : Bool → List ℕ → LineError → Type 0
 IsFaulty check line BadLine = back line ≡ None
 IsFaulty check line BadPath = (text : List ℕ) × (back line ≡ Some text) × (is_drv (front line) ≡ false)
 IsFaulty check line BadDerivation = IsBadText check line BadDerivation
@@ -95,6 +95,6 @@ IsFaulty check line WrongPath = IsBadText check line WrongPath
 IsFaulty check line Memory = Unit {0}
 
 -- What reading a line answers.
-abbrev pub Reads : Bool → List ℕ → Result LineNode LineFault → Type 0
+abbrev pub Reads : Bool → List ℕ → Result LineNode LineError → Type 0
 Reads check line (Ok node) = IsLine check line node
 Reads check line (Err fault) = IsFaulty check line fault

@@ -5,7 +5,7 @@ use Rattle.std.specs.List.Sorted.{IsStrictlySortedBy}
 use Rattle.nd_bytes.specs.Compared.{bytes_cmp}
 use Rattle.nd_graph.specs.declared.line.LineNode.{LineNode}
 use Rattle.nd_graph.specs.declared.line.NamedInput.{NamedInput}
-use Rattle.nd_graph.specs.declared.refusal.LineFault.{LineFault}
+use Rattle.nd_graph.specs.declared.refusal.LineError.{LineError}
 use Rattle.nd_graph.specs.declared.fault.GraphError.{GraphError}
 use Rattle.nd_graph.specs.declared.fault.GraphError.TheVariants.{MissingInput, MissingOutput, Memory}
 use Rattle.nd_graph.specs.declared.columns.Columns.{Columns}
@@ -38,33 +38,33 @@ pub record AreFit (nodes : List LineNode) : Type 0 where
   pub fit : (node : LineNode) → Contains nodes node → IsFit node
 
 -- each node that was read is so
-pub record ReadsFit (read : List (Result LineNode LineFault)) : Type 0 where
+pub record ReadsFit (read : List (Result LineNode LineError)) : Type 0 where
   pub fit : (node : LineNode) → Contains read (Ok node) → IsFit node
 
 -- a line was read
-abbrev pub said : LineNode → Result LineNode LineFault
+abbrev pub said : LineNode → Result LineNode LineError
 said node = Ok node
 
 -- all lines were read
-pub record IsRead (read : List (Result LineNode LineFault)) (nodes : List LineNode) : Type 0 where
+pub record IsRead (read : List (Result LineNode LineError)) (nodes : List LineNode) : Type 0 where
   pub all : read ≡ map said nodes
 
 -- a line was refused, after lines that were read, or memory was wanting
-pub record IsFirstErr (read : List (Result LineNode LineFault)) (error : GraphError) : Type 0 where
+pub record IsFirstErr (read : List (Result LineNode LineError)) (error : GraphError) : Type 0 where
   pub before : List LineNode
-  pub fault : LineFault
-  pub behind : List (Result LineNode LineFault)
+  pub fault : LineError
+  pub behind : List (Result LineNode LineError)
   pub parts : read ≡ map said before ++ Err fault ∷ behind
   pub error_is : error ≡ fault_at fault (length before + 1)
 
 -- a line was refused, or the nodes are no graph together
-pub data IsReadFault (read : List (Result LineNode LineFault)) (error : GraphError) : Type 0 where
+pub data IsReadFault (read : List (Result LineNode LineError)) (error : GraphError) : Type 0 where
   of_line : IsFirstErr read error → IsReadFault read error
   of_whole : (nodes : List LineNode) → IsRead read nodes → IsWholeFault (links_of nodes) error → IsReadFault read error
   of_memory : error ≡ Memory → IsReadFault read error
 
 -- the graph of what was read
-pub record IsGraphRead (read : List (Result LineNode LineFault)) (graph : Nodes) : Type 0 where
+pub record IsGraphRead (read : List (Result LineNode LineError)) (graph : Nodes) : Type 0 where
   pub nodes : List LineNode
   pub read_is : IsRead read nodes
   pub of : IsGraphOf nodes graph

@@ -4,7 +4,7 @@ ghost use Rattle.std.specs.Prelude.{◌≡◌, option_map, IfOk, IfErr};
 ghost use Rattle.nd_graph.specs.Attributes.{variable, is_one, structured, AreVariables, Asks, Needs, AsksNothing};
 ghost use Rattle.nd_graph.specs.Refused.{Attribute};
 
-use crate::refusal::LineFault;
+use crate::refusal::LineError;
 use crate::structured::{Wishes, read_structured};
 use nd_aterm::EnvEntry;
 use nd_bytes::ByteString;
@@ -17,7 +17,7 @@ pub(crate) fn need_of(
     platform: ByteString,
     builder: &[u8],
     env: &[EnvEntry],
-) -> Result<Need, LineFault>
+) -> Result<Need, LineError>
     ensures ok { IfOk result (λ need. Needs platform builder.now env.now need) }
     ensures err { IfErr result (λ fault. Attribute fault (AsksNothing env.now)) }
 {
@@ -34,7 +34,7 @@ pub(crate) fn need_of(
 }
 
 /// What the environment asks for.
-fn wishes_of(alloc: Global, env: &[EnvEntry]) -> Result<Wishes, LineFault>
+fn wishes_of(alloc: Global, env: &[EnvEntry]) -> Result<Wishes, LineError>
     ensures ok { IfOk result (λ wishes. Asks (structured env.now) env.now wishes) }
     ensures err { IfErr result (λ fault. Attribute fault (AsksNothing env.now)) }
 {

@@ -7,7 +7,7 @@ ghost use Rattle.nd_graph.specs.Reads.{Reads};
 
 use crate::line::LineNode;
 use crate::reading::read_line;
-use crate::refusal::LineFault;
+use crate::refusal::LineError;
 use nd_bytes::cut;
 use rayon::prelude::*;
 use std::alloc::{AllocError, Global};
@@ -19,7 +19,7 @@ pub(crate) fn read_lines(
     alloc: Global,
     text: &[u8],
     check: bool,
-) -> Result<Vec<Result<LineNode, LineFault>>, AllocError>
+) -> Result<Vec<Result<LineNode, LineError>>, AllocError>
     ensures { IfOk result (λ read. AllZip (Reads check) (lines text.now) read.items) }
 {
     let lines = cut_lines(alloc, text)?;
@@ -36,7 +36,7 @@ pub(crate) fn read_lines_in_parallel(
     alloc: Global,
     text: &[u8],
     check: bool,
-) -> Result<Vec<Result<LineNode, LineFault>>, AllocError>
+) -> Result<Vec<Result<LineNode, LineError>>, AllocError>
     ensures { IfOk result (λ read. AllZip (Reads check) (lines text.now) read.items) }
 {
     let lines = cut_lines(alloc, text)?;
@@ -44,7 +44,7 @@ pub(crate) fn read_lines_in_parallel(
         .as_slice()
         .par_iter()
         .map(
-            |line: &&[u8]| -> Result<LineNode, LineFault>
+            |line: &&[u8]| -> Result<LineNode, LineError>
                 ensures { Reads check line.now.now result }
             { read_line(alloc, line, check) },
         )

@@ -11,7 +11,7 @@ ghost use Rattle.nd_graph.specs.Refused.{NotPaths, WantsMemory};
 
 use crate::kinds::{Outputs, inputs_of, outputs_of, sources_of};
 use crate::line::NamedInput;
-use crate::refusal::LineFault;
+use crate::refusal::LineError;
 use nd_aterm::{AtermError, Derivation, EnvEntry, parse};
 use nd_bytes::{ByteString, Items};
 use nd_path::{PathError, PathSet, StorePath, text_path};
@@ -35,7 +35,7 @@ pub(crate) struct Contents {
 }
 
 /// What the text of a derivation says, whose paths are of their kinds.
-pub(crate) fn contents_of(alloc: Global, text: &[u8]) -> Result<Contents, LineFault>
+pub(crate) fn contents_of(alloc: Global, text: &[u8]) -> Result<Contents, LineError>
     ensures found { IfOk result (λ contents. (parts : Parts) × Derives text.now parts × HasContents parts contents) }
     ensures err { IfErr result (λ fault. NotPaths fault ((parts : Parts) → Derives text.now parts → ⊥)) }
 {
@@ -62,7 +62,7 @@ pub(crate) fn contents_of(alloc: Global, text: &[u8]) -> Result<Contents, LineFa
 }
 
 /// The derivation of a text.
-fn derivation_of(alloc: Global, text: &[u8]) -> Result<Derivation, LineFault>
+fn derivation_of(alloc: Global, text: &[u8]) -> Result<Derivation, LineError>
     ensures found { IfOk result (λ derivation. Spells text.now (parts_of derivation)) }
     ensures once { (parts : Parts) → Spells text.now parts
         → IfOk result (λ derivation. parts_of derivation ≡ parts) }
@@ -70,8 +70,8 @@ fn derivation_of(alloc: Global, text: &[u8]) -> Result<Derivation, LineFault>
 {
     match parse(alloc, text) {
         Ok(derivation) => Ok(derivation),
-        Err(AtermError::Memory) => Err(LineFault::Memory),
-        Err(_) => Err(LineFault::BadDerivation),
+        Err(AtermError::Memory) => Err(LineError::Memory),
+        Err(_) => Err(LineError::BadDerivation),
     }
 }
 
@@ -82,7 +82,7 @@ pub(crate) fn own_path(
     inputs: &[NamedInput],
     sources: &[StorePath],
     text: &[u8],
-) -> Result<StorePath, LineFault>
+) -> Result<StorePath, LineError>
     requires { is_name name.now ≡ true }
     ensures own { IfOk result (IsOwnPath name.now text.now (sources.now ++ map path_of inputs.now)) }
     ensures err { IfErr result WantsMemory }
@@ -90,7 +90,7 @@ pub(crate) fn own_path(
     let refs = references_of(alloc, inputs, sources)?;
     match text_path(alloc, name, refs.as_slice(), text) {
         Ok(path) => Ok(path),
-        Err(PathError::Memory) => Err(LineFault::Memory),
+        Err(PathError::Memory) => Err(LineError::Memory),
         Err(_) => unreachable!(),
     }
 }

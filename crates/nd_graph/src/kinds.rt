@@ -7,27 +7,27 @@ ghost use Rattle.nd_graph.specs.Refused.{WantsMemory, NotPaths};
 ghost use Rattle.nd_graph.specs.Found.{TellsOutputs};
 
 use crate::line::NamedInput;
-use crate::refusal::LineFault;
+use crate::refusal::LineError;
 use nd_aterm::{InputDrv, Output};
 use nd_bytes::{ByteString, Items};
 use nd_path::{PathError, StorePath};
 use std::alloc::Global;
 
 /// The store path with these bytes, or `None` where they are no store path.
-pub(crate) fn store_path(alloc: Global, bytes: &[u8]) -> Result<Option<StorePath>, LineFault>
+pub(crate) fn store_path(alloc: Global, bytes: &[u8]) -> Result<Option<StorePath>, LineError>
     ensures ok { IfOk result (λ found. MatchOption found (is_path bytes.now ≡ false)
         (λ path. (path ≡ bytes.now) × (is_path bytes.now ≡ true))) }
     ensures err { IfErr result WantsMemory }
 {
     match StorePath::parse(alloc, bytes) {
         Ok(path) => Ok(Some(path)),
-        Err(PathError::Memory) => Err(LineFault::Memory),
+        Err(PathError::Memory) => Err(LineError::Memory),
         Err(_) => Ok(None),
     }
 }
 
 /// The store path of a derivation with these bytes, or `None` where they are none.
-pub(crate) fn drv_store_path(alloc: Global, bytes: &[u8]) -> Result<Option<StorePath>, LineFault>
+pub(crate) fn drv_store_path(alloc: Global, bytes: &[u8]) -> Result<Option<StorePath>, LineError>
     ensures ok { IfOk result (λ found. MatchOption found (is_drv bytes.now ≡ false)
         (λ path. (path ≡ bytes.now) × (is_drv bytes.now ≡ true))) }
     ensures err { IfErr result WantsMemory }
@@ -46,7 +46,7 @@ pub(crate) fn drv_store_path(alloc: Global, bytes: &[u8]) -> Result<Option<Store
 pub(crate) fn inputs_of(
     alloc: Global,
     drvs: Items<InputDrv>,
-) -> Result<Items<NamedInput>, LineFault>
+) -> Result<Items<NamedInput>, LineError>
     ensures same { IfOk result (λ inputs. inputs ≡ map named drvs) }
     ensures paths { IfOk result (λ _. are_drvs drvs ≡ true) }
     ensures err { IfErr result (λ fault. NotPaths fault (are_drvs drvs ≡ false)) }
@@ -55,7 +55,7 @@ pub(crate) fn inputs_of(
     for drv in drvs.into_vec() {
         let InputDrv { path, outputs } = drv;
         let Some(path) = drv_store_path(alloc, path.as_slice())? else {
-            return Err(LineFault::BadDerivation);
+            return Err(LineError::BadDerivation);
         };
         inputs.push(NamedInput {
             path,
@@ -69,7 +69,7 @@ pub(crate) fn inputs_of(
 pub(crate) fn sources_of(
     alloc: Global,
     sources: &[ByteString],
-) -> Result<Items<StorePath>, LineFault>
+) -> Result<Items<StorePath>, LineError>
     ensures same { IfOk result (λ paths. paths ≡ sources.now) }
     ensures paths { IfOk result (λ _. are_paths sources.now ≡ true) }
     ensures err { IfErr result (λ fault. NotPaths fault (are_paths sources.now ≡ false)) }
@@ -77,7 +77,7 @@ pub(crate) fn sources_of(
     let mut paths = Vec::with_capacity(alloc, sources.len())?;
     for source in sources {
         let Some(path) = store_path(alloc, source.as_slice())? else {
-            return Err(LineFault::BadDerivation);
+            return Err(LineError::BadDerivation);
         };
         paths.push(path)?;
     }
@@ -96,7 +96,7 @@ pub(crate) struct Outputs {
 }
 
 /// The outputs' names and paths.
-pub(crate) fn outputs_of(alloc: Global, outputs: Items<Output>) -> Result<Outputs, LineFault>
+pub(crate) fn outputs_of(alloc: Global, outputs: Items<Output>) -> Result<Outputs, LineError>
     ensures found { IfOk result (TellsOutputs outputs) }
     ensures paths { IfOk result (λ _. are_outputs outputs ≡ true) }
     ensures err { IfErr result (λ fault. NotPaths fault (are_outputs outputs ≡ false)) }
@@ -117,7 +117,7 @@ pub(crate) fn outputs_of(alloc: Global, outputs: Items<Output>) -> Result<Output
             continue;
         }
         let Some(path) = store_path(alloc, path.as_slice())? else {
-            return Err(LineFault::BadDerivation);
+            return Err(LineError::BadDerivation);
         };
         paths.push(path)?;
     }

@@ -9,7 +9,7 @@ use crate::attributes::need_of;
 use crate::derived::{Contents, contents_of, own_path};
 use crate::kinds::{Outputs, drv_store_path};
 use crate::line::LineNode;
-use crate::refusal::LineFault;
+use crate::refusal::LineError;
 use nd_bytes::cut;
 use nd_path::StorePath;
 use std::alloc::Global;
@@ -20,15 +20,15 @@ use std::alloc::Global;
 /// and, with `check`, `WrongPath` that the line gives cause for, and with `Memory` where an
 /// allocation is refused.
 #[tactic(auto, using(crate::proofs::Sayings::lines))]
-pub(crate) fn read_line(alloc: Global, line: &[u8], check: bool) -> Result<LineNode, LineFault>
+pub(crate) fn read_line(alloc: Global, line: &[u8], check: bool) -> Result<LineNode, LineError>
     ensures { Reads check line.now result }
 {
     let (front, back) = cut(line, b' ');
     let Some(text) = back else {
-        return Err(LineFault::BadLine);
+        return Err(LineError::BadLine);
     };
     let Some(path) = drv_store_path(alloc, front)? else {
-        return Err(LineFault::BadPath);
+        return Err(LineError::BadPath);
     };
     read_text(alloc, path, text, check)
 }
@@ -41,7 +41,7 @@ fn read_text(
     path: StorePath,
     text: &[u8],
     check: bool,
-) -> Result<LineNode, LineFault>
+) -> Result<LineNode, LineError>
     ensures ok { IfOk result (IsNode check path text.now) }
     ensures err { IfErr result (IsBad check path text.now) }
 {
@@ -53,7 +53,7 @@ fn read_text(
 }
 
 /// Whether the node's path is the one that its text has.
-fn check_path(alloc: Global, node: &LineNode, text: &[u8]) -> Result<(), LineFault>
+fn check_path(alloc: Global, node: &LineNode, text: &[u8]) -> Result<(), LineError>
     ensures ok { OnOk result (IsOwnPathOf node.now text.now node.now.path) }
     ensures err { IfErr result (IsAnother node.now text.now) }
 {
@@ -66,13 +66,13 @@ fn check_path(alloc: Global, node: &LineNode, text: &[u8]) -> Result<(), LineFau
         text,
     )?;
     if own != node.path {
-        return Err(LineFault::WrongPath);
+        return Err(LineError::WrongPath);
     }
     Ok(())
 }
 
 /// The node of the derivation with this path and this text.
-fn node_of(alloc: Global, path: StorePath, text: &[u8]) -> Result<LineNode, LineFault>
+fn node_of(alloc: Global, path: StorePath, text: &[u8]) -> Result<LineNode, LineError>
     ensures path { IfOk result (λ node. node.path ≡ path) }
     ensures tells { IfOk result (λ node. (parts : Parts) × Tells text.now parts node) }
     ensures err { IfErr result (IsBad false path text.now) }
@@ -91,7 +91,7 @@ fn node_of(alloc: Global, path: StorePath, text: &[u8]) -> Result<LineNode, Line
         known,
     } = outputs;
     if !known {
-        return Err(LineFault::UnknownOutput);
+        return Err(LineError::UnknownOutput);
     }
     let need = need_of(alloc, platform, builder.as_slice(), env.as_slice())?;
     Ok(LineNode {

@@ -7,7 +7,7 @@ use std::fmt::{self, Display, Formatter, Write};
 
 /// Why a line of a bundle is refused, the causes in the order in which they are looked for.
 #[derive(Clone, Copy, Debug, PartialEq, Eq)]
-pub enum LineFault {
+pub enum LineError {
     /// 1: the line is empty or has no space.
     BadLine,
     /// 2: what stands before the first space is no store path, or doesn't end in `.drv`.
@@ -25,7 +25,7 @@ pub enum LineFault {
     Memory,
 }
 
-impl LineFault {
+impl LineError {
     ghost use Rattle.std.specs.Prelude.{◌≡◌};
     ghost use Rattle.nd_graph.specs.Numbered.{fault_at};
 
@@ -34,40 +34,40 @@ impl LineFault {
         ensures { result ≡ fault_at self line }
     {
         match self {
-            LineFault::BadLine => GraphError::BadLine(line),
-            LineFault::BadPath => GraphError::BadPath(line),
-            LineFault::BadDerivation => GraphError::BadDerivation(line),
-            LineFault::UnknownOutput => GraphError::UnknownOutput(line),
-            LineFault::BadAttribute => GraphError::BadAttribute(line),
-            LineFault::WrongPath => GraphError::WrongPath(line),
-            LineFault::Memory => GraphError::Memory,
+            LineError::BadLine => GraphError::BadLine(line),
+            LineError::BadPath => GraphError::BadPath(line),
+            LineError::BadDerivation => GraphError::BadDerivation(line),
+            LineError::UnknownOutput => GraphError::UnknownOutput(line),
+            LineError::BadAttribute => GraphError::BadAttribute(line),
+            LineError::WrongPath => GraphError::WrongPath(line),
+            LineError::Memory => GraphError::Memory,
         }
     }
 }
 
-impl From<AllocError> for LineFault {
+impl From<AllocError> for LineError {
     ghost use Rattle.std.specs.Prelude.{◌≡◌};
-    ghost use Rattle.nd_graph.specs.declared.refusal.LineFault.TheVariants.{Memory};
+    ghost use Rattle.nd_graph.specs.declared.refusal.LineError.TheVariants.{Memory};
 
     ghost from_gives = { λ _ e. e ≡ Memory };
 
-    fn from(_refused: AllocError) -> LineFault {
-        LineFault::Memory
+    fn from(_refused: AllocError) -> LineError {
+        LineError::Memory
     }
 }
 
-impl<T: Drop> From<AllocFailed<T>> for LineFault {
+impl<T: Drop> From<AllocFailed<T>> for LineError {
     ghost use Rattle.std.specs.Prelude.{◌≡◌};
-    ghost use Rattle.nd_graph.specs.declared.refusal.LineFault.TheVariants.{Memory};
+    ghost use Rattle.nd_graph.specs.declared.refusal.LineError.TheVariants.{Memory};
 
     ghost from_gives = { λ _ e. e ≡ Memory };
 
-    fn from(_refused: AllocFailed<T>) -> LineFault {
-        LineFault::Memory
+    fn from(_refused: AllocFailed<T>) -> LineError {
+        LineError::Memory
     }
 }
 
-impl Display for LineFault {
+impl Display for LineError {
     ghost use Rattle.std.specs.Prelude.{Some};
     ghost use Rattle.nd_graph.specs.Names.{fault_name};
 
@@ -75,15 +75,15 @@ impl Display for LineFault {
 
     fn fmt<W: Write>(&self, f: &mut Formatter<W>) -> fmt::Result {
         f.write_str(match self {
-            LineFault::BadLine => "BadLine",
-            LineFault::BadPath => "BadPath",
-            LineFault::BadDerivation => "BadDerivation",
-            LineFault::UnknownOutput => "UnknownOutput",
-            LineFault::BadAttribute => "BadAttribute",
-            LineFault::WrongPath => "WrongPath",
-            LineFault::Memory => "Memory",
+            LineError::BadLine => "BadLine",
+            LineError::BadPath => "BadPath",
+            LineError::BadDerivation => "BadDerivation",
+            LineError::UnknownOutput => "UnknownOutput",
+            LineError::BadAttribute => "BadAttribute",
+            LineError::WrongPath => "WrongPath",
+            LineError::Memory => "Memory",
         })
     }
 }
 
-impl Error for LineFault {}
+impl Error for LineError {}

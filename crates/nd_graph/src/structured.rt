@@ -7,7 +7,7 @@ ghost use Rattle.nd_graph.specs.Structured.{IsJson, strings, features_in, prefer
 ghost use Rattle.nd_graph.specs.Refused.{NotJson, NotStrings, NotFeatures, NotPreference, SaysNothing};
 ghost use Rattle.nd_graph.specs.Wishes.{Says};
 
-use crate::refusal::LineFault;
+use crate::refusal::LineError;
 use nd_bytes::{ByteString, Items};
 use nd_eligible::FeatureSet;
 use serde_json::Value;
@@ -23,13 +23,13 @@ pub(crate) struct Wishes {
 }
 
 /// The wishes that the JSON text of structured attributes says.
-pub(crate) fn read_structured(alloc: Global, text: &[u8]) -> Result<Wishes, LineFault>
+pub(crate) fn read_structured(alloc: Global, text: &[u8]) -> Result<Wishes, LineError>
     ensures ok { IfOk result (λ wishes. Says text.now wishes) }
     ensures err { IfErr result (λ fault. SaysNothing text.now fault) }
 {
     let value = json_value(alloc, text)?;
     if !value.is_object() {
-        return Err(LineFault::BadAttribute);
+        return Err(LineError::BadAttribute);
     }
     let listed = features_of(alloc, value.get("requiredSystemFeatures"))?;
     let prefer_local = preference_of(value.get("preferLocalBuild"))?;
@@ -39,7 +39,7 @@ pub(crate) fn read_structured(alloc: Global, text: &[u8]) -> Result<Wishes, Line
     })
 }
 
-fn json_value(alloc: Global, text: &[u8]) -> Result<Value, LineFault>
+fn json_value(alloc: Global, text: &[u8]) -> Result<Value, LineError>
     ensures ok { IfOk result (λ value. IsJson text.now (view value)) }
     ensures err { IfErr result (λ fault. NotJson text.now fault) }
 {
@@ -47,15 +47,15 @@ fn json_value(alloc: Global, text: &[u8]) -> Result<Value, LineFault>
         Ok(value) => Ok(value),
         Err(error) => {
             if error.is_memory() {
-                Err(LineFault::Memory)
+                Err(LineError::Memory)
             } else {
-                Err(LineFault::BadAttribute)
+                Err(LineError::BadAttribute)
             }
         }
     }
 }
 
-fn features_of(alloc: Global, member: Option<&Value>) -> Result<Items<ByteString>, LineFault>
+fn features_of(alloc: Global, member: Option<&Value>) -> Result<Items<ByteString>, LineError>
     ensures ok { IfOk result (λ features. features_in (option_map (λ v. view v.now) member.entry) ≡ Some features) }
     ensures err { IfErr result (λ fault. NotFeatures (option_map (λ v. view v.now) member.entry) fault) }
 {
@@ -63,12 +63,12 @@ fn features_of(alloc: Global, member: Option<&Value>) -> Result<Items<ByteString
         return Ok(Items::new(Vec::new(alloc)));
     };
     let Some(items) = value.as_array() else {
-        return Err(LineFault::BadAttribute);
+        return Err(LineError::BadAttribute);
     };
     strings_of(alloc, items.as_slice())
 }
 
-fn preference_of(member: Option<&Value>) -> Result<bool, LineFault>
+fn preference_of(member: Option<&Value>) -> Result<bool, LineError>
     ensures ok { IfOk result (λ preference. preference_in (option_map (λ v. view v.now) member.entry) ≡ Some preference) }
     ensures err { IfErr result (λ fault. NotPreference (option_map (λ v. view v.now) member.entry) fault) }
 {
@@ -77,19 +77,19 @@ fn preference_of(member: Option<&Value>) -> Result<bool, LineFault>
     };
     match value.as_bool() {
         Some(preference) => Ok(preference),
-        None => Err(LineFault::BadAttribute),
+        None => Err(LineError::BadAttribute),
     }
 }
 
 #[tactic(auto, using(crate::proofs::Strings::steps))]
-fn strings_of(alloc: Global, values: &[Value]) -> Result<Items<ByteString>, LineFault>
+fn strings_of(alloc: Global, values: &[Value]) -> Result<Items<ByteString>, LineError>
     ensures ok { IfOk result (λ texts. strings (items_view values.now) ≡ Some texts) }
     ensures err { IfErr result (λ fault. NotStrings (items_view values.now) fault) }
 {
     let mut texts = Vec::new(alloc);
     for value in values {
         let Some(text) = value.as_str() else {
-            return Err(LineFault::BadAttribute);
+            return Err(LineError::BadAttribute);
         };
         texts.push(ByteString::from_slice(alloc, text.as_bytes())?)?;
     }

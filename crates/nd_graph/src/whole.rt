@@ -13,7 +13,7 @@ use crate::line::{LineNode, NamedInput};
 use crate::missing::missing_input;
 use crate::number::number_all;
 use crate::order::find_order;
-use crate::refusal::LineFault;
+use crate::refusal::LineError;
 use crate::resolve::number_inputs;
 use indexmap::IndexSet;
 use nd_bytes::{ByteString, Items};
@@ -28,7 +28,7 @@ const NODE_LIMIT: usize = 65_536;
 #[tactic(auto, using(crate::proofs::Assembled::read_paired, crate::proofs::Assembled::graph_read, crate::proofs::Assembled::fault_read))]
 pub(crate) fn graph_of(
     alloc: Global,
-    read: Vec<Result<LineNode, LineFault>>,
+    read: Vec<Result<LineNode, LineError>>,
 ) -> Result<Graph, GraphError>
     requires { ReadsFit read.items }
     ensures ok { IfOk result (λ graph. IsGraphRead read.items graph) }
@@ -42,7 +42,7 @@ pub(crate) fn graph_of(
 #[tactic(auto, using(crate::proofs::Assembled::line_refused))]
 fn settle(
     alloc: Global,
-    read: Vec<Result<LineNode, LineFault>>,
+    read: Vec<Result<LineNode, LineError>>,
 ) -> Result<Vec<LineNode>, GraphError>
     ensures ok { IfOk result (λ nodes. IsRead read.items nodes.items) }
     ensures err { IfErr result (λ error. IsReadFault read.items error) }

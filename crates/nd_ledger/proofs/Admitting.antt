@@ -18,7 +18,7 @@ use Rattle.nd_history.proofs.Legality.{leased_ranged}
 use Rattle.nd_history.proofs.Provisions.{leased_by}
 use Rattle.nd_history.proofs.Rules.{rules_decide, found_lease, started_twice, started_wrongly, down_late, built_early, built_wrongly, stopped_twice}
 use Rattle.nd_history.proofs.Slots.{same_of}
-use Rattle.nd_stores.specs.Stored.{IsUncovered, IsExtra}
+use Rattle.nd_provision.specs.Stored.{IsUncovered, IsExtra}
 use Rattle.nd_ledger.specs.declared.refusal.AdmitError.{AdmitError}
 use Rattle.nd_ledger.specs.declared.refusal.AdmitError.TheVariants.{Illegal, Memory}
 use Rattle.nd_ledger.specs.declared.refusal.Refusal.{Refusal}

@@ -17,8 +17,8 @@ use Rattle.nd_history.specs.Standing.{drvs_in}
 use Rattle.nd_history.specs.Choices.{AreSmall}
 use Rattle.nd_history.specs.Legal.{IsLegal, IsAllowed}
 use Rattle.nd_history.specs.Fitting.{FitTogether}
-use Rattle.nd_stores.specs.Stored.{Stored, AreStored, is_quiet, IsSameStored, HasTaken}
-use Rattle.nd_stores.specs.declared.copying.Additions.{Additions}
+use Rattle.nd_provision.specs.Stored.{Stored, AreStored, is_quiet, IsSameStored, HasTaken}
+use Rattle.nd_provision.specs.declared.copying.Additions.{Additions}
 use Rattle.nd_history.specs.Pumping.{step_drv}
 use Rattle.nd_ledger.specs.Moves.{IsRoomier, IsStepRecorded, IsReadyToStart, IsReadyToEnd}
 use Rattle.nd_ledger.specs.Inner.{IsKept, room_for}
@@ -28,7 +28,7 @@ use Rattle.nd_history.proofs.Legality.{leased_ranged}
 use Rattle.nd_history.proofs.Slots.{load_within}
 use Rattle.nd_history.proofs.Boards.{leased_marked}
 use Rattle.nd_history.proofs.Marking.{followed}
-use Rattle.nd_stores.proofs.Storing.{stored_quiet, stored_same, stored_start, stored_built}
+use Rattle.nd_provision.proofs.Storing.{stored_quiet, stored_same, stored_start, stored_built}
 
 -- one more entry in the book and on the board
 pub record IsRecorded (old new : Recorded) (was now : Progress) (e : Entry) : Type 0 where

@@ -3,8 +3,8 @@ use Rattle.std.proofs.Common.{◌≡◌, ◌==◌, ℕ, zero, suc, ◌<◌, ◌�
 use Rattle.std.specs.Bool.{MatchBool}
 use Rattle.std.proofs.lemmas.List.{length-map}
 use Rattle.nd_graph.specs.Graphs.{nodes_of}
-use Rattle.nd_stores.specs.declared.copying.PathsFault.{PathsFault}
-use Rattle.nd_stores.specs.declared.copying.PathsFault.TheVariants.{Uncovered, Extra, Memory}
+use Rattle.nd_provision.specs.declared.copying.PathsError.{PathsError}
+use Rattle.nd_provision.specs.declared.copying.PathsError.TheVariants.{Uncovered, Extra, Memory}
 use Rattle.nd_history.specs.declared.entry.Entry.{Entry}
 use Rattle.nd_history.specs.declared.entry.Entry.TheVariants.{Chosen}
 use Rattle.nd_leases.specs.declared.ticket.Ticket.{Ticket}
@@ -17,7 +17,7 @@ use Rattle.nd_history.specs.Choices.{machines_in, jobs_of, AreSmall}
 use Rattle.nd_history.specs.Legal.{IsLegal}
 use Rattle.nd_ledger.specs.Refusals.{IsLive}
 use Rattle.nd_history.specs.Fitting.{FitTogether}
-use Rattle.nd_stores.specs.Stored.{Stored, AreStored, IsPathsFault}
+use Rattle.nd_provision.specs.Stored.{Stored, AreStored, IsPathsFault}
 use Rattle.nd_ledger.specs.Moves.{IsStartRefused, refusal_for}
 use Rattle.nd_history.proofs.Legality.{leased_ranged, allowed_at}
 use Rattle.nd_history.proofs.Headline.{chosen_in}
@@ -46,7 +46,7 @@ live_in_park i book s t fit stored found =
     let ranged = ticket_ranged i (reverse book.entries) t fit.legal found in let park = stored.holdings.park in omega arith
 
 -- what is wrong with the paths is why the start is refused
-pub start_refused : (i : Premises) (past : List Entry) (t : Ticket) (paths : List (List ℕ)) (fault : PathsFault) → IsLive past t → is_started t.drv past ≡ false → IsPathsFault i past t.drv t.machine paths fault → IsStartRefused i past t paths (refusal_for fault)
+pub start_refused : (i : Premises) (past : List Entry) (t : Ticket) (paths : List (List ℕ)) (fault : PathsError) → IsLive past t → is_started t.drv past ≡ false → IsPathsFault i past t.drv t.machine paths fault → IsStartRefused i past t paths (refusal_for fault)
 start_refused i past t paths Uncovered live fresh h = (live, fresh, h)
 start_refused i past t paths Extra live fresh h = (live, fresh, h)
 start_refused i past t paths Memory live fresh h = (live, fresh)

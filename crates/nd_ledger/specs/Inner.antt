@@ -9,7 +9,7 @@ use Rattle.nd_history.specs.History.{live, has_stop}
 use Rattle.nd_history.specs.Standing.{drvs_in}
 use Rattle.nd_history.specs.Choices.{AreSmall}
 use Rattle.nd_history.specs.Legal.{IsLegal}
-use Rattle.nd_stores.specs.Stored.{AreStored}
+use Rattle.nd_provision.specs.Stored.{AreStored}
 use Rattle.nd_history.specs.Marks.{AreMarked}
 
 abbrev pub seen : Inside → World

@@ -3,9 +3,9 @@
 use Rattle.std.specs.Prelude.{◌≡◌, ℕ, ◌+◌, ◌≤◌, true, false, List, [], ◌∷◌, ◌++◌, length, reverse}
 use Rattle.nd_ledger.specs.declared.refusal.Refusal.{Refusal}
 use Rattle.nd_ledger.specs.declared.refusal.Refusal.TheVariants.{NotLive, AlreadyStarted, NotStarted, Uncovered, Extra, BadReferences, AlreadyStopped, Memory}
-use Rattle.nd_stores.specs.declared.copying.Additions.{Additions}
-use Rattle.nd_stores.specs.declared.copying.PathsFault.{PathsFault}
-use Rattle.nd_stores.specs.declared.copying.PathsFault.TheVariants.{Uncovered as Bare, Extra as Beside, Memory as NoMemory}
+use Rattle.nd_provision.specs.declared.copying.Additions.{Additions}
+use Rattle.nd_provision.specs.declared.copying.PathsError.{PathsError}
+use Rattle.nd_provision.specs.declared.copying.PathsError.TheVariants.{Uncovered as Bare, Extra as Beside, Memory as NoMemory}
 use Rattle.nd_history.specs.declared.entry.Entry.{Entry}
 use Rattle.nd_leases.specs.declared.ticket.Ticket.{Ticket}
 use Rattle.nd_failure.specs.Progress.{Progress}
@@ -15,7 +15,7 @@ use Rattle.nd_history.specs.History.{live as leases, is_started}
 use Rattle.nd_ledger.specs.Refusals.{IsLive}
 use Rattle.nd_history.specs.Marks.{board_after}
 use Rattle.nd_history.specs.References.{ArePathsRight, AreReferencesRight}
-use Rattle.nd_stores.specs.Stored.{Stored, Fits, AreStartAdditions, AreBuiltAdditions, IsUncovered, IsExtra}
+use Rattle.nd_provision.specs.Stored.{Stored, Fits, AreStartAdditions, AreBuiltAdditions, IsUncovered, IsExtra}
 
 -- `started` is refused where the ticket isn't a live lease's, then where the lease was started, then where a path of the closure is
 -- lacking, then where a copied path is outside it; memory is wanted only for a live lease that was not started
@@ -53,7 +53,7 @@ IsJobRefused past t BadReferences = ⊥
 IsJobRefused past t AlreadyStopped = ⊥
 
 -- the refusal of paths that aren't right
-abbrev pub refusal_for : PathsFault → Refusal
+abbrev pub refusal_for : PathsError → Refusal
 refusal_for Bare = Uncovered
 refusal_for Beside = Extra
 refusal_for NoMemory = Memory

@@ -16,7 +16,7 @@ ghost use Rattle.nd_history.specs.Pumping.{HasPumped, HasPumpedBy, AreAtRest};
 ghost use Rattle.nd_choose.specs.Best.{jobs_at};
 ghost use Rattle.nd_ledger.specs.Moves.{IsStartRefused, IsEndRefused, IsJobRefused};
 ghost use Rattle.nd_history.specs.References.{outputs_of};
-ghost use Rattle.nd_stores.specs.Stored.{IsMissing};
+ghost use Rattle.nd_provision.specs.Stored.{IsMissing};
 ghost use Rattle.nd_ledger.specs.Worlds.{GoesOnFrom};
 ghost use Rattle.nd_ledger.specs.Refusals.{IsLive, IsTicketOf, IsFailRefused, IsDownRefused, IsStopRefused};
 
@@ -40,7 +40,7 @@ use nd_hook::Reply;
 use nd_leases::Ticket;
 use nd_machines::Machine;
 use nd_path::PathSet;
-use nd_stores::stores::Stores;
+use nd_provision::stores::Stores;
 use std::alloc::{AllocError, Global};
 use std::marker::Model;
 

@@ -5,7 +5,7 @@ ghost use Rattle.nd_history.specs.Fitting.{FitTogether};
 ghost use Rattle.nd_ledger.specs.Moves.{IsStartRefused, IsEndRefused, refusal_for, IsRoomier, IsReadyToStart, IsReadyToEnd};
 ghost use Rattle.nd_history.specs.Premises.{premises_of};
 ghost use Rattle.nd_ledger.specs.Refusals.{IsLive};
-ghost use Rattle.nd_stores.specs.Stored.{AreStored, IsSameStored};
+ghost use Rattle.nd_provision.specs.Stored.{AreStored, IsSameStored};
 
 use crate::refusal::Refusal;
 use nd_closure::Refs;
@@ -13,8 +13,8 @@ use nd_history::book::Book;
 use nd_history::inputs::Inputs;
 use nd_leases::Ticket;
 use nd_path::PathSet;
-use nd_stores::copying::{Additions, PathsFault};
-use nd_stores::stores::Stores;
+use nd_provision::copying::{Additions, PathsError};
+use nd_provision::stores::Stores;
 use std::alloc::Global;
 
 /// Whether the ticket is a live lease's.
@@ -93,12 +93,12 @@ pub(crate) fn prepare_end(
 }
 
 /// The refusal of a call with paths that aren't right.
-fn refusal_of(fault: PathsFault) -> Refusal
+fn refusal_of(fault: PathsError) -> Refusal
     ensures { result ≡ refusal_for fault }
 {
     match fault {
-        PathsFault::Uncovered => Refusal::Uncovered,
-        PathsFault::Extra => Refusal::Extra,
-        PathsFault::Memory => Refusal::Memory,
+        PathsError::Uncovered => Refusal::Uncovered,
+        PathsError::Extra => Refusal::Extra,
+        PathsError::Memory => Refusal::Memory,
     }
 }

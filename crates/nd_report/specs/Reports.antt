@@ -19,8 +19,8 @@ use Rattle.nd_history.specs.Choices.{jobs_of}
 use Rattle.nd_history.specs.Standing.{drvs_in}
 use Rattle.nd_history.specs.Statuses.{HasStatusIn, AreCountsIn}
 use Rattle.nd_ledger.specs.Worlds.{World}
-use Rattle.nd_texts.specs.Rows.{row, share}
-use Rattle.nd_texts.specs.Sending.{IsPut}
+use Rattle.nd_history_text.specs.Rows.{row, share}
+use Rattle.nd_history_text.specs.Sending.{IsPut}
 
 -- a number under its name
 abbrev pub count_row : List ℕ → ℕ → List ℕ

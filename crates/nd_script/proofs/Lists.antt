@@ -6,8 +6,8 @@ use Rattle.std.proofs.lemmas.List.Elements.{All-nil, All-head, All-tail, All-pus
 use Rattle.std.proofs.lemmas.List.Splits.{slice_split_at, slice_split_none, slice_split-cons_yes, slice_split-cons_no}
 use Rattle.nd_path.specs.Refusals.{IsPath}
 use Rattle.nd_path.specs.PathSets.{IsRising, HasSameMembers}
-use Rattle.nd_script.specs.declared.line_fault.LineFault.{LineFault}
-use Rattle.nd_script.specs.declared.line_fault.LineFault.TheVariants.{Bad, Memory}
+use Rattle.nd_script.specs.declared.line_error.LineError.{LineError}
+use Rattle.nd_script.specs.declared.line_error.LineError.TheVariants.{Bad, Memory}
 use Rattle.nd_script.specs.Words.{IsSetOf, AreLists, is_mark}
 use Rattle.nd_script.specs.Faults.{IsNoPath, RulesOut}
 
@@ -28,7 +28,7 @@ gather words paths left rest word path h cut same is = record {
 }
 
 -- a word that is no path makes the words no set
-pub no_set : (words paths left rest : List (List ℕ)) (word : List ℕ) (fault : LineFault) → IsGathering words paths left → left ≡ word ∷ rest → IsNoPath word fault → RulesOut (IsSetOf words) fault
+pub no_set : (words paths left rest : List (List ℕ)) (word : List ℕ) (fault : LineError) → IsGathering words paths left → left ≡ word ∷ rest → IsNoPath word fault → RulesOut (IsSetOf words) fault
 no_set words paths left rest word Bad h cut none = λ set is.
     let whole : words ≡ paths ++ word ∷ rest = h.whole ∙ ap (λ (ws : List (List ℕ)). paths ++ ws) cut in
     none (subst IsPath (ap (λ (ws : List (List ℕ)). get_or ws (length paths) []) whole ∙ get_or-append_seam paths word rest [])
@@ -134,7 +134,7 @@ path_within (b ∷ before) rest word unmarked h = by (is_mark b) refl (path_with
     by true is onward = let behind : AreParts ([] ∷ slice_split is_mark (before ++ word ∷ rest)) = subst AreParts (slice_split-cons_yes is_mark b (before ++ word ∷ rest) is) h in onward behind.1
     by false is onward = onward (behind_first b (slice_split is_mark (before ++ word ∷ rest)) (subst AreParts (slice_split-cons_no is_mark b (before ++ word ∷ rest) is) h))
 
-pub no_lists : (words : List (List ℕ)) (sets : List (List (List ℕ))) (paths left rest : List (List ℕ)) (word : List ℕ) (fault : LineFault)
+pub no_lists : (words : List (List ℕ)) (sets : List (List (List ℕ))) (paths left rest : List (List ℕ)) (word : List ℕ) (fault : LineError)
     → IsListing words sets paths left → left ≡ word ∷ rest → is_mark word ≡ false → IsNoPath word fault → RulesOut (AreLists words) fault
 no_lists words sets paths left rest word Bad h cut unmarked none = λ others are.
     let same : are.lists ≡ h.lists ++ slice_split is_mark (paths ++ word ∷ rest) =

@@ -5,8 +5,8 @@ use Rattle.std.proofs.lemmas.List.Splits.{length-slice_split}
 use Rattle.nd_bytes.specs.Cut.{pieces}
 use Rattle.nd_closure.specs.Info.{words_of}
 use Rattle.nd_script.specs.declared.command.Command.{Command}
-use Rattle.nd_script.specs.declared.line_fault.LineFault.{LineFault}
-use Rattle.nd_script.specs.declared.line_fault.LineFault.TheVariants.{Bad, Memory}
+use Rattle.nd_script.specs.declared.line_error.LineError.{LineError}
+use Rattle.nd_script.specs.declared.line_error.LineError.TheVariants.{Bad, Memory}
 use Rattle.nd_script.specs.Words.{Begins, IsSetOf, IsStatus, AreLists}
 use Rattle.nd_script.specs.Faults.{NeverBegins, IsNoNumber, IsNoStatus, RulesOut}
 use Rattle.nd_script.specs.Calls.{IsCallWith, IsStatusCall, IsBuiltCall}
@@ -50,7 +50,7 @@ uncalled bound call words none = λ item said. none.never said.number said.opera
 pub never_starts : (drvs : ℕ) (words : List (List ℕ)) → NeverBegins drvs words → (command : Command) → IsStartWith drvs words command → ⊥
 never_starts drvs words none = λ command said. none.never said.drv said.others said.operand
 
-pub no_start : (drvs : ℕ) (words : List (List ℕ)) (drv : ℕ) (others : List (List ℕ)) (fault : LineFault) → Begins drvs words drv others → RulesOut (IsSetOf others) fault → RulesOut (IsStartWith drvs words) fault
+pub no_start : (drvs : ℕ) (words : List (List ℕ)) (drv : ℕ) (others : List (List ℕ)) (fault : LineError) → Begins drvs words drv others → RulesOut (IsSetOf others) fault → RulesOut (IsStartWith drvs words) fault
 no_start drvs words drv others Bad begins none = λ command said.
     none said.paths (subst (λ (ws : List (List ℕ)). IsSetOf ws said.paths) (same_rest drvs words said.drv drv said.others others said.operand begins) said.set)
 no_start drvs words drv others Memory begins none = tt
@@ -62,7 +62,7 @@ never_ends bound bare listed words none = λ item said. elim said [
   | inr lists ↦ none.never lists.number lists.others lists.operand
 ]
 
-pub no_end : {X : Type 0} (bound : ℕ) (bare : ℕ → X) (listed : ℕ → List (List (List ℕ)) → X) (words : List (List ℕ)) (number : ℕ) (rest : Option (List ℕ)) (bytes : List ℕ) (fault : LineFault)
+pub no_end : {X : Type 0} (bound : ℕ) (bare : ℕ → X) (listed : ℕ → List (List (List ℕ)) → X) (words : List (List ℕ)) (number : ℕ) (rest : Option (List ℕ)) (bytes : List ℕ) (fault : LineError)
     → Begins bound words number (pieces 32 rest) → rest ≡ Some bytes → RulesOut (AreLists (pieces 32 rest)) fault → RulesOut (IsBuiltCall bound bare listed words) fault
 no_end bound bare listed words number rest bytes Bad begins some none = λ item said. elim said [
   | inl alone ↦ some_piece bytes (ap (pieces 32) (sym some) ∙ same_rest bound words number alone.number (pieces 32 rest) [] begins alone.operand)
@@ -82,7 +82,7 @@ no_fail bound call words number others begins none = λ item said.
     (subst (λ (ws : List (List ℕ)). IsStatus ws said.status) (same_rest bound words said.number number said.others others said.operand begins) said.reads)
 
 -- a line whose words say nothing
-pub bad_line : {V X : Type 0} (verb_of : List ℕ → Option V) (Said : V → List (List ℕ) → X → Type 0) (line first : List ℕ) (others : List (List ℕ)) (verb : V) (fault : LineFault)
+pub bad_line : {V X : Type 0} (verb_of : List ℕ → Option V) (Said : V → List (List ℕ) → X → Type 0) (line first : List ℕ) (others : List (List ℕ)) (verb : V) (fault : LineError)
     → words_of line ≡ first ∷ others → verb_of first ≡ Some verb → RulesOut (Said verb others) fault → RulesOut (IsLineOf verb_of Said line) fault
 bad_line {V} {X} verb_of Said line first others verb Bad words names none = λ item is.
     let same : is.first ≡ first = cc (is.words, words) in

@@ -6,8 +6,8 @@ use Rattle.std.proofs.lemmas.List.{take_all, take_more}
 use Rattle.nd_bytes.specs.Cut.{pieces, left_over}
 use Rattle.nd_bytes.specs.Lines.{lines_of}
 use Rattle.nd_bytes.proofs.TextLines.{lines_more, no_lines}
-use Rattle.nd_script.specs.declared.line_fault.LineFault.{LineFault}
-use Rattle.nd_script.specs.declared.line_fault.LineFault.TheVariants.{Bad, Memory}
+use Rattle.nd_script.specs.declared.line_error.LineError.{LineError}
+use Rattle.nd_script.specs.declared.line_error.LineError.TheVariants.{Bad, Memory}
 use Rattle.nd_script.specs.Lines.{AreItems, IsRefusedBy}
 use Rattle.nd_script.specs.Faults.{RulesOut, refusal_of}
 use Rattle.nd_script.proofs.Lists.{AllZip-snoc}
@@ -54,7 +54,7 @@ all_read Says text items left number h empty =
     subst (λ (ls : List (List ℕ)). AreItems Says ls items) (take_all number (lines_of text) past) h.read
 
 -- a line that says nothing is the first bad one
-pub refused_by : {X : Type 0} (Says : List ℕ → X → Type 0) (text : List ℕ) (items : List X) (left line : List ℕ) (rest : Option (List ℕ)) (number : ℕ) (fault : LineFault)
+pub refused_by : {X : Type 0} (Says : List ℕ → X → Type 0) (text : List ℕ) (items : List X) (left line : List ℕ) (rest : Option (List ℕ)) (number : ℕ) (fault : LineError)
     → IsReading Says text items left number → 0 < length left → slice_split (λ b. b == 10) left ≡ line ∷ pieces 10 rest → RulesOut (Says line) fault
     → IsRefusedBy Says text (refusal_of fault (number + 1))
 refused_by Says text items left line rest number Bad h some cut none =

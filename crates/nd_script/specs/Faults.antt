@@ -3,8 +3,8 @@
 use Rattle.std.specs.Prelude.{ℕ, List, [], ◌++◌, codes}
 use Rattle.std.specs.Fmt.{decimal}
 use Rattle.nd_path.specs.Refusals.{IsPath}
-use Rattle.nd_script.specs.declared.line_fault.LineFault.{LineFault}
-use Rattle.nd_script.specs.declared.line_fault.LineFault.TheVariants.{Bad, Memory}
+use Rattle.nd_script.specs.declared.line_error.LineError.{LineError}
+use Rattle.nd_script.specs.declared.line_error.LineError.TheVariants.{Bad, Memory}
 use Rattle.nd_script.specs.declared.script_error.ScriptError.{ScriptError}
 use Rattle.nd_script.specs.declared.script_error.ScriptError.TheVariants.{BadLine, Memory as NoMemory}
 use Rattle.nd_script.specs.Words.{Begins, IsStatus}
@@ -22,17 +22,17 @@ pub record IsNoStatus (words : List (List ℕ)) : Type 0 where
   pub never : (status : ℕ) → IsStatus words status → ⊥
 
 -- a fault other than want of memory says that the word is no store path
-abbrev pub IsNoPath : List ℕ → LineFault → Type 0
+abbrev pub IsNoPath : List ℕ → LineError → Type 0
 IsNoPath word Bad = IsPath word → ⊥
 IsNoPath word Memory = Unit {0}
 
 -- .. that nothing is so
-abbrev pub RulesOut : {X : Type 0} → (X → Type 0) → LineFault → Type 0
+abbrev pub RulesOut : {X : Type 0} → (X → Type 0) → LineError → Type 0
 RulesOut {X} P Bad = (x : X) → P x → ⊥
 RulesOut {X} P Memory = Unit {0}
 
 -- the refusal of the line with this number
-abbrev pub refusal_of : LineFault → ℕ → ScriptError
+abbrev pub refusal_of : LineError → ℕ → ScriptError
 refusal_of Bad number = BadLine number
 refusal_of Memory number = NoMemory
 

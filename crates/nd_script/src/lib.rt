@@ -3,7 +3,7 @@
 #![tactic(auto)]
 
 pub mod command;
-mod line_fault;
+mod line_error;
 mod lines;
 pub mod rule;
 pub mod script_error;

@@ -6,7 +6,7 @@ ghost use Rattle.nd_script.specs.Faults.{RulesOut};
 ghost use Rattle.nd_script.specs.Words.{words_left};
 
 use crate::command::Command;
-use crate::line_fault::LineFault;
+use crate::line_error::LineError;
 use crate::verb::{Verb, verb_named};
 use crate::words::{only_operand, operand, path_set, reference_lists, status};
 use nd_bytes::cut;
@@ -18,13 +18,13 @@ pub(crate) fn read_line(
     line: &[u8],
     drvs: usize,
     machines: usize,
-) -> Result<Command, LineFault>
+) -> Result<Command, LineError>
     ensures found { IfOk result (IsLine drvs machines line.now) }
     ensures refused { IfErr result (RulesOut (IsLine drvs machines line.now)) }
 {
     let (first, words) = cut(line, b' ');
     let Some(verb) = verb_named(first) else {
-        return Err(LineFault::Bad);
+        return Err(LineError::Bad);
     };
     match said(alloc, verb, words, drvs, machines) {
         Ok(command) => Ok(command),
@@ -40,54 +40,54 @@ fn said(
     words: Option<&[u8]>,
     drvs: usize,
     machines: usize,
-) -> Result<Command, LineFault>
+) -> Result<Command, LineError>
     ensures found { IfOk result (IsSaid drvs machines verb (words_left words.entry)) }
     ensures refused { IfErr result (RulesOut (IsSaid drvs machines verb (words_left words.entry))) }
 {
     match verb {
         Verb::Start => match only_operand(words, drvs) {
             Some(drv) => Ok(Command::Start { drv }),
-            None => Err(LineFault::Bad),
+            None => Err(LineError::Bad),
         },
         Verb::StartWith => start_with(alloc, words, drvs),
         Verb::Built => built(alloc, words, drvs),
         Verb::Fail => fail(words, drvs),
         Verb::Lose => match only_operand(words, drvs) {
             Some(drv) => Ok(Command::Lose { drv }),
-            None => Err(LineFault::Bad),
+            None => Err(LineError::Bad),
         },
         Verb::Down => match only_operand(words, drvs) {
             Some(drv) => Ok(Command::Down { drv }),
-            None => Err(LineFault::Bad),
+            None => Err(LineError::Bad),
         },
         Verb::Stop => match words {
-            Some(_) => Err(LineFault::Bad),
+            Some(_) => Err(LineError::Bad),
             None => Ok(Command::Stop),
         },
         Verb::Drain => match only_operand(words, machines) {
             Some(machine) => Ok(Command::Drain { machine }),
-            None => Err(LineFault::Bad),
+            None => Err(LineError::Bad),
         },
         Verb::Enable => match only_operand(words, machines) {
             Some(machine) => Ok(Command::Enable { machine }),
-            None => Err(LineFault::Bad),
+            None => Err(LineError::Bad),
         },
         Verb::Ask => match only_operand(words, drvs) {
             Some(drv) => Ok(Command::Ask { drv }),
-            None => Err(LineFault::Bad),
+            None => Err(LineError::Bad),
         },
     }
 }
 
 /// `startwith`: a derivation, and the paths that were copied.
 #[tactic(auto, using(crate::proofs::Operands::no_start))]
-fn start_with(alloc: Global, words: Option<&[u8]>, drvs: usize) -> Result<Command, LineFault>
+fn start_with(alloc: Global, words: Option<&[u8]>, drvs: usize) -> Result<Command, LineError>
     ensures found { IfOk result (IsStartWith drvs (words_left words.entry)) }
     ensures refused { IfErr result (RulesOut (IsStartWith drvs (words_left words.entry))) }
 {
     let (drv, rest) = match operand(words, drvs) {
         Some(found) => found,
-        None => return Err(LineFault::Bad),
+        None => return Err(LineError::Bad),
     };
     match path_set(alloc, rest) {
         Ok(paths) => Ok(Command::StartWith { drv, paths }),
@@ -96,13 +96,13 @@ fn start_with(alloc: Global, words: Option<&[u8]>, drvs: usize) -> Result<Comman
 }
 
 /// `built`: a derivation, and a list of references for each output, or none at all.
-fn built(alloc: Global, words: Option<&[u8]>, drvs: usize) -> Result<Command, LineFault>
+fn built(alloc: Global, words: Option<&[u8]>, drvs: usize) -> Result<Command, LineError>
     ensures found { IfOk result (IsBuilt drvs (words_left words.entry)) }
     ensures refused { IfErr result (RulesOut (IsBuilt drvs (words_left words.entry))) }
 {
     let (drv, rest) = match operand(words, drvs) {
         Some(found) => found,
-        None => return Err(LineFault::Bad),
+        None => return Err(LineError::Bad),
     };
     match rest {
         None => Ok(Command::Built { drv }),
@@ -114,16 +114,16 @@ fn built(alloc: Global, words: Option<&[u8]>, drvs: usize) -> Result<Command, Li
 }
 
 /// `fail`: a derivation and a status.
-fn fail(words: Option<&[u8]>, drvs: usize) -> Result<Command, LineFault>
+fn fail(words: Option<&[u8]>, drvs: usize) -> Result<Command, LineError>
     ensures found { IfOk result (IsFail drvs (words_left words.entry)) }
     ensures refused { IfErr result (RulesOut (IsFail drvs (words_left words.entry))) }
 {
     let (drv, rest) = match operand(words, drvs) {
         Some(found) => found,
-        None => return Err(LineFault::Bad),
+        None => return Err(LineError::Bad),
     };
     match status(rest) {
         Some(status) => Ok(Command::Fail { drv, status }),
-        None => Err(LineFault::Bad),
+        None => Err(LineError::Bad),
     }
 }

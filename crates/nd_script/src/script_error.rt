@@ -4,7 +4,7 @@ ghost use Rattle.std.specs.Prelude.{◌≡◌};
 ghost use Rattle.nd_script.specs.declared.script_error.ScriptError.TheVariants.{Memory};
 ghost use Rattle.nd_script.specs.Faults.{refusal_of};
 
-use crate::line_fault::LineFault;
+use crate::line_error::LineError;
 use std::alloc::AllocFailed;
 use std::error::Error;
 use std::fmt;
@@ -45,11 +45,11 @@ impl<T: Drop> From<AllocFailed<T>> for ScriptError {
 }
 
 /// The refusal of the line with this number.
-pub(crate) fn refusal(fault: LineFault, number: usize) -> ScriptError
+pub(crate) fn refusal(fault: LineError, number: usize) -> ScriptError
     ensures { result ≡ refusal_of fault number }
 {
     match fault {
-        LineFault::Bad => ScriptError::BadLine(number),
-        LineFault::Memory => ScriptError::Memory,
+        LineError::Bad => ScriptError::BadLine(number),
+        LineError::Memory => ScriptError::Memory,
     }
 }

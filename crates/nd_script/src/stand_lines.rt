@@ -5,7 +5,7 @@ ghost use Rattle.nd_script.specs.Stand.{IsFailRule, IsBuiltRule, IsRuled, IsRule
 ghost use Rattle.nd_script.specs.Faults.{RulesOut};
 ghost use Rattle.nd_script.specs.Words.{words_left};
 
-use crate::line_fault::LineFault;
+use crate::line_error::LineError;
 use crate::rule::Rule;
 use crate::topic::{Topic, topic_named};
 use crate::words::{only_operand, operand, reference_lists, status};
@@ -19,13 +19,13 @@ pub(crate) fn read_rule(
     line: &[u8],
     drvs: usize,
     machines: usize,
-) -> Result<Rule, LineFault>
+) -> Result<Rule, LineError>
     ensures found { IfOk result (IsRuleLine drvs machines line.now) }
     ensures refused { IfErr result (RulesOut (IsRuleLine drvs machines line.now)) }
 {
     let (first, words) = cut(line, b' ');
     let Some(topic) = topic_named(first) else {
-        return Err(LineFault::Bad);
+        return Err(LineError::Bad);
     };
     match ruled(alloc, topic, words, drvs, machines) {
         Ok(rule) => Ok(rule),
@@ -41,51 +41,51 @@ fn ruled(
     words: Option<&[u8]>,
     drvs: usize,
     machines: usize,
-) -> Result<Rule, LineFault>
+) -> Result<Rule, LineError>
     ensures found { IfOk result (IsRuled drvs machines topic (words_left words.entry)) }
     ensures refused { IfErr result (RulesOut (IsRuled drvs machines topic (words_left words.entry))) }
 {
     match topic {
         Topic::NoConnect => match only_operand(words, machines) {
             Some(machine) => Ok(Rule::NoConnect(machine)),
-            None => Err(LineFault::Bad),
+            None => Err(LineError::Bad),
         },
         Topic::NoCopy => match only_operand(words, machines) {
             Some(machine) => Ok(Rule::NoCopy(machine)),
-            None => Err(LineFault::Bad),
+            None => Err(LineError::Bad),
         },
         Topic::Fail => fail_rule(words, drvs),
         Topic::Lose => match only_operand(words, drvs) {
             Some(drv) => Ok(Rule::Lose(drv)),
-            None => Err(LineFault::Bad),
+            None => Err(LineError::Bad),
         },
         Topic::Built => built_rule(alloc, words, drvs),
     }
 }
 
 /// `fail`: a derivation and a status.
-fn fail_rule(words: Option<&[u8]>, drvs: usize) -> Result<Rule, LineFault>
+fn fail_rule(words: Option<&[u8]>, drvs: usize) -> Result<Rule, LineError>
     ensures found { IfOk result (IsFailRule drvs (words_left words.entry)) }
     ensures refused { IfErr result (RulesOut (IsFailRule drvs (words_left words.entry))) }
 {
     let (drv, rest) = match operand(words, drvs) {
         Some(found) => found,
-        None => return Err(LineFault::Bad),
+        None => return Err(LineError::Bad),
     };
     match status(rest) {
         Some(status) => Ok(Rule::Fail(drv, status)),
-        None => Err(LineFault::Bad),
+        None => Err(LineError::Bad),
     }
 }
 
 /// `built`: a derivation, and a list of references for each output, or none at all.
-fn built_rule(alloc: Global, words: Option<&[u8]>, drvs: usize) -> Result<Rule, LineFault>
+fn built_rule(alloc: Global, words: Option<&[u8]>, drvs: usize) -> Result<Rule, LineError>
     ensures found { IfOk result (IsBuiltRule drvs (words_left words.entry)) }
     ensures refused { IfErr result (RulesOut (IsBuiltRule drvs (words_left words.entry))) }
 {
     let (drv, rest) = match operand(words, drvs) {
         Some(found) => found,
-        None => return Err(LineFault::Bad),
+        None => return Err(LineError::Bad),
     };
     match rest {
         None => Ok(Rule::Built(drv, Refs::new(Vec::new(alloc)))),

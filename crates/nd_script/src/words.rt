@@ -6,7 +6,7 @@ ghost use Rattle.nd_path.specs.Refusals.{IsPath};
 ghost use Rattle.nd_script.specs.Words.{Begins, IsSetOf, IsStatus, AreLists, is_mark, number_of, words_left};
 ghost use Rattle.nd_script.specs.Faults.{NeverBegins, IsNoNumber, IsNoStatus, IsNoPath, RulesOut};
 
-use crate::line_fault::LineFault;
+use crate::line_error::LineError;
 use nd_bytes::{cut, decimal};
 use nd_closure::Refs;
 use nd_path::{PathError, PathSet, StorePath};
@@ -70,20 +70,20 @@ pub(crate) fn status(words: Option<&[u8]>) -> Option<u8>
 }
 
 /// The store path that a word is.
-fn path_of(alloc: Global, word: &[u8]) -> Result<StorePath, LineFault>
+fn path_of(alloc: Global, word: &[u8]) -> Result<StorePath, LineError>
     ensures found { IfOk result (λ p. p ≡ word.now) }
     ensures path { IfOk result IsPath }
     ensures refused { IfErr result (IsNoPath word.now) }
 {
     match StorePath::parse(alloc, word) {
         Ok(path) => Ok(path),
-        Err(PathError::Memory) => Err(LineFault::Memory),
-        Err(_) => Err(LineFault::Bad),
+        Err(PathError::Memory) => Err(LineError::Memory),
+        Err(_) => Err(LineError::Bad),
     }
 }
 
 /// The set of the store paths that these words are.
-pub(crate) fn path_set(alloc: Global, words: Option<&[u8]>) -> Result<PathSet, LineFault>
+pub(crate) fn path_set(alloc: Global, words: Option<&[u8]>) -> Result<PathSet, LineError>
     ensures found { IfOk result (IsSetOf (words_left words.entry)) }
     ensures refused { IfErr result (RulesOut (IsSetOf (words_left words.entry))) }
 {
@@ -109,16 +109,16 @@ fn is_mark(word: &[u8]) -> bool
 
 /// The lists of references that these words are: a word `o` begins each.
 #[tactic(auto, using(crate::proofs::Lists::nothing_listed, crate::proofs::Lists::no_mark))]
-pub(crate) fn reference_lists(alloc: Global, words: Option<&[u8]>) -> Result<Refs, LineFault>
+pub(crate) fn reference_lists(alloc: Global, words: Option<&[u8]>) -> Result<Refs, LineError>
     ensures found { IfOk result (AreLists (words_left words.entry)) }
     ensures refused { IfErr result (RulesOut (AreLists (words_left words.entry))) }
 {
     let Some(bytes) = words else {
-        return Err(LineFault::Bad);
+        return Err(LineError::Bad);
     };
     let (mark, mut left) = cut(bytes, b' ');
     if !is_mark(mark) {
-        return Err(LineFault::Bad);
+        return Err(LineError::Bad);
     }
     let mut sets = Vec::new(alloc);
     let mut paths = Vec::new(alloc);

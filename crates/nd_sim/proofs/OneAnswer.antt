@@ -19,7 +19,7 @@ use Rattle.nd_history.specs.Legal.{MayStart, MayEnd, IsAllowed, IsLegal}
 use Rattle.nd_history.specs.References.{IsInClosure, IsHeld, ArePathsRight, AreReferencesRight}
 use Rattle.nd_history.proofs.OneChoice.{reply_once}
 use Rattle.nd_history.proofs.Provisions.{leased_by}
-use Rattle.nd_stores.specs.Stored.{IsMissing, IsUncovered, IsExtra}
+use Rattle.nd_provision.specs.Stored.{IsMissing, IsUncovered, IsExtra}
 use Rattle.nd_ledger.specs.declared.refusal.Refusal.{Refusal}
 use Rattle.nd_ledger.specs.declared.refusal.Refusal.TheVariants.{NotLive, AlreadyStarted, NotStarted, Uncovered, Extra, BadReferences, AlreadyStopped, Memory}
 use Rattle.nd_ledger.specs.Refusals.{IsLive, IsFailRefused, IsDownRefused, IsStopRefused}
@@ -27,7 +27,7 @@ use Rattle.nd_ledger.specs.Moves.{IsStartRefused, IsEndRefused}
 use Rattle.nd_ledger.proofs.Admitting.{unleased}
 use Rattle.nd_script.specs.declared.command.Command.{Command}
 use Rattle.nd_script.specs.declared.command.Command.TheVariants.{Start, StartWith, Built, BuiltWith, Fail, Lose, Down, Stop, Drain, Enable, Ask}
-use Rattle.nd_texts.specs.HistoryTexts.{line_of}
+use Rattle.nd_history_text.specs.HistoryTexts.{line_of}
 use Rattle.nd_sim.specs.declared.answer.Answer.{Answer}
 use Rattle.nd_sim.specs.declared.answer.Answer.TheVariants.{Added, Refused, Replied}
 use Rattle.nd_sim.specs.Answers.{no_references, Adds, IsStartInFull, HasAdded, IsFullStartRefused, IsRefusedWith, IsLeaseRefused, IsTicketRefused, IsCommandRefused}

@@ -12,7 +12,7 @@ use Rattle.nd_history.specs.Choices.{HasDecision}
 use Rattle.nd_history.specs.Legal.{IsPlaceFor, IsLeastFree, MayChoose, MayGiveUp, IsAllowed, IsLegal}
 use Rattle.nd_history.specs.Pumping.{IsStepOf, AreAtRest, IsPumpStep, ArePumpSteps}
 use Rattle.nd_history.proofs.OneChoice.{decision_once, best_for_once}
-use Rattle.nd_texts.specs.HistoryTexts.{line_of}
+use Rattle.nd_history_text.specs.HistoryTexts.{line_of}
 use Rattle.nd_sim.specs.Runs.{IsPumping, IsPumped}
 
 some_drv : (a b : ℕ) → Some a ≡ Some b → a ≡ b

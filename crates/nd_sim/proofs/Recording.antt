@@ -8,7 +8,7 @@ use Rattle.nd_history.specs.Premises.{Premises}
 use Rattle.nd_history.specs.History.{lease_of, is_leased}
 use Rattle.nd_history.specs.Legal.{IsAllowed}
 use Rattle.nd_history.proofs.Provisions.{leased_by}
-use Rattle.nd_stores.specs.Stored.{IsMissing}
+use Rattle.nd_provision.specs.Stored.{IsMissing}
 use Rattle.nd_ledger.specs.declared.refusal.Refusal.{Refusal}
 use Rattle.nd_ledger.specs.Refusals.{IsFailRefused, IsDownRefused}
 use Rattle.nd_ledger.specs.Moves.{IsStartRefused, IsEndRefused}

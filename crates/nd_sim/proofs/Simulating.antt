@@ -20,7 +20,7 @@ use Rattle.nd_history.specs.Choices.{HasReply}
 use Rattle.nd_history.specs.Pumping.{AreAtRest, HasPumped, HasPumpedBy}
 use Rattle.nd_history.specs.Standing.{drvs_in}
 use Rattle.nd_ledger.specs.declared.refusal.Refusal.{Refusal}
-use Rattle.nd_texts.specs.HistoryTexts.{line_of}
+use Rattle.nd_history_text.specs.HistoryTexts.{line_of}
 use Rattle.nd_report.specs.Reports.{IsReport, Reports, ReportsPart}
 use Rattle.nd_script.specs.declared.command.Command.{Command}
 use Rattle.nd_sim.specs.declared.answer.Answer.{Answer}

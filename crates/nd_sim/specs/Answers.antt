@@ -11,7 +11,7 @@ use Rattle.nd_history.specs.History.{lease_of}
 use Rattle.nd_history.specs.Choices.{machines_in}
 use Rattle.nd_history.specs.Legal.{IsAllowed}
 use Rattle.nd_history.specs.References.{outputs_of}
-use Rattle.nd_stores.specs.Stored.{IsMissing}
+use Rattle.nd_provision.specs.Stored.{IsMissing}
 use Rattle.nd_ledger.specs.declared.refusal.Refusal.{Refusal}
 use Rattle.nd_ledger.specs.Refusals.{IsFailRefused, IsDownRefused, IsStopRefused}
 use Rattle.nd_ledger.specs.Moves.{IsStartRefused, IsEndRefused}

@@ -12,7 +12,7 @@ use Rattle.nd_history.specs.Standing.{drvs_in}
 use Rattle.nd_history.specs.Statuses.{IsExitStatus}
 use Rattle.nd_ledger.specs.declared.refusal.Refusal.{Refusal}
 use Rattle.nd_ledger.specs.Names.{refusal_name}
-use Rattle.nd_texts.specs.HistoryTexts.{line_of}
+use Rattle.nd_history_text.specs.HistoryTexts.{line_of}
 use Rattle.nd_report.specs.Reports.{IsReport}
 use Rattle.nd_script.specs.declared.command.Command.{Command}
 use Rattle.nd_sim.specs.Outcomes.{ComesTo}

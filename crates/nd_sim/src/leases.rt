@@ -3,7 +3,7 @@
 ghost use Rattle.std.specs.Prelude.{◌≡◌, ◌<◌, [], length, replicate, reverse, Some, IfOk, IfErr};
 ghost use Rattle.nd_history.specs.History.{lease_of};
 ghost use Rattle.nd_path.specs.PathSets.{IsRising};
-ghost use Rattle.nd_stores.specs.Stored.{IsMissing};
+ghost use Rattle.nd_provision.specs.Stored.{IsMissing};
 ghost use Rattle.nd_ledger.specs.Refusals.{IsLive};
 ghost use Rattle.nd_sim.specs.Answers.{HasNoLease, no_references};
 

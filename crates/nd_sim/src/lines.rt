@@ -4,7 +4,7 @@ ghost use Rattle.std.specs.Prelude.{◌≡◌, ◌||◌, ◌≤◌, length, drop
 ghost use Rattle.std.specs.List.{flat_map};
 ghost use Rattle.std.specs.Io.KnownBytes.{Appends};
 ghost use Rattle.nd_hook.specs.Written.{WritesPart};
-ghost use Rattle.nd_texts.specs.HistoryTexts.{line_of};
+ghost use Rattle.nd_history_text.specs.HistoryTexts.{line_of};
 ghost use Rattle.nd_hook.specs.ReplyText.{reply_text};
 ghost use Rattle.nd_sim.specs.Runs.{refused_line};
 ghost use Rattle.nd_sim.specs.Outcomes.{IsReplyNow};

@@ -139,7 +139,7 @@ fn is_output_named<R: Threads + Sync>(rt: &R, alloc: Global) -> bool {
 }
 
 #[test]
-fn line_faults(rt: HostRuntime) {
+fn line_errors(rt: HostRuntime) {
     let alloc = rt.alloc();
     assert!(rt; is_first_node_read(alloc) && is_output_named(&rt, alloc));
     let line = Some(GraphError::BadLine(1));

@@ -8,9 +8,7 @@ use nd_test_fixtures::bundles::{CHAIN, PLAIN_1, PLAIN_2, S3};
 use nd_test_fixtures::entries::told;
 use nd_test_fixtures::parks::close;
 use nd_workers::run_end::{NotRun, Ran};
-use nd_workers::{
-    Receipt, Rule, RunEnd, RunRefusal, Seat, StandIn, Transport, Worker, abandon, run,
-};
+use nd_workers::{Receipt, Rule, RunEnd, RunError, Seat, StandIn, Transport, Worker, abandon, run};
 use std::alloc::Global;
 use std::sync::Wait;
 use std::test::Fail;
@@ -279,7 +277,7 @@ fn empty_run(rt: HostRuntime) {
 }
 
 /// Whether a refused run hands back so many workers and a dispatch without entries, and this cause.
-fn is_refused(alloc: Global, refused: NotRun<StandIn>, count: usize, why: RunRefusal) -> bool {
+fn is_refused(alloc: Global, refused: NotRun<StandIn>, count: usize, why: RunError) -> bool {
     let right = refused.why == why
         && refused.workers.len() == count
         && has_lines(alloc, &refused.dispatch, "");
@@ -293,7 +291,7 @@ fn refuses<R: Threads + Wait + Sync>(
     alloc: Global,
     builders: &str,
     seats: Vec<Seat<StandIn>>,
-    why: RunRefusal,
+    why: RunError,
 ) -> bool {
     let Some(opened) = dispatch(alloc, PLAIN_1, builders) else {
         return false;
@@ -312,11 +310,11 @@ fn refuses<R: Threads + Wait + Sync>(
 fn refused_run(rt: HostRuntime) {
     let alloc = rt.alloc();
     let none = workers(alloc, &[], Stand::Plain);
-    assert!(rt; refuses(&rt, alloc, "m", none, RunRefusal::Slots));
+    assert!(rt; refuses(&rt, alloc, "m", none, RunError::Slots));
     let twice = workers(alloc, &[(1, 0), (1, 0)], Stand::Plain);
-    assert!(rt; refuses(&rt, alloc, "m", twice, RunRefusal::Slots));
+    assert!(rt; refuses(&rt, alloc, "m", twice, RunError::Slots));
     let many = stands(alloc, 1025);
-    assert!(rt; refuses(&rt, alloc, "m - - 1025", many, RunRefusal::TooManySlots));
+    assert!(rt; refuses(&rt, alloc, "m - - 1025", many, RunError::TooManySlots));
 }
 
 /// Whether two calls of `abandon` leave these lines after a pump.

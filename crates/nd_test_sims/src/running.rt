@@ -2,7 +2,7 @@
 
 use nd_bytes::ByteString;
 use nd_cli::{CliFault, ParkOptions};
-use nd_engines::{audit_engine, sim_engine};
+use nd_commands::{audit_engine, sim_engine};
 use nd_hook::Told;
 use nd_test_fixtures::devices::{CountedReader, CountedWriter};
 use nd_test_fixtures::printing::is_printed;

@@ -14,8 +14,8 @@ use Rattle.nd_receipts.specs.Dealt.{AreReceipted}
 use Rattle.nd_transports.specs.Calls.{State}
 use Rattle.nd_workers.specs.declared.run_end.RunFault.{RunFault}
 use Rattle.nd_workers.specs.declared.run_end.RunFault.TheVariants.{Receipts}
-use Rattle.nd_workers.specs.declared.run_end.RunRefusal.{RunRefusal}
-use Rattle.nd_workers.specs.declared.run_end.RunRefusal.TheVariants.{Slots, TooManySlots, Memory}
+use Rattle.nd_workers.specs.declared.run_end.RunError.{RunError}
+use Rattle.nd_workers.specs.declared.run_end.RunError.TheVariants.{Slots, TooManySlots, Memory}
 use Rattle.nd_workers.specs.declared.seat.Seat.{Seat}
 use Rattle.nd_workers.specs.Served.{Seated, seat_of}
 
@@ -37,7 +37,7 @@ pub record AreManned (i : Premises) (places : List (ℕ × ℕ)) : Type 0 where
   pub within : list_all (is_in_park i) places ≡ true
 
 -- a run is refused where the workers aren't one for each slot, then where there are too many; memory may be wanting at any point
-abbrev pub IsRunRefused : Premises → List (ℕ × ℕ) → RunRefusal → Type 0
+abbrev pub IsRunRefused : Premises → List (ℕ × ℕ) → RunError → Type 0
 IsRunRefused i places Slots = AreManned i places → ⊥
 IsRunRefused i places TooManySlots = AreManned i places × (1024 < length places)
 IsRunRefused i places Memory = Unit {0}

@@ -20,6 +20,6 @@ pub use nd_transports::{
     Answer, Call, CallLog, Ended, Fetch, Outcome, Phase, Rule, StandIn, Transport, serve_build,
     serve_copy,
 };
-pub use run_end::{Refused, RunEnd, RunFault, RunRefusal};
+pub use run_end::{Refused, RunEnd, RunError, RunFault};
 pub use running::run;
 pub use seat::{Seat, Worker};

@@ -7,7 +7,7 @@ use nd_transports::Transport;
 
 /// Why a run was refused, in the order in which the causes are looked for.
 #[derive(Clone, Copy, Debug, PartialEq, Eq)]
-pub enum RunRefusal {
+pub enum RunError {
     /// 1: there isn't exactly one worker for each slot of the park.
     Slots,
     /// 2: there are more than 1,024 slots.
@@ -31,7 +31,7 @@ pub enum RunFault {
 #[derive(Drop)]
 pub struct NotRun<T> {
     /// Why it was refused.
-    pub why: RunRefusal,
+    pub why: RunError,
     /// The dispatch.
     pub dispatch: Dispatch,
     /// The workers.

@@ -16,7 +16,7 @@ use crate::faults::{are_receipted, are_sound, fault_of};
 use crate::leasing::Shared;
 use crate::manning::{are_manned, places_of};
 use crate::opened::Opened;
-use crate::run_end::{NotRun, Ran, Refused, RunEnd, RunFault, RunRefusal};
+use crate::run_end::{NotRun, Ran, Refused, RunEnd, RunError, RunFault};
 use crate::seat::{Seat, Worker};
 use crate::threads::{Ended, Ready, Running, Stint, in_scope};
 use crate::working::End;
@@ -111,7 +111,7 @@ fn accepted_places<T>(
     alloc: Global,
     dispatch: &Dispatch,
     seats: &[Seat<T>],
-) -> Result<Vec<(u32, u32)>, RunRefusal>
+) -> Result<Vec<(u32, u32)>, RunError>
     ensures refused { IfErr result (IsRunRefused dispatch.now.inputs (places_served seats.now)) }
     ensures places { IfOk result (λ v. v.items ≡ places_served seats.now) }
     ensures manned { OnOk result (AreManned dispatch.now.inputs (places_served seats.now)) }
@@ -119,15 +119,15 @@ fn accepted_places<T>(
     ensures few { OnOk result (length seats.now ≤ 1024) }
 {
     let Ok(places) = places_of(alloc, seats) else {
-        return Err(RunRefusal::Memory);
+        return Err(RunError::Memory);
     };
     if !are_manned(dispatch, places.as_slice()) {
         drop(places);
-        return Err(RunRefusal::Slots);
+        return Err(RunError::Slots);
     }
     if seats.len() > MOST_SLOTS {
         drop(places);
-        return Err(RunRefusal::TooManySlots);
+        return Err(RunError::TooManySlots);
     }
     Ok(places)
 }
@@ -169,7 +169,7 @@ fn prepare<T>(
     alloc: Global,
     dispatch: &Dispatch,
     seats: &[Seat<T>],
-) -> Result<(Vec<(u32, u32)>, Plan), RunRefusal>
+) -> Result<(Vec<(u32, u32)>, Plan), RunError>
     ensures refused { IfErr result (IsRunRefused dispatch.now.inputs (places_served seats.now)) }
     ensures manned { OnOk result (AreManned dispatch.now.inputs (places_served seats.now)) }
     ensures few { OnOk result (length seats.now ≤ 1024) }
@@ -183,13 +183,13 @@ fn prepare<T>(
     };
     let Ok(manned) = places_of(alloc, seats) else {
         drop(places);
-        return Err(RunRefusal::Memory);
+        return Err(RunError::Memory);
     };
     match make_plan(alloc, dispatch, places) {
         Ok(plan) => Ok((manned, plan)),
         Err(_) => {
             drop(manned);
-            Err(RunRefusal::Memory)
+            Err(RunError::Memory)
         }
     }
 }
@@ -275,11 +275,7 @@ fn settle<T: Transport>(
 }
 
 /// Refuses a run.
-fn refused<T>(
-    why: RunRefusal,
-    dispatch: Dispatch,
-    workers: Vec<Seat<T>>,
-) -> Result<Ran<T>, NotRun<T>>
+fn refused<T>(why: RunError, dispatch: Dispatch, workers: Vec<Seat<T>>) -> Result<Ran<T>, NotRun<T>>
     ensures ok { IfOk result (λ e. ⊥) }
     ensures why { IfErr result (λ r. r.why ≡ why) }
     ensures dispatch { IfErr result (λ r. r.dispatch ≡ dispatch) }
@@ -442,7 +438,7 @@ fn run_named<L: Opened + Send + Sync, T: Transport, R: Threads + Wait + Sync>(
     requires begun { L.opening ≡ dispatch }
     requires opening { plan.opening ≡ dispatch }
     requires choices { AreUnknown (length plan.places.items) plan.tables.choices.items }
-    ensures why { IfErr result (λ r. r.why ≡ RunRefusal.Memory) }
+    ensures why { IfErr result (λ r. r.why ≡ RunError.Memory) }
     ensures dispatch { IfErr result (λ r. r.dispatch ≡ dispatch) }
     ensures workers { IfErr result (λ r. r.workers ≡ seats) }
     ensures places { IfOk result (λ e. places_served e.workers.items ≡ places_served seats.items) }
@@ -460,7 +456,7 @@ fn run_named<L: Opened + Send + Sync, T: Transport, R: Threads + Wait + Sync>(
         drop(manned);
         drop(plan);
         drop(blank);
-        return refused(RunRefusal::Memory, dispatch, seats);
+        return refused(RunError::Memory, dispatch, seats);
     };
     Ok(run_in(rt, alloc, dispatch, seats, manned, plan, room, blank))
 }

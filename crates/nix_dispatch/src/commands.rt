@@ -12,7 +12,7 @@ use clap::ArgMatches;
 use clap::error::ErrorKind;
 use nd_bytes::ByteString;
 use nd_cli::{CliFault, ParkOptions, ask_engine, path_engine};
-use nd_engines::{audit_engine, sim_engine};
+use nd_commands::{audit_engine, sim_engine};
 use nd_explain::{Failure, Heard, Source};
 use nd_hook::Told;
 use std::alloc::Global;

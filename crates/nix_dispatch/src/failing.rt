@@ -1,7 +1,7 @@
 //! What is known of a fault once a command ends with it.
 
 use clap::ArgMatches;
-use nd_cli::{CliFault, DerivationRefusal, ParkOptions, Place};
+use nd_cli::{CliFault, DerivationError, ParkOptions, Place};
 use nd_explain::{Failure, Heard, Source, place_of};
 use std::alloc::Global;
 use std::io::Read;
@@ -61,10 +61,10 @@ pub(crate) fn path_failure<'a, R: Read>(
 ) -> Failure<'a> {
     match fault {
         CliFault::Read => Failure::at(fault, Source::Input, input.refusal()),
-        CliFault::Derivation(DerivationRefusal::BadPath) => {
+        CliFault::Derivation(DerivationError::BadPath) => {
             Failure::of_text(alloc, fault, Source::Name, name)
         }
-        CliFault::Derivation(DerivationRefusal::BadDerivation) => match input.copy() {
+        CliFault::Derivation(DerivationError::BadDerivation) => match input.copy() {
             Some(text) => Failure::of_text(alloc, fault, Source::Input, text),
             None => Failure::at(fault, Source::Input, None),
         },

@@ -11,7 +11,7 @@ use nd_cli::CliFault;
 use nd_explain::{Failure, Heard};
 use nd_hook::Told;
 use nd_ledger::Dispatch;
-use nd_run::{RunInputs, run_engine, run_inputs, stand_ins};
+use nd_run_command::{RunInputs, run_engine, run_inputs, stand_ins};
 use nd_workers::{Seat, StandIn, Transport, Worker};
 use std::alloc::Global;
 use std::io::{self, BufWriter};

@@ -1,7 +1,7 @@
 use Rattle.std.proofs.Common.{◌≡◌, ◌∙◌, length, ap}
 use Rattle.nd_graph.specs.Graphs.{Nodes, rows_of}
 use Rattle.nd_history.specs.Standing.{drvs_in}
-use Rattle.nd_texts.proofs.Spelled.{on_err}
+use Rattle.nd_history_text.proofs.Spelled.{on_err}
 use Rattle.nd_report.proofs.Rows.{park_in_part, drvs_in_part, report_sent, end_in_part_of, marked, unmarked}
 use Rattle.nd_report.proofs.report_writing.write_report.Goals as goal
 

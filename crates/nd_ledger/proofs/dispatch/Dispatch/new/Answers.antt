@@ -5,7 +5,7 @@ use Rattle.nd_history.specs.declared.entry.Entry.{Entry}
 use Rattle.nd_history.specs.Premises.{Premises, premises_of}
 use Rattle.nd_history.specs.Legal.{IsLegal}
 use Rattle.nd_ledger.specs.Inner.{room_for}
-use Rattle.nd_stores.specs.Stored.{AreStored}
+use Rattle.nd_provision.specs.Stored.{AreStored}
 use Rattle.nd_failure.specs.Progress.{Progress}
 use Rattle.nd_history.specs.Marks.{AreMarked}
 use Rattle.nd_history.proofs.Marking.{marked_first}

@@ -1,0 +1,12 @@
+use Rattle.std.proofs.Common.{◌∙◌, ap}
+use Rattle.nd_history_text.specs.Lines.{word_of}
+use Rattle.nd_history_text.proofs.Sent.{put_both, put_refused, put_renamed}
+use Rattle.nd_history_text.proofs.history_writing.put_entry.Goals as goal
+
+pub returns-in_err-put : goal.returns-in_err-put
+returns-in_err-put g c =
+    put_refused _ _ _ _ _ _ _ _ _ c.from_residual.ensures.0 (put_renamed _ _ _ _ _ _ _ _ (c.word.ensures ∙ ap word_of c.kind.ensures) c.in_err-put.ensures)
+
+pub returns : goal.returns
+returns g c =
+    put_both _ _ _ _ _ _ _ _ _ _ _ (put_renamed _ _ _ _ _ _ _ _ (c.word.ensures ∙ ap word_of c.kind.ensures) c.in_ok-put.ensures) c.put_others.ensures

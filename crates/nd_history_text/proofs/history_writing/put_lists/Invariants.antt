@@ -1,0 +1,12 @@
+use Rattle.std.proofs.Common.{take, Ok}
+use Rattle.std.specs.List.{flat_map}
+use Rattle.nd_hook.specs.declared.told.Fault.{Fault}
+use Rattle.nd_history_text.specs.HistoryTexts.{output_words}
+use Rattle.nd_history_text.specs.Lines.{spaced}
+use Rattle.nd_history_text.specs.Sending.{IsPut}
+use Rattle.nd_history_text.proofs.history_writing.put_lists.Given as goal
+
+-- what was passed so far is put
+abbrev pub invariant-loop-list : goal.invariant-loop-list
+invariant-loop-list g l =
+    IsPut {E = Fault} g.W.Write.contents l.fn.out l.fn.page l.out l.page (flat_map (λ list. spaced (output_words list)) (take l.list-index l.lists)) (Ok (tt {0}))

@@ -1,0 +1,549 @@
+-- What is kept of references and holdings tells the definitions over the history, and follows it.
+use Rattle.std.proofs.Common.{◌≡◌, ◌≢◌, ◌⊎◌, ℕ, zero, suc, ◌+◌, ◌<◌, ◌≤◌, Bool, true, false, ◌||◌, ◌&&◌, ◌==◌, if◌then◌else◌, cond, List, [], ◌∷◌, ◌++◌, length, refl, sym, ap, subst, ◌∙◌, arith, inl, inr, Option, Some, count_by, eq-eqb}
+use Rattle.std.specs.Prelude.{◌↔◌}
+use Rattle.std.specs.Bool.{MatchBool}
+use Rattle.std.specs.List.{Contains, find, list_any, zip}
+use Rattle.std.proofs.lemmas.Bool.{cases_Bool, cases_eq, ne_eqb, eqb-true}
+use Rattle.std.proofs.lemmas.Grind.{common_steps}
+use Rattle.std.specs.Cmp.Lexicographic.{nat_list_eq_equiv}
+use Rattle.std.proofs.lemmas.List.{append-nil, append_assoc}
+use Rattle.std.proofs.lemmas.List.Elements.{Contains-append_left, Contains-append_right, Contains-append_cases}
+use Rattle.nd_path.specs.StorePath.{path_eq}
+use Rattle.nd_path.specs.SamePaths.{paths_same}
+use Rattle.nd_path.specs.PathSets.{HasSameMembers}
+use Rattle.nd_closure.specs.Tables.{is_listed, refs_of}
+use Rattle.nd_closure.specs.Sets.{Stock, stock_of, is_held, IsDifference}
+use Rattle.nd_closure.specs.Closures.{IsReached, HoldsAll}
+use Rattle.nd_closure.specs.Closures.IsReached.{seed as start, step as onward}
+use Rattle.nd_closure.proofs.Members.{member_by_test}
+use Rattle.nd_history.specs.declared.entry.Entry.{Entry}
+use Rattle.nd_history.specs.declared.entry.Entry.TheVariants.{Started, Built}
+use Rattle.nd_leases.specs.declared.ticket.Ticket.{Ticket}
+use Rattle.nd_provision.specs.declared.copying.Additions.{Additions}
+use Rattle.nd_provision.specs.declared.copying.PathsError.TheVariants.{Uncovered, Extra}
+use Rattle.nd_history.specs.Premises.{Premises}
+use Rattle.nd_history.specs.History.{live, lease_of, is_built}
+use Rattle.nd_history.specs.Choices.{machines_in}
+use Rattle.nd_history.specs.Legal.{IsLegal}
+use Rattle.nd_history.specs.References.{IsAlong, outputs_of, IsGiven, reports, Refers, IsBuiltPath, is_leased_on, brought, IsHeld}
+use Rattle.nd_history.specs.References.IsAlong.{seed, step}
+use Rattle.nd_history.specs.References.Refers.{listed, reported}
+use Rattle.nd_provision.specs.Stored.{Stored, LooksLike, IsGivenTable, AreReferences, AreStored, is_quiet, IsSameStored, AreGivenEntries, AreNeeded, AreSources, IsClosureBy, IsMissingBy, ArePathsRightBy, IsPathsFaultBy, AreReferencesRightBy, IsCovered, IsBare, IsOutside, AreAllWithin, IsStray, HasGained, HasTaken, AreStartAdditions, AreBuiltAdditions}
+use Rattle.nd_history.proofs.Slots.{lease_once, count_cons}
+use Rattle.nd_history.proofs.Reported.{rest_true, or_true, one_of, nothing_in, contains_cases, refs_first, refs_second, built_on}
+use Rattle.nd_history.proofs.Closing.{along_more, refers_alike}
+use Rattle.nd_history.proofs.Provisions.{IsKept, held_known, known_held, adding, leased_there}
+use Rattle.nd_provision.proofs.Lookalikes.{looks_same, looks_through, looks_longer}
+
+-- ---- the table tells what each path refers to
+
+refers_by : (i : Premises) (past : List Entry) (given : List (List ℕ × List (List ℕ))) → IsGivenTable i given → (p q : List ℕ) → Contains (refs_of (given ++ reports i past) p) q → Refers i past p q
+refers_by i past given base p q h =
+    elim (cases_Bool (is_listed given p)) [
+      | inl there ↦ listed ((base.listed p).0 there)
+          ((base.refs p ((base.listed p).0 there)).to q (subst (λ (rs : List (List ℕ)). Contains rs q) (refs_first given (reports i past) p there) h))
+      | inr past_it ↦ reported (λ g. let there : is_listed given p ≡ true = (base.listed p).1 g in cc)
+          (subst (λ (rs : List (List ℕ)). Contains rs q) (refs_second given (reports i past) p past_it) h)
+    ]
+
+by_refers : (i : Premises) (past : List Entry) (given : List (List ℕ × List (List ℕ))) → IsGivenTable i given → (p q : List ℕ) → Refers i past p q → Contains (refs_of (given ++ reports i past) p) q
+by_refers i past given base p q (listed g h) =
+    subst (λ (rs : List (List ℕ)). Contains rs q) (sym (refs_first given (reports i past) p ((base.listed p).1 g))) ((base.refs p g).from q h)
+by_refers i past given base p q (reported not_given h) =
+    elim (cases_Bool (is_listed given p)) [
+      | inl there ↦ absurd (not_given ((base.listed p).0 there))
+      | inr past_it ↦ subst (λ (rs : List (List ℕ)). Contains rs q) (sym (refs_second given (reports i past) p past_it)) h
+    ]
+
+pub table_refers : (i : Premises) (past : List Entry) (table : List (List ℕ × List (List ℕ))) → AreReferences i past table → (p q : List ℕ) → Contains (refs_of table p) q ↔ Refers i past p q
+table_refers i past table are p q = (
+  λ h. refers_by i past are.given are.base p q (subst (λ (rs : List (List ℕ)). Contains rs q) (are.looks.refs p) h),
+  λ r. subst (λ (rs : List (List ℕ)). Contains rs q) (sym (are.looks.refs p)) (by_refers i past are.given are.base p q r),
+)
+
+-- ---- what is reached in a table
+
+pub reached_along : {R : List ℕ → List ℕ → Type 0} {S : List ℕ → Type 0} → (table : List (List ℕ × List (List ℕ))) (seeds : List (List ℕ))
+    → ((p : List ℕ) → Contains seeds p → S p) → ((p q : List ℕ) → Contains (refs_of table p) q → R p q) → (x : List ℕ) → IsReached table seeds x → IsAlong R S x
+reached_along table seeds at refs x (start p h) = seed p (at p h)
+reached_along table seeds at refs x (onward p q r h) = step p q (reached_along table seeds at refs p r) (refs p q h)
+
+pub along_reached : {R : List ℕ → List ℕ → Type 0} {S : List ℕ → Type 0} → (table : List (List ℕ × List (List ℕ))) (seeds : List (List ℕ))
+    → ((p : List ℕ) → S p → Contains seeds p) → ((p q : List ℕ) → R p q → Contains (refs_of table p) q) → (x : List ℕ) → IsAlong R S x → IsReached table seeds x
+along_reached table seeds at refs x (seed p h) = start p (at p h)
+along_reached table seeds at refs x (step p q r h) = onward p q (along_reached table seeds at refs p r) (refs p q h)
+
+-- what is reached from all that d needs is its closure
+pub closure_by : (i : Premises) (s : Stored) (d : ℕ) (needed paths : List (List ℕ)) → AreNeeded i d needed → ((p : List ℕ) → Contains paths p ↔ IsReached s.entries needed p) → IsClosureBy i s d paths
+closure_by i s d needed paths are reached = record {
+  tells = λ past kept p. (
+    λ h. reached_along s.entries needed (λ q k. (are.exact q).0 k) (λ q r k. (table_refers i past s.entries kept.references q r).0 k) p ((reached p).0 h),
+    λ h. (reached p).1 (along_reached s.entries needed (λ q k. (are.exact q).1 k) (λ q r k. (table_refers i past s.entries kept.references q r).1 k) p h),
+  );
+}
+
+-- what it lacks on a machine is missing
+pub missing_by : (i : Premises) (s : Stored) (d m : ℕ) (closure paths : List (List ℕ)) → m < length s.stocks → IsClosureBy i s d closure → IsDifference closure (stock_of s.stocks m).paths paths → IsMissingBy i s d m paths
+missing_by i s d m closure paths within close lacks = record {
+  tells = λ past kept. record {
+    needed = λ p h. (close.tells past kept p).0 (lacks.of p h);
+    lacked = λ p h held. lacks.lacked p h ((kept.holdings.held m within p).1 held);
+    all = λ p h. elim (lacks.all p ((close.tells past kept p).1 h)) [
+      | inl there ↦ inl there
+      | inr held ↦ inr ((kept.holdings.held m within p).0 held)
+    ];
+  };
+}
+
+-- copied paths are right where they lie in the closure and cover it
+pub right_by : (i : Premises) (s : Stored) (d m : ℕ) (closure paths : List (List ℕ)) → m < length s.stocks → IsClosureBy i s d closure → IsCovered closure (stock_of s.stocks m).paths paths → HoldsAll closure paths → ArePathsRightBy i s d m paths
+right_by i s d m closure paths within close covers lie = record {
+  tells = λ past kept. record {
+    needed = λ p h. (close.tells past kept p).0 (lie.each p h);
+    covered = λ p h. elim (covers.each p ((close.tells past kept p).1 h)) [
+      | inl copied ↦ inl copied
+      | inr held ↦ inr ((kept.holdings.held m within p).0 held)
+    ];
+  };
+}
+
+pub uncovered_by : (i : Premises) (s : Stored) (d m : ℕ) (closure paths : List (List ℕ)) → m < length s.stocks → IsClosureBy i s d closure → IsBare closure (stock_of s.stocks m).paths paths → IsPathsFaultBy i s d m paths Uncovered
+uncovered_by i s d m closure paths within close bare = record {
+  tells = λ past kept. record {
+    path = bare.path;
+    needed = (close.tells past kept bare.path).0 bare.needed;
+    lacked = λ held. bare.lacked ((kept.holdings.held m within bare.path).1 held);
+    uncopied = bare.uncopied;
+  };
+}
+
+pub extra_by : (i : Premises) (s : Stored) (d m : ℕ) (closure paths : List (List ℕ)) → m < length s.stocks → IsClosureBy i s d closure → IsCovered closure (stock_of s.stocks m).paths paths → IsOutside closure paths → IsPathsFaultBy i s d m paths Extra
+extra_by i s d m closure paths within close covers outside = record {
+  tells = λ past kept. record {
+    covered = λ p h. elim (covers.each p ((close.tells past kept p).1 h)) [
+      | inl copied ↦ inl copied
+      | inr held ↦ inr ((kept.holdings.held m within p).0 held)
+    ];
+    path = outside.path;
+    copied = outside.there;
+    unneeded = λ h. outside.out ((close.tells past kept outside.path).1 h);
+  };
+}
+
+-- references are right where there are as many lists as outputs and each lies in the closure with the outputs
+pub references_by : (i : Premises) (s : Stored) (d : ℕ) (refs : List (List (List ℕ))) (closure allowed : List (List ℕ)) (answer : Bool) → length refs ≡ length (outputs_of i d) → IsClosureBy i s d closure
+    → HasSameMembers (closure ++ outputs_of i d) allowed → MatchBool answer (AreAllWithin allowed refs) (IsStray allowed refs) → AreReferencesRightBy i s d refs answer
+references_by i s d refs closure allowed true sized close same within = record {
+  tells = λ past kept. record {
+    sized = sized;
+    within = λ list p h k. elim (Contains-append_cases closure (outputs_of i d) p (same.from p (within.each list p h k))) [
+      | inl there ↦ inl ((close.tells past kept p).0 there)
+      | inr out ↦ inr (record { listed = out })
+    ];
+  };
+}
+references_by i s d refs closure allowed false sized close same stray = record {
+  tells = λ past kept right. elim (right.within stray.list stray.path stray.listed stray.there) [
+    | inl there ↦ stray.out (same.to stray.path (Contains-append_left closure (outputs_of i d) stray.path ((close.tells past kept stray.path).1 there)))
+    | inr out ↦ stray.out (same.to stray.path (Contains-append_right closure (outputs_of i d) stray.path out.listed))
+  ];
+}
+
+-- ---- before the first entry
+
+-- entries for the given paths are a table of them
+entries_listed : (info : List (List ℕ × List (List ℕ))) (paths : List (List ℕ)) (entries : List (List ℕ × List (List ℕ))) (p : List ℕ) → AreGivenEntries info paths entries → is_listed entries p ≡ is_held paths p
+entries_listed info [] [] p are = refl
+entries_listed info [] (e ∷ entries) p are = absurd are
+entries_listed info (q ∷ paths) [] p are = absurd are
+entries_listed info (q ∷ paths) (e ∷ entries) p are =
+    ap (λ (x : List ℕ). path_eq p x || is_listed entries p) are.0 ∙ ap (λ (b : Bool). path_eq p q || b) (entries_listed info paths entries p are.2)
+
+alike_if : (b : Bool) (info rs rest : List (List ℕ)) → (b ≡ true → HasSameMembers info rs) → (b ≡ false → HasSameMembers rest info) → HasSameMembers (if b then rs else rest) info
+alike_if true info rs rest here later = let h = here refl in record { to = h.from; from = h.to }
+alike_if false info rs rest here later = later refl
+
+entries_refs : (info : List (List ℕ × List (List ℕ))) (paths : List (List ℕ)) (entries : List (List ℕ × List (List ℕ))) (p : List ℕ) → AreGivenEntries info paths entries → Contains paths p → HasSameMembers (refs_of entries p) (refs_of info p)
+entries_refs info [] [] p are h = absurd (nothing_in p h)
+entries_refs info [] (e ∷ entries) p are h = absurd are
+entries_refs info (q ∷ paths) [] p are h = absurd are
+entries_refs info (q ∷ paths) (e ∷ entries) p are h =
+    alike_if (path_eq p e.0) (refs_of info p) e.1 (refs_of entries p)
+    (λ same. subst (λ (x : List ℕ). HasSameMembers (refs_of info x) e.1) (sym (paths_same p e.0 same ∙ are.0)) are.1)
+    (λ other. entries_refs info paths entries p are.2 (elim (contains_cases q paths p h) [
+      | inl here ↦ (let same : path_eq p e.0 ≡ true = itself p e.0 (sym here ∙ sym are.0) in cc)
+      | inr later ↦ later
+    ]))
+  where
+    itself : (p q : List ℕ) → p ≡ q → path_eq p q ≡ true
+    itself p q same = subst (λ (x : List ℕ). path_eq p x ≡ true) same (nat_list_eq_equiv.refl p)
+
+pub given_reached : (i : Premises) (sources given : List (List ℕ)) → AreSources i sources → ((p : List ℕ) → Contains given p ↔ IsReached i.info sources p) → (p : List ℕ) → Contains given p ↔ IsGiven i p
+given_reached i sources given are reached p = (
+  λ h. reached_along i.info sources (λ q k. (are.exact q).0 k) (λ q r k. k) p ((reached p).0 h),
+  λ h. (reached p).1 (along_reached i.info sources (λ q k. (are.exact q).1 k) (λ q r k. k) p h),
+)
+
+given_table : (i : Premises) (given : List (List ℕ)) (entries : List (List ℕ × List (List ℕ))) → ((p : List ℕ) → Contains given p ↔ IsGiven i p) → AreGivenEntries i.info given entries → IsGivenTable i entries
+given_table i given entries exact are = record {
+  listed = λ p. (
+    λ h. (exact p).0 ((member_by_test given p).0 (sym (entries_listed i.info given entries p are) ∙ h)),
+    λ g. entries_listed i.info given entries p are ∙ (member_by_test given p).1 ((exact p).1 g),
+  );
+  refs = λ p g. entries_refs i.info given entries p are ((exact p).1 g);
+}
+
+-- nothing is built before the first entry
+held_at_first : (i : Premises) (p : List ℕ) → IsHeld i [] 0 p ↔ IsGiven i p
+held_at_first i p = (λ h. known p (held_known i [] tt p h), λ g. known_held i [] p (inl g))
+  where
+    known : (p : List ℕ) → IsGiven i p ⊎ IsBuiltPath i [] p → IsGiven i p
+    known p (inl g) = g
+    known p (inr b) = let none = b.built in cc
+
+pub stored_at_first : (i : Premises) (given : List (List ℕ)) (entries table : List (List ℕ × List (List ℕ))) (spare : ℕ) (empty stocks : List Stock)
+    → ((p : List ℕ) → Contains given p ↔ IsGiven i p) → AreGivenEntries i.info given entries → LooksLike table entries
+    → length empty ≡ machines_in i → ((m : ℕ) → (stock_of empty m).paths ≡ []) → HasGained empty stocks 0 given → AreStored i [] (record { entries = table; spare = spare; stocks = stocks })
+stored_at_first i given entries table spare empty stocks exact are looks park none gained = record {
+  references = record {
+    given = entries;
+    base = given_table i given entries exact are;
+    looks = looks_through table entries (entries ++ []) looks (looks_same entries (entries ++ []) (sym (append-nil entries)));
+  };
+  holdings = record {
+    park = gained.size ∙ park;
+    held = at;
+  };
+}
+  where
+    at : (m : ℕ) → m < length stocks → (p : List ℕ) → Contains (stock_of stocks m).paths p ↔ IsHeld i [] m p
+    at zero lt p = (
+      λ h. (held_at_first i p).1 ((exact p).0 (elim ((gained.gained p).0 h) [
+        | inl old ↦ absurd (nothing_in p (subst (λ (xs : List (List ℕ)). Contains xs p) (none 0) old))
+        | inr there ↦ there
+      ])),
+      λ h. (gained.gained p).1 (inr ((exact p).1 ((held_at_first i p).0 h))),
+    )
+    at (suc k) lt p = (
+      λ h. subst (λ (xs : List (List ℕ)). Contains xs p) (ap (λ (s : Stock). s.paths) (gained.others (suc k) (λ same. omega arith)) ∙ none (suc k)) h,
+      λ h. absurd (nothing_in p h),
+    )
+
+-- ---- one more entry
+
+-- reserving room changes nothing
+pub stored_same : (i : Premises) (past : List Entry) (old new : Stored) → IsSameStored old new → AreStored i past old → AreStored i past new
+stored_same i past old new same are = record {
+  references = record {
+    given = are.references.given;
+    base = are.references.base;
+    looks = looks_through new.entries old.entries (are.references.given ++ reports i past) (looks_same new.entries old.entries same.entries) are.references.looks;
+  };
+  holdings = record {
+    park = same.park ∙ are.holdings.park;
+    held = λ m lt p. subst (λ (xs : List (List ℕ)). Contains xs p ↔ IsHeld i past m p) (sym (same.paths m)) (are.holdings.held m (subst (λ (n : ℕ). m < n) same.park lt) p);
+  };
+}
+
+-- the same reports and the same outputs built make the local machine hold the same
+local_alike : (i : Premises) (old new : List Entry) → reports i old ≡ reports i new → ((p : List ℕ) → IsBuiltPath i old p → IsBuiltPath i new p) → (p : List ℕ) → IsHeld i old 0 p → IsHeld i new 0 p
+local_alike i old new same built p h = along_more (kept old new built) (refers_alike i old new same) p h
+  where
+    kept : (old new : List Entry) → ((p : List ℕ) → IsBuiltPath i old p → IsBuiltPath i new p) → (p : List ℕ) → IsKept i old p → IsKept i new p
+    kept old new built p (inl source) = inl source
+    kept old new built p (inr b) = inr (built p b)
+
+local_stays : (i : Premises) (past : List Entry) (e : Entry) → reports i (e ∷ past) ≡ reports i past → ((d : ℕ) → is_built d (e ∷ past) ≡ is_built d past) → (p : List ℕ) → IsHeld i past 0 p ↔ IsHeld i (e ∷ past) 0 p
+local_stays i past e same unbuilt p = (
+  local_alike i past (e ∷ past) (sym same) (λ q b. built_on i past e q b) p,
+  local_alike i (e ∷ past) past same (λ q b. record { drv = b.drv; built = sym (unbuilt b.drv) ∙ b.built; output = b.output }) p,
+)
+
+-- an entry with the same reports, which changes no machine's paths
+stored_on : (i : Premises) (past : List Entry) (e : Entry) (s : Stored) → reports i (e ∷ past) ≡ reports i past → ((m : ℕ) (p : List ℕ) → IsHeld i past m p ↔ IsHeld i (e ∷ past) m p) → AreStored i past s → AreStored i (e ∷ past) s
+stored_on i past e s same held are = record {
+  references = record {
+    given = are.references.given;
+    base = are.references.base;
+    looks = looks_through s.entries (are.references.given ++ reports i past) (are.references.given ++ reports i (e ∷ past)) are.references.looks
+        (looks_same _ _ (ap (λ (t : List (List ℕ × List (List ℕ))). are.references.given ++ t) (sym same)));
+  };
+  holdings = record {
+    park = are.holdings.park;
+    held = λ m lt p. (λ h. (held m p).0 ((are.holdings.held m lt p).0 h), λ h. (are.holdings.held m lt p).1 ((held m p).1 h));
+  };
+}
+
+quiet_held : (i : Premises) (past : List Entry) (e : Entry) → is_quiet e ≡ true → (m : ℕ) (p : List ℕ) → IsHeld i past m p ↔ IsHeld i (e ∷ past) m p
+quiet_held i past (Started d paths) quiet m p = cc
+quiet_held i past (Built d refs) quiet m p = cc
+quiet_held i past e quiet zero p = local_stays i past e refl (λ d. refl) p
+quiet_held i past e quiet (suc k) p = (λ h. h, λ h. h)
+
+-- an entry that is no start and no build changes nothing
+pub stored_quiet : (i : Premises) (past : List Entry) (e : Entry) (s : Stored) → is_quiet e ≡ true → AreStored i past s → AreStored i (e ∷ past) s
+stored_quiet i past (Started d paths) s quiet are = cc
+stored_quiet i past (Built d refs) s quiet are = cc
+stored_quiet i past e s quiet are = stored_on i past e s refl (quiet_held i past e quiet) are
+
+-- ---- the lease that started or ended
+
+and_false : (a : Bool) → (a && false) ≡ false
+and_false true = refl
+and_false false = refl
+
+and_left : (a b : Bool) → (a && b) ≡ true → a ≡ true
+and_left true b h = refl
+and_left false b h = cc
+
+and_right : (a b : Bool) → (a && b) ≡ true → b ≡ true
+and_right true b h = h
+and_right false b h = cc
+
+-- where none is counted, none passes
+none_passes : {X : Type 0} → (p : X → Bool) (xs : List X) → count_by p xs ≡ 0 → list_any p xs ≡ false
+none_passes p [] h = refl
+none_passes p (x ∷ xs) h = grind (arith, common_steps, count_cons p x xs, none_passes p xs)
+
+-- what passes both tests passes the second
+any_second : {X : Type 0} → (q p : X → Bool) (xs : List X) → list_any (λ x. q x && p x) xs ≡ true → list_any p xs ≡ true
+any_second q p [] h = cc
+any_second q p (x ∷ xs) h = elim (one_of (q x && p x) (list_any (λ y. q y && p y) xs) h) [
+  | inl here ↦ ap (λ (b : Bool). b || list_any p xs) (and_right (q x) (p x) here)
+  | inr later ↦ or_true (p x) (list_any p xs) (any_second q p xs later)
+]
+
+only_step : (b : Bool) (m : ℕ) (x t : Ticket) (n : ℕ) (rest_found : Option Ticket) (rest_any : Bool) → cond b (n + 1) n ≤ 1 → cond b (Some x) rest_found ≡ Some t → (((m == x.machine) && b) || rest_any) ≡ true
+    → (n ≡ 0 → rest_any ≡ false) → (n ≤ 1 → rest_found ≡ Some t → rest_any ≡ true → m ≡ t.machine) → m ≡ t.machine
+only_step true m x t n rest_found rest_any few found there none rest =
+    let same : x ≡ t = cc in
+    let left : n ≡ 0 = omega arith in
+    let empty : rest_any ≡ false = none left in
+    elim (one_of ((m == x.machine) && true) rest_any there) [
+      | inl here ↦ eqb-true m x.machine (and_left (m == x.machine) true here) ∙ ap (λ (u : Ticket). u.machine) same
+      | inr later ↦ cc
+    ]
+only_step false m x t n rest_found rest_any few found there none rest = rest few found (rest_true ((m == x.machine) && false) rest_any (and_false (m == x.machine)) there)
+
+abbrev is_of : ℕ → Ticket → Bool
+is_of d u = d == u.drv
+
+abbrev is_at : ℕ → ℕ → Ticket → Bool
+is_at m d u = (m == u.machine) && (d == u.drv)
+
+-- in a list with one lease of d at most, each lease of d is the one that is found
+only_one : (m d : ℕ) (leases : List Ticket) (t : Ticket) → count_by (is_of d) leases ≤ 1 → find (is_of d) leases ≡ Some t → list_any (is_at m d) leases ≡ true → m ≡ t.machine
+only_one m d [] t few found there = cc
+only_one m d (x ∷ leases) t few found there =
+    only_step (d == x.drv) m x t (count_by (is_of d) leases) (find (is_of d) leases) (list_any (is_at m d) leases)
+    (subst (λ (n : ℕ). n ≤ 1) (count_cons (is_of d) x leases) few) found there
+    (λ none. none_both m d leases none)
+    (λ f g h. only_one m d leases t f g h)
+  where
+    none_both : (m d : ℕ) (leases : List Ticket) → count_by (is_of d) leases ≡ 0 → list_any (is_at m d) leases ≡ false
+    none_both m d leases none = elim (cases_Bool (list_any (is_at m d) leases)) [
+      | inl some ↦ (let there : list_any (is_of d) leases ≡ true = any_second (λ (u : Ticket). m == u.machine) (is_of d) leases some in let out : list_any (is_of d) leases ≡ false = none_passes (is_of d) leases none in cc)
+      | inr out ↦ out
+    ]
+
+-- in a legal history the lease of d is on its ticket's machine alone
+pub only_there : (i : Premises) (past : List Entry) → IsLegal i past → (d m : ℕ) (t : Ticket) → lease_of d past ≡ Some t → is_leased_on m d past ≡ true → m ≡ t.machine
+only_there i past legal d m t found there = only_one m d (live past) t (lease_once i past legal d) found there
+
+-- whether it is on m
+leased_on_is : (i : Premises) (past : List Entry) → IsLegal i past → (d m : ℕ) (t : Ticket) → lease_of d past ≡ Some t → is_leased_on m d past ≡ (m == t.machine)
+leased_on_is i past legal d m t found =
+    elim (cases_eq m t.machine) [
+      | inl same ↦ subst (λ (n : ℕ). is_leased_on n d past ≡ true) (sym same) (leased_there d past t found) ∙ sym (eq-eqb m t.machine same)
+      | inr other ↦ (elim (cases_Bool (is_leased_on m d past)) [
+        | inl there ↦ absurd (other (only_there i past legal d m t found there))
+        | inr out ↦ out ∙ sym (ne_eqb m t.machine other)
+      ])
+    ]
+
+-- ---- starts and builds
+
+-- what every machine holds after paths were added to one
+pub gained_at : (old new : List Stock) (m : ℕ) (paths : List (List ℕ)) → HasGained old new m paths → (k : ℕ) (p : List ℕ) → Contains (stock_of new k).paths p ↔ Contains (stock_of old k).paths p ⊎ ((k ≡ m) × Contains paths p)
+gained_at old new m paths g k p = elim (cases_eq k m) [
+  | inl same ↦ (
+    λ h. elim ((g.gained p).0 (subst (λ (n : ℕ). Contains (stock_of new n).paths p) same h)) [
+      | inl before ↦ inl (subst (λ (n : ℕ). Contains (stock_of old n).paths p) (sym same) before)
+      | inr among ↦ inr (same, among)
+    ],
+    λ h. subst (λ (n : ℕ). Contains (stock_of new n).paths p) (sym same) ((g.gained p).1 (elim h [
+      | inl before ↦ inl (subst (λ (n : ℕ). Contains (stock_of old n).paths p) same before)
+      | inr among ↦ inr among.1
+    ])),
+  )
+  | inr other ↦ (
+    λ h. inl (subst (λ (s : Stock). Contains s.paths p) (g.others k other) h),
+    λ h. elim h [
+      | inl before ↦ subst (λ (s : Stock). Contains s.paths p) (sym (g.others k other)) before
+      | inr among ↦ absurd (other among.0)
+    ],
+  )
+]
+
+-- what a builder got
+abbrev part : ℕ → List (List ℕ) → List (List ℕ)
+part m paths = if m == 0 then [] else paths
+
+part_of : (m : ℕ) (paths : List (List ℕ)) (p : List ℕ) → Contains (part m paths) p → (m ≢ 0) × Contains paths p
+part_of m paths p h =
+    elim (cases_eq m 0) [
+      | inl same ↦ absurd (nothing_in p (subst (λ (b : Bool). Contains (if b then [] else paths) p) (eq-eqb m 0 same) h))
+      | inr other ↦ (other, subst (λ (b : Bool). Contains (if b then [] else paths) p) (ne_eqb m 0 other) h)
+    ]
+
+of_part : (k : ℕ) (paths : List (List ℕ)) (p : List ℕ) → Contains paths p → Contains (part (suc k) paths) p
+of_part k paths p h = subst (λ (b : Bool). Contains (if b then [] else paths) p) (sym (ne_eqb (suc k) 0 (λ same. omega arith))) h
+
+-- a builder's paths, grown where the lease is on it
+grown_to : (b : Bool) (before paths : List (List ℕ)) (p : List ℕ) → Contains (if b then before ++ paths else before) p → Contains before p ⊎ ((b ≡ true) × Contains paths p)
+grown_to true before paths p h = elim (Contains-append_cases before paths p h) [ inl there ↦ inl there | inr new ↦ inr (refl, new) ]
+grown_to false before paths p h = inl h
+
+to_grown : (b : Bool) (before paths : List (List ℕ)) (p : List ℕ) → Contains before p ⊎ ((b ≡ true) × Contains paths p) → Contains (if b then before ++ paths else before) p
+to_grown true before paths p (inl there) = Contains-append_left before paths p there
+to_grown true before paths p (inr new) = Contains-append_right before paths p new.1
+to_grown false before paths p (inl there) = there
+to_grown false before paths p (inr new) = let never = new.0 in cc
+
+-- a builder holds what it held, and what came to it
+builder_holds : (i : Premises) (past : List Entry) → IsLegal i past → (d k : ℕ) (t : Ticket) (paths before : List (List ℕ)) (p : List ℕ) → lease_of d past ≡ Some t
+    → (Contains before p ⊎ ((suc k ≡ t.machine) × Contains (part t.machine paths) p)) ↔ Contains (if is_leased_on (suc k) d past then before ++ paths else before) p
+builder_holds i past legal d k t paths before p found =
+    let on = leased_on_is i past legal d (suc k) t found in (
+      λ h. to_grown (is_leased_on (suc k) d past) before paths p (elim h [
+        | inl there ↦ inl there
+        | inr new ↦ inr (on ∙ eq-eqb (suc k) t.machine new.0, (part_of t.machine paths p new.1).1)
+      ]),
+      λ h. elim (grown_to (is_leased_on (suc k) d past) before paths p h) [
+        | inl there ↦ inl there
+        | inr new ↦
+            let same : suc k ≡ t.machine = eqb-true (suc k) t.machine (sym on ∙ new.0) in
+            inr (same, subst (λ (m : ℕ). Contains (part m paths) p) same (of_part k paths p new.1))
+      ],
+    )
+
+-- a start is taken in
+pub stored_start : (i : Premises) (past : List Entry) (d : ℕ) (t : Ticket) (paths : List (List ℕ)) (old new : Stored) (a : Additions)
+    → IsLegal i past → lease_of d past ≡ Some t → AreStored i past old → AreStartAdditions t.machine paths a → HasTaken old new a → AreStored i (Started d paths ∷ past) new
+stored_start i past d t paths old new a legal found are adds took = record {
+  references = record {
+    given = are.references.given;
+    base = are.references.base;
+    looks = looks_through new.entries old.entries (are.references.given ++ reports i past)
+        (looks_through new.entries (old.entries ++ a.entries.items) old.entries took.entries
+        (looks_same (old.entries ++ a.entries.items) old.entries (ap (λ (x : List (List ℕ × List (List ℕ))). old.entries ++ x) adds.entries ∙ append-nil old.entries))) are.references.looks;
+  };
+  holdings = record {
+    park = took.brought.size ∙ took.own.size ∙ are.holdings.park;
+    held = λ m lt p. at m (subst (λ (n : ℕ). m < n) (took.brought.size ∙ took.own.size) lt) p;
+  };
+}
+  where
+    -- what is held is what was held, and on the ticket's machine what came to it
+    now : (m : ℕ) (p : List ℕ) → Contains (stock_of new.stocks m).paths p ↔ Contains (stock_of old.stocks m).paths p ⊎ ((m ≡ t.machine) × Contains (part t.machine paths) p)
+    now m p = (
+      λ h. elim ((gained_at took.between new.stocks a.machine a.brought.items took.brought m p).0 h) [
+        | inl before ↦ (elim ((gained_at old.stocks took.between 0 a.own.items took.own m p).0 before) [
+          | inl first ↦ inl first
+          | inr own ↦ absurd (nothing_in p (subst (λ (xs : List (List ℕ)). Contains xs p) adds.own own.1))
+        ])
+        | inr came ↦ inr (came.0 ∙ adds.machine, subst (λ (xs : List (List ℕ)). Contains xs p) adds.brought came.1)
+      ],
+      λ h. (gained_at took.between new.stocks a.machine a.brought.items took.brought m p).1 (elim h [
+        | inl first ↦ inl ((gained_at old.stocks took.between 0 a.own.items took.own m p).1 (inl first))
+        | inr came ↦ inr (came.0 ∙ sym adds.machine, subst (λ (xs : List (List ℕ)). Contains xs p) (sym adds.brought) came.1)
+      ]),
+    )
+
+    at : (m : ℕ) → m < length old.stocks → (p : List ℕ) → Contains (stock_of new.stocks m).paths p ↔ IsHeld i (Started d paths ∷ past) m p
+    at zero lt p =
+        let stays = local_stays i past (Started d paths) refl (λ e. refl) p in (
+          λ h. stays.0 ((are.holdings.held 0 lt p).0 (elim ((now 0 p).0 h) [
+            | inl before ↦ before
+            | inr came ↦ absurd ((part_of t.machine paths p came.1).0 (sym came.0))
+          ])),
+          λ h. (now 0 p).1 (inl ((are.holdings.held 0 lt p).1 (stays.1 h))),
+        )
+    at (suc k) lt p =
+        let grows = builder_holds i past legal d k t paths (brought i (suc k) past) p found in (
+          λ h. grows.0 (elim ((now (suc k) p).0 h) [
+            | inl before ↦ inl ((are.holdings.held (suc k) lt p).0 before)
+            | inr came ↦ inr came
+          ]),
+          λ h. (now (suc k) p).1 (elim (grows.1 h) [
+            | inl before ↦ inl ((are.holdings.held (suc k) lt p).1 before)
+            | inr came ↦ inr came
+          ]),
+        )
+
+-- a build is taken in
+pub stored_built : (i : Premises) (past : List Entry) (d : ℕ) (t : Ticket) (refs : List (List (List ℕ))) (old new : Stored) (a : Additions)
+    → IsLegal i (Built d refs ∷ past) → lease_of d past ≡ Some t → AreStored i past old → AreBuiltAdditions i d t.machine refs a → HasTaken old new a → AreStored i (Built d refs ∷ past) new
+stored_built i past d t refs old new a legal found are adds took = record {
+  references = record {
+    given = are.references.given;
+    base = are.references.base;
+    looks = looks_through new.entries ((are.references.given ++ reports i past) ++ zip (outputs_of i d) refs) (are.references.given ++ (reports i past ++ zip (outputs_of i d) refs))
+        (looks_through new.entries (old.entries ++ zip (outputs_of i d) refs) ((are.references.given ++ reports i past) ++ zip (outputs_of i d) refs)
+        (looks_through new.entries (old.entries ++ a.entries.items) (old.entries ++ zip (outputs_of i d) refs) took.entries
+        (looks_same _ _ (ap (λ (x : List (List ℕ × List (List ℕ))). old.entries ++ x) adds.entries)))
+        (looks_longer old.entries (are.references.given ++ reports i past) (zip (outputs_of i d) refs) are.references.looks))
+        (looks_same _ _ (append_assoc are.references.given (reports i past) (zip (outputs_of i d) refs)));
+  };
+  holdings = record {
+    park = took.brought.size ∙ took.own.size ∙ are.holdings.park;
+    held = λ m lt p. at m (subst (λ (n : ℕ). m < n) (took.brought.size ∙ took.own.size) lt) p;
+  };
+}
+  where
+    -- what is held is what was held, on the local machine the outputs, and on the ticket's machine what came to it
+    now : (m : ℕ) (p : List ℕ) → Contains (stock_of new.stocks m).paths p
+        ↔ Contains (stock_of old.stocks m).paths p ⊎ (((m ≡ 0) × Contains (outputs_of i d) p) ⊎ ((m ≡ t.machine) × Contains (part t.machine (outputs_of i d)) p))
+    now m p = (
+      λ h. elim ((gained_at took.between new.stocks a.machine a.brought.items took.brought m p).0 h) [
+        | inl before ↦ (elim ((gained_at old.stocks took.between 0 a.own.items took.own m p).0 before) [
+          | inl first ↦ inl first
+          | inr own ↦ inr (inl (own.0, subst (λ (xs : List (List ℕ)). Contains xs p) adds.own own.1))
+        ])
+        | inr came ↦ inr (inr (came.0 ∙ adds.machine, subst (λ (xs : List (List ℕ)). Contains xs p) adds.brought came.1))
+      ],
+      λ h. (gained_at took.between new.stocks a.machine a.brought.items took.brought m p).1 (elim h [
+        | inl first ↦ inl ((gained_at old.stocks took.between 0 a.own.items took.own m p).1 (inl first))
+        | inr more ↦ (elim more [
+          | inl own ↦ inl ((gained_at old.stocks took.between 0 a.own.items took.own m p).1 (inr (own.0, subst (λ (xs : List (List ℕ)). Contains xs p) (sym adds.own) own.1)))
+          | inr came ↦ inr (came.0 ∙ sym adds.machine, subst (λ (xs : List (List ℕ)). Contains xs p) (sym adds.brought) came.1)
+        ])
+      ]),
+    )
+
+    at : (m : ℕ) → m < length old.stocks → (p : List ℕ) → Contains (stock_of new.stocks m).paths p ↔ IsHeld i (Built d refs ∷ past) m p
+    at zero lt p =
+        let adding_p = adding i past d refs legal p in (
+          λ h. adding_p.1 (elim ((now 0 p).0 h) [
+            | inl before ↦ inl ((are.holdings.held 0 lt p).0 before)
+            | inr more ↦ (elim more [
+              | inl own ↦ inr (record { listed = own.1 })
+              | inr came ↦ absurd ((part_of t.machine (outputs_of i d) p came.1).0 (sym came.0))
+            ])
+          ]),
+          λ h. (now 0 p).1 (elim (adding_p.0 h) [
+            | inl before ↦ inl ((are.holdings.held 0 lt p).1 before)
+            | inr own ↦ inr (inl (refl, own.listed))
+          ]),
+        )
+    at (suc k) lt p =
+        let grows = builder_holds i past legal.1 d k t (outputs_of i d) (brought i (suc k) past) p found in (
+          λ h. grows.0 (elim ((now (suc k) p).0 h) [
+            | inl before ↦ inl ((are.holdings.held (suc k) lt p).0 before)
+            | inr more ↦ (elim more [ inl own ↦ (let never = own.0 in absurd (omega arith)) | inr came ↦ inr came ])
+          ]),
+          λ h. (now (suc k) p).1 (elim (grows.1 h) [
+            | inl before ↦ inl ((are.holdings.held (suc k) lt p).1 before)
+            | inr came ↦ inr (inr came)
+          ]),
+        )

@@ -1,0 +1,10 @@
+//! References, closures and holdings over a history, kept as it grows.
+#![tactic(auto)]
+
+mod checks;
+pub mod copying;
+mod needs;
+pub mod stores;
+
+pub use copying::{Additions, PathsError};
+pub use stores::Stores;

@@ -1,5 +1,0 @@
-use Rattle.nd_run.proofs.Seated.{AreSeated}
-use Rattle.nd_run.proofs.seating.places.Given as goal
-
-abbrev pub invariant-loop-machine : goal.invariant-loop-machine
-invariant-loop-machine l = AreSeated l.dispatch.inputs l.machine l.places.items

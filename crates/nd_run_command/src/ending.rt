@@ -1,0 +1,78 @@
+//! What is written of a run, and its status.
+
+ghost use Rattle.std.specs.Prelude.{◌≡◌, ◌||◌, false, is_err, reverse, None, IfOk, IfErr, OnOk, OnErr};
+ghost use Rattle.std.specs.Io.KnownBytes.{Keeps};
+ghost use Rattle.nd_history.specs.Legal.{IsLegal};
+ghost use Rattle.nd_run_command.specs.Ended.{WritesEnd, WritesEndPart, IsStatusOf, IsToldOf};
+
+use nd_cli::CliFault;
+use nd_hook::{Told, WriteError};
+use nd_ledger::Dispatch;
+use nd_report::{write_history, write_report};
+use nd_workers::RunFault;
+use std::io::Write;
+
+/// Writes the history, and then where asked the report; then it has the writer pass on what it holds
+/// back. It takes no memory.
+///
+/// `Write`: the writer refused, and is marked; a part of the text, from its beginning, is out.
+pub(crate) fn write_end<W: Write>(
+    dispatch: &Dispatch,
+    report: bool,
+    output: &mut Told<W>,
+) -> Result<(), WriteError>
+    ensures written { OnOk result (WritesEnd dispatch.now report (W.contents output.old.device) (W.contents output.new.device)) }
+    ensures partly { OnErr result (WritesEndPart dispatch.now report (W.contents output.old.device) (W.contents output.new.device)) }
+    ensures mark { output.new.is_marked ≡ (output.old.is_marked || is_err result) }
+    ensures legal { IsLegal dispatch.now.inputs (reverse dispatch.now.history) }
+{
+    match write_history(dispatch.history(), output) {
+        Ok(()) => {}
+        Err(refusal) => return Err(refusal),
+    }
+    if !report {
+        return pass_on(output);
+    }
+    match write_report(dispatch, output) {
+        Ok(()) => pass_on(output),
+        Err(refusal) => Err(refusal),
+    }
+}
+
+/// Has the writer pass on what it holds back.
+fn pass_on<W: Write>(output: &mut Told<W>) -> Result<(), WriteError>
+    ensures kept { Keeps (W.contents output.old.device) (W.contents output.new.device) }
+    ensures mark { output.new.is_marked ≡ (output.old.is_marked || is_err result) }
+{
+    match output.flush() {
+        Ok(()) => Ok(()),
+        Err(_) => Err(WriteError::Write),
+    }
+}
+
+/// 1 where a derivation failed or was cancelled, and else 0.
+fn exit_status(dispatch: &Dispatch) -> u8
+    ensures { IsStatusOf dispatch.now result }
+{
+    let counts = dispatch.counts();
+    if counts.failed > 0 {
+        return 1;
+    }
+    if counts.cancelled > 0 {
+        return 1;
+    }
+    0
+}
+
+/// The status of a run that ended without a fault, and else the fault.
+pub(crate) fn status_or_fault(dispatch: &Dispatch, fault: Option<RunFault>) -> Result<u8, CliFault>
+    ensures status { IfOk result (λ status. (fault ≡ None) × IsStatusOf dispatch.now status) }
+    ensures fault { IfErr result (IsToldOf fault) }
+{
+    match fault {
+        None => Ok(exit_status(dispatch)),
+        Some(RunFault::Thread) => Err(CliFault::Thread),
+        Some(RunFault::Memory) => Err(CliFault::Memory),
+        Some(RunFault::Receipts) => Err(CliFault::Receipts),
+    }
+}

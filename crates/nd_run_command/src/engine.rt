@@ -1,0 +1,82 @@
+//! A run, and what is written of it.
+
+ghost use Rattle.std.specs.Prelude.{◌≡◌, ◌↔◌, false, reverse, map, vec_len, IfOk, IfErr, IsTrue};
+ghost use Rattle.nd_history.specs.Legal.{IsLegal};
+ghost use Rattle.nd_workers.specs.Runs.{AreManned};
+ghost use Rattle.nd_run_command.specs.Ran.{RunsTo, IsRunFault, EndsIn, IsEndFault, IsRefusedAs};
+
+use crate::ending::{status_or_fault, write_end};
+use nd_cli::CliFault;
+use nd_hook::Told;
+use nd_ledger::Dispatch;
+use nd_workers::{RunError, RunFault, Worker, run};
+use std::io::Write;
+use std::sync::Wait;
+use std::thread::Threads;
+
+/// Runs a dispatch with these workers, one for each slot of the park, until nothing is leased or waits,
+/// and writes the text of its history, and then where asked the report. The status is 1 where a
+/// derivation failed or was cancelled, and else 0.
+///
+/// `TooManySlots`: there are more than 1,024 workers, and nothing is written. `Write`: the writer
+/// refused, and is marked; a part of the text, from its beginning, is out. `Thread`, `Memory` and
+/// `Receipts`: the run ended with that fault, and what came back is written before. `Memory` also where
+/// there was none to begin with; then nothing is written.
+#[tactic(auto, using(crate::proofs::Endings::never_slots, crate::proofs::Endings::runs_to, crate::proofs::Endings::came_back))]
+pub fn run_engine<R: Threads + Wait + Sync, W: Write>(
+    rt: &R,
+    dispatch: Dispatch,
+    workers: Vec<Worker>,
+    report: bool,
+    output: &mut Told<W>,
+) -> Result<u8, CliFault>
+    requires manned { AreManned dispatch.inputs (map (λ w. (w.machine, w.slot)) workers.items) }
+    requires writer { output.old.is_marked ≡ false }
+    ensures answer { IfOk result (λ status. RunsTo dispatch report status (W.contents output.old.device) (W.contents output.new.device)) }
+    ensures fault { IfErr result (IsRunFault dispatch (vec_len workers) report W.contents output.old output.new) }
+    ensures mark { IsTrue output.new.is_marked ↔ (result ≡ Err CliFault.Write) }
+{
+    match run(rt, dispatch, workers) {
+        Ok(end) => {
+            let answer = write_and_answer(&end.dispatch, end.fault, report, output);
+            drop(end);
+            answer
+        }
+        Err(refused) => {
+            let fault = refusal(refused.why);
+            drop(refused);
+            Err(fault)
+        }
+    }
+}
+
+/// Writes what came back of a run, and answers its status or its fault.
+fn write_and_answer<W: Write>(
+    dispatch: &Dispatch,
+    fault: Option<RunFault>,
+    report: bool,
+    output: &mut Told<W>,
+) -> Result<u8, CliFault>
+    requires { output.old.is_marked ≡ false }
+    ensures legal { IsLegal dispatch.now.inputs (reverse dispatch.now.history) }
+    ensures answer { IfOk result (λ status. EndsIn dispatch.now fault report status (W.contents output.old.device) (W.contents output.new.device)) }
+    ensures fault { IfErr result (IsEndFault dispatch.now fault report (W.contents output.old.device) (W.contents output.new.device)) }
+    ensures mark { IsTrue output.new.is_marked ↔ (result ≡ Err CliFault.Write) }
+{
+    match write_end(dispatch, report, output) {
+        Ok(()) => status_or_fault(dispatch, fault),
+        Err(_) => Err(CliFault::Write),
+    }
+}
+
+/// The fault of a refused run, whose workers were one for each slot.
+fn refusal(why: RunError) -> CliFault
+    requires { why ≡ RunError.Slots → ⊥ }
+    ensures { IsRefusedAs why result }
+{
+    match why {
+        RunError::Slots => unreachable!(),
+        RunError::TooManySlots => CliFault::TooManySlots,
+        RunError::Memory => CliFault::Memory,
+    }
+}

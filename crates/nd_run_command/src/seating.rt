@@ -1,0 +1,138 @@
+//! The places of a park: each machine with each of its slots, and a stand-in for each.
+
+ghost use Rattle.std.specs.Prelude.{◌≡◌, ◌+◌, ◌≤◌, ◌++◌, length, map, vec_len, IfOk, IfErr, OnOk};
+ghost use Rattle.nd_history.specs.Choices.{machines_in, jobs_of};
+ghost use Rattle.nd_workers.specs.Abandoned.{places_on, places_of};
+ghost use Rattle.nd_workers.specs.Runs.{AreManned};
+ghost use Rattle.nd_run_command.specs.Seats.{AreTooMany, stand_in_on};
+
+use nd_cli::CliFault;
+use nd_ledger::Dispatch;
+use nd_script::Rule;
+use nd_workers::{Seat, StandIn};
+use std::alloc::{AllocError, Global};
+
+/// The most slots that a run serves.
+const MOST: usize = 1024;
+
+/// A stand-in for each place of the park, in the order of [`places`]. Each has these rules, all of
+/// them, and has made no call yet; none has a fuse.
+///
+/// `TooManySlots`: there are more than 1,024 places. `Memory`.
+pub fn stand_ins(
+    alloc: Global,
+    dispatch: &Dispatch,
+    rules: &[Rule],
+) -> Result<Vec<Seat<Box<StandIn>>>, CliFault>
+    ensures placed { IfOk result (λ seats. map (λ w. (w.machine, w.slot)) seats.items ≡ places_of dispatch.now.inputs) }
+    ensures ruled { IfOk result (λ seats. map (λ w. w.transport.value) seats.items ≡ map (stand_in_on rules.now) (places_of dispatch.now.inputs)) }
+    ensures manned { IfOk result (λ seats. AreManned dispatch.now.inputs (map (λ w. (w.machine, w.slot)) seats.items)) }
+    ensures refused { IfErr result (AreTooMany (places_of dispatch.now.inputs)) }
+{
+    let places = match places(alloc, dispatch) {
+        Ok(places) => places,
+        Err(fault) => return Err(fault),
+    };
+    match seats(alloc, places, rules) {
+        Ok(seats) => Ok(seats),
+        Err(_) => Err(CliFault::Memory),
+    }
+}
+
+/// A stand-in with these rules on each of these places.
+fn seats(
+    alloc: Global,
+    places: Vec<(u32, u32)>,
+    rules: &[Rule],
+) -> Result<Vec<Seat<Box<StandIn>>>, AllocError>
+    ensures placed { IfOk result (λ seats. map (λ w. (w.machine, w.slot)) seats.items ≡ places.items) }
+    ensures ruled { IfOk result (λ seats. map (λ w. w.transport.value) seats.items ≡ map (stand_in_on rules.now) places.items) }
+{
+    let mut seats = Vec::new(alloc);
+    for (machine, slot) in places {
+        let transport = Box::new(alloc, StandIn::new(machine, copies(alloc, rules)?))?;
+        let seat = Seat {
+            machine,
+            slot,
+            transport,
+        };
+        seats.push(seat)?;
+    }
+    Ok(seats)
+}
+
+/// A copy of these rules.
+fn copies(alloc: Global, rules: &[Rule]) -> Result<Vec<Rule>, AllocError>
+    ensures { IfOk result (λ copies. copies.items ≡ rules.now) }
+{
+    let mut copies = Vec::new(alloc);
+    for rule in rules {
+        copies.push(rule.try_clone()?)?;
+    }
+    Ok(copies)
+}
+
+/// The places of the park, machines with slots of theirs, in the order of the machines and their slots.
+/// A run by a worker on each has a worker for each slot.
+///
+/// `TooManySlots`: there are more than 1,024. `Memory`.
+#[tactic(auto, using(crate::proofs::Seated::none_yet, crate::proofs::Seated::one_machine, crate::proofs::Seated::too_many, crate::proofs::Seated::all_places))]
+pub fn places(alloc: Global, dispatch: &Dispatch) -> Result<Vec<(u32, u32)>, CliFault>
+    ensures found { IfOk result (λ places. places.items ≡ places_of dispatch.now.inputs) }
+    ensures manned { IfOk result (λ places. AreManned dispatch.now.inputs places.items) }
+    ensures few { IfOk result (λ places. length places.items ≤ 1024) }
+    ensures refused { IfErr result (AreTooMany (places_of dispatch.now.inputs)) }
+{
+    let mut places = Vec::new(alloc);
+    for machine in 0..machine_count(dispatch) {
+        match add_machine(dispatch, machine, &mut places) {
+            Ok(()) => {}
+            Err(fault) => return Err(fault),
+        }
+    }
+    Ok(places)
+}
+
+/// Puts the places of a machine behind these.
+#[tactic(auto, using(crate::proofs::Seated::none_added, crate::proofs::Seated::one_place, crate::proofs::Seated::too_many_there))]
+fn add_machine(
+    dispatch: &Dispatch,
+    machine: u32,
+    places: &mut Vec<(u32, u32)>,
+) -> Result<(), CliFault>
+    requires { length places.old.items ≤ 1024 }
+    ensures added { OnOk result (places.new.items ≡ places.old.items ++ places_on dispatch.now.inputs machine) }
+    ensures few { OnOk result (length places.new.items ≤ 1024) }
+    ensures refused { IfErr result (AreTooMany (places.old.items ++ places_on dispatch.now.inputs machine)) }
+{
+    for slot in 0..jobs_on(dispatch, machine) {
+        if places.len() >= MOST {
+            return Err(CliFault::TooManySlots);
+        }
+        match places.push((machine, slot)) {
+            Ok(()) => {}
+            Err(_) => return Err(CliFault::Memory),
+        }
+    }
+    Ok(())
+}
+
+/// The number of machines of the park.
+fn machine_count(dispatch: &Dispatch) -> u32
+    ensures { result ≡ machines_in dispatch.now.inputs }
+{
+    dispatch.machines().len() as u32 + 1
+}
+
+/// How many builds may run at once on this machine.
+fn jobs_on(dispatch: &Dispatch, machine: u32) -> u32
+    ensures { result ≡ jobs_of dispatch.now.inputs machine }
+{
+    if machine == 0 {
+        return dispatch.local().jobs();
+    }
+    match dispatch.machines().get(machine as usize - 1) {
+        Some(machine) => machine.jobs(),
+        None => 0,
+    }
+}

@@ -1,6 +1,0 @@
-use Rattle.std.proofs.Common.{take}
-use Rattle.nd_stores.specs.Stored.{AreAllWithin}
-use Rattle.nd_stores.proofs.checks.all_lie_in.Given as goal
-
-abbrev pub invariant-loop-list : goal.invariant-loop-list
-invariant-loop-list l = AreAllWithin l.set (take l.list-index l.lists)

@@ -1,6 +1,0 @@
-use Rattle.std.proofs.Common.{take}
-use Rattle.nd_stores.specs.Stored.{IsCovered}
-use Rattle.nd_stores.proofs.checks.is_covered.Given as goal
-
-abbrev pub invariant-loop-path : goal.invariant-loop-path
-invariant-loop-path l = IsCovered (take l.path-index l.closure) l.held.paths l.copied

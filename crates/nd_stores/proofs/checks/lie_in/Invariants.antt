@@ -1,6 +1,0 @@
-use Rattle.std.proofs.Common.{take}
-use Rattle.nd_closure.specs.Closures.{HoldsAll}
-use Rattle.nd_stores.proofs.checks.lie_in.Given as goal
-
-abbrev pub invariant-loop-path : goal.invariant-loop-path
-invariant-loop-path l = HoldsAll l.set (take l.path-index l.paths)

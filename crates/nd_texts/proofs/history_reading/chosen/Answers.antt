@@ -1,5 +1,0 @@
-use Rattle.nd_texts.proofs.LineKinds.{choice_machine}
-use Rattle.nd_texts.proofs.history_reading.chosen.Goals as goal
-
-pub returns-in_default-number_first-clause-refused : goal.returns-in_default-number_first-clause-refused
-returns-in_default-number_first-clause-refused c = choice_machine _ _ _ c.in-Some.ensures c.in_default-number_first.ensures

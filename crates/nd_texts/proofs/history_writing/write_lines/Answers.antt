@@ -1,7 +1,0 @@
-use Rattle.nd_texts.proofs.Sent.{put_sent_in_part}
-use Rattle.nd_texts.proofs.Spelled.{on_err}
-use Rattle.nd_texts.proofs.history_writing.write_lines.Goals as goal
-
-pub returns-in_err-send-clause-partly : goal.returns-in_err-send-clause-partly
-returns-in_err-send-clause-partly g c =
-    on_err _ _ (put_sent_in_part _ _ _ _ _ _ _ _ c.new-page.ensures c.in_ok-put_lines.ensures c.in_err-send.ensures.partly)

@@ -1,8 +1,0 @@
-use Rattle.nd_texts.proofs.Sent.{put_both, put_refused}
-use Rattle.nd_texts.proofs.rows.put_line.Goals as goal
-
-pub returns-in_err-put : goal.returns-in_err-put
-returns-in_err-put g c = put_refused _ _ _ _ _ _ _ _ _ c.from_residual.ensures.0 c.in_err-put.ensures
-
-pub returns : goal.returns
-returns g c = put_both _ _ _ _ _ _ _ _ _ _ _ c.in_ok-put.ensures c.put_words.ensures
