@@ -103,14 +103,18 @@ fn number_of<'a>(
         return Ok(*number);
     }
     let number = lists.len();
-    lists.push(places(alloc, machines, need)?)?;
+    lists.push(eligible_places(alloc, machines, need)?)?;
     known.insert(kind, number)?;
     Ok(number)
 }
 
 /// The places, from 0, of the machines that may build a derivation with this need, in rising
 /// order.
-fn places(alloc: Global, machines: &[Machine], need: &Need) -> Result<Items<usize>, AllocError>
+pub fn eligible_places(
+    alloc: Global,
+    machines: &[Machine],
+    need: &Need,
+) -> Result<Items<usize>, AllocError>
     ensures { IfOk result (AreEligible machines.now need.now) }
 {
     let mut places = Vec::new(alloc);

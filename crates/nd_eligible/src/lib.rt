@@ -8,7 +8,7 @@ pub mod feature_words;
 pub mod local;
 pub mod need;
 
-pub use classes::Classes;
+pub use classes::{Classes, eligible_places};
 pub use eligibility::{eligible, local_ok};
 pub use feature_words::words;
 pub use local::Local;

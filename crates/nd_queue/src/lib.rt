@@ -5,4 +5,5 @@ mod grouped;
 mod lists;
 mod queue;
 
+pub use lists::Lists;
 pub use queue::Queue;

@@ -1,5 +1,5 @@
 //! A list of numbers for each group.
-ghost use Rattle.std.specs.Prelude.{◌≡◌, ◌<◌, ◌++◌, ◌∷◌, [], length, slice_set, slice_index_or, replicate, IfOk, OnOk};
+ghost use Rattle.std.specs.Prelude.{◌≡◌, ◌<◌, ◌++◌, ◌∷◌, [], length, slice_set, slice_index_or, replicate, IfOk, OnOk, OnErr};
 
 use std::alloc::{AllocError, Global};
 use std::marker::Model;
@@ -20,7 +20,7 @@ impl Model for Numbers {
 
 /// A list of numbers for each group.
 #[derive(Drop, Debug)]
-pub(crate) struct Lists {
+pub struct Lists {
     lists: Vec<Numbers>,
 }
 
@@ -34,7 +34,7 @@ impl Model for Lists {
 
 impl Lists {
     /// An empty list for each of `count` groups.
-    pub(crate) fn empty(alloc: Global, count: usize) -> Result<Lists, AllocError>
+    pub fn empty(alloc: Global, count: usize) -> Result<Lists, AllocError>
         ensures { IfOk result (λ lists. lists ≡ replicate count []) }
     {
         let mut lists = Vec::with_capacity(alloc, count)?;
@@ -45,8 +45,15 @@ impl Lists {
         Ok(Lists { lists })
     }
 
+    /// The number of lists.
+    pub fn len(&self) -> usize
+        ensures { result ≡ length self.now }
+    {
+        self.lists.len()
+    }
+
     /// The list of a group.
-    pub(crate) fn list(&self, group: usize) -> &[usize]
+    pub fn list(&self, group: usize) -> &[usize]
         requires { group < length self.now }
         ensures { result.now ≡ slice_index_or self.now group [] }
     {
@@ -54,9 +61,10 @@ impl Lists {
     }
 
     /// Adds a number to the end of a group's list.
-    pub(crate) fn push(&mut self, group: usize, number: usize) -> Result<(), AllocError>
+    pub fn push(&mut self, group: usize, number: usize) -> Result<(), AllocError>
         requires { group < length self.old }
-        ensures { OnOk result (self.new ≡ slice_set self.old group (slice_index_or self.old group [] ++ number ∷ [])) }
+        ensures ok { OnOk result (self.new ≡ slice_set self.old group (slice_index_or self.old group [] ++ number ∷ [])) }
+        ensures err { OnErr result (self.new ≡ self.old) }
     {
         self.lists[group].items.push(number)?;
         Ok(())

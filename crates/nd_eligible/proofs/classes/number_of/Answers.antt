@@ -9,8 +9,8 @@ returns-in-Some-clause-number c = c.requires.each c.args.need.now c.in-Some.numb
 -- the new list is that of the need's kind
 pub returns-clause-known : goal.returns-clause-known
 returns-clause-known c =
-    known_more c.args.machines.now c.args.known.now c.insert.new.self c.args.lists.now.items c.push.new.self.items (c.in_ok-places.field-0 ∷ []) c.args.need.now c.len-number.result
+    known_more c.args.machines.now c.args.known.now c.insert.new.self c.args.lists.now.items c.push.new.self.items (c.in_ok-eligible_places.field-0 ∷ []) c.args.need.now c.len-number.result
     c.requires c.in_ok-push.ensures.items
-    (rw c.in_ok-push.ensures.items (class_last c.args.machines.now c.args.lists.now.items c.in_ok-places.field-0 c.args.need.now c.len-number.result
-    (c.len-number.ensures ∙ c.args.lists.now.ok.0) c.in_ok-places.ensures))
+    (rw c.in_ok-push.ensures.items (class_last c.args.machines.now c.args.lists.now.items c.in_ok-eligible_places.field-0 c.args.need.now c.len-number.result
+    (c.len-number.ensures ∙ c.args.lists.now.ok.0) c.in_ok-eligible_places.ensures))
     c.in_ok-insert.ensures.updates.0

@@ -15,7 +15,7 @@ loop-drv-preserved c =
     let ranged : group_in groups drv < c.args.count = All-get_or (λ g. g < c.args.count) groups drv 0 (omega (arith, c.loop-drv-test.true)) c.requires in
     let within : group_in groups drv < length lists = omega (arith, ranged, c.loop-drv.invariant.lists) in
     let pushed = c.in_ok-push.ensures.items in
-    let put = c.in_ok-push-2.ensures in
+    let put = c.in_ok-push-2.ensures.ok in
     let placed = pushed ∙ ap (λ (xs : List ℕ). places ++ length xs ∷ []) c.list.ensures in
     record {
       places = ap (λ (xs : List ℕ). length xs) placed

@@ -1,7 +1,7 @@
 use Rattle.std.proofs.Common.{refl, sym, true≢false, arith}
 use Rattle.nd_eligible.proofs.Places.{so_far_more, so_far_same, so_far_all}
-use Rattle.nd_eligible.proofs.classes.places.Goals as goal
-use Rattle.nd_eligible.proofs.classes.places.Goals.{then-eligible+in_ok-push, else-eligible}
+use Rattle.nd_eligible.proofs.classes.eligible_places.Goals as goal
+use Rattle.nd_eligible.proofs.classes.eligible_places.Goals.{then-eligible+in_ok-push, else-eligible}
 
 -- an eligible machine's place is added, another one's isn't
 pub loop-place-preserved : goal.loop-place-preserved

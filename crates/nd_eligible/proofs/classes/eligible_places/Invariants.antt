@@ -1,5 +1,5 @@
 use Rattle.nd_eligible.proofs.Places.{AreSoFar}
-use Rattle.nd_eligible.proofs.classes.places.Given as goal
+use Rattle.nd_eligible.proofs.classes.eligible_places.Given as goal
 
 -- the eligible machines at the places so far
 abbrev pub invariant-loop-place : goal.invariant-loop-place

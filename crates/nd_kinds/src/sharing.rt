@@ -1,0 +1,93 @@
+//! Which derivations have the same need as an earlier one.
+
+ghost use Rattle.std.specs.Prelude.{◌≡◌, ◌<◌, length, slice_get, IfOk, IfSome, IsTrue};
+ghost use Rattle.nd_kinds.specs.Sharing.{SharesNeed};
+
+use nd_bytes::ByteString;
+use nd_eligible::Need;
+use nd_machines::FeatureSet;
+use std::alloc::{AllocError, Global};
+use std::collections::BTreeMap;
+
+/// A need, to be looked up.
+type Key<'a> = (&'a ByteString, &'a FeatureSet, bool, bool);
+
+/// A need's key.
+fn key_of(need: &Need) -> Key<'_> {
+    (
+        &need.system,
+        &need.features,
+        need.prefer_local,
+        need.builtin,
+    )
+}
+
+/// Whether two texts are the same.
+fn is_same_text(one: &ByteString, other: &ByteString) -> bool
+    ensures { IsTrue result → one.now ≡ other.now }
+{
+    one == other
+}
+
+/// Whether two sets are the same.
+fn is_same_set(one: &FeatureSet, other: &FeatureSet) -> bool
+    ensures { IsTrue result → one.now ≡ other.now }
+{
+    one == other
+}
+
+/// Whether two needs are the same.
+#[tactic(auto, using(crate::proofs::Needs::same_need))]
+fn is_same(one: &Need, other: &Need) -> bool
+    ensures { IsTrue result → one.now ≡ other.now }
+{
+    if one.prefer_local != other.prefer_local {
+        return false;
+    }
+    if one.builtin != other.builtin {
+        return false;
+    }
+    if !is_same_text(&one.system, &other.system) {
+        return false;
+    }
+    is_same_set(&one.features, &other.features)
+}
+
+/// Derivations by their needs: for each need that was met the first derivation with it.
+#[derive(Drop)]
+pub(crate) struct Known<'a> {
+    firsts: BTreeMap<Key<'a>, usize>,
+}
+
+impl<'a> Known<'a> {
+    /// No derivation.
+    pub(crate) fn new(alloc: Global) -> Known<'a> {
+        Known {
+            firsts: BTreeMap::new(alloc),
+        }
+    }
+
+    /// An earlier derivation with the need of derivation `drv`, if one is known; else this one is known
+    /// from now on.
+    ///
+    /// For the proof: what the map answers is compared once more, so that nothing has to be said of it.
+    pub(crate) fn meet(
+        &mut self,
+        needs: &'a [Need],
+        drv: usize,
+    ) -> Result<Option<usize>, AllocError>
+        requires { drv < length needs.now }
+        ensures { IfOk result (λ found. IfSome found (SharesNeed needs.now drv)) }
+    {
+        let need = &needs[drv];
+        let key = key_of(need);
+        if let Some(first) = self.firsts.get(&key) {
+            let first = *first;
+            if first < drv && is_same(&needs[first], need) {
+                return Ok(Some(first));
+            }
+        }
+        self.firsts.insert(key, drv)?;
+        Ok(None)
+    }
+}
