@@ -321,3 +321,19 @@ slot_made b now tables e d m s view followed is may become holders gap =
     let seat : IsSeatFor (recorded b) d m s = subst (λ (r : Recorded). IsSeatFor r d m s) (sym view) here in
     let P : Entry → Type 0 = λ x. CanRecord (recorded (record b { leases = tables })) x in
     subst P (sym is) (has_seat (recorded b) (recorded (record b { leases = tables })) tables d m s refl (ap length holders) refl refl (become (live (reverse b.entries.items)) followed.leases) gap seat)
+
+behind_first_flag : (l : List Bool) (n : ℕ) → length l ≡ n + 1 → take (length l - 1) (drop 1 l) ≡ drop 1 l
+behind_first_flag [] n sized = absurd (omega (arith, sized))
+behind_first_flag (x ∷ xs) n sized = let one : length (x ∷ xs) - 1 ≡ length xs = omega arith in ap (λ (k : ℕ). take k xs) one ∙ take-length xs
+
+-- .. and flags likewise
+pub flags_after_first : (f : ℕ → Bool) (l : List Bool) (whole n : ℕ) → length l ≡ whole → whole ≡ n + 1 → ((m : ℕ) → m < whole → get_or l m false ≡ f m) → take (length l - 1) (drop 1 l) ≡ map (λ p. f (p + 1)) (range_with_len 0 n)
+flags_after_first f l whole n sized is each =
+    behind_first_flag l n (sized ∙ is)
+    ∙ fill_by_all (λ (p : ℕ). f (p + 1)) (drop 1 l) n false (length-drop 1 l ∙ omega (arith, sized, is))
+    (λ k lt. get_or_after_one l k false ∙ each (1 + k) (omega (arith, lt, is)) ∙ ap f (omega arith))
+
+-- a list without its first
+pub length-take_drop : {X : Type 0} → (l : List X) → length (take (length l - 1) (drop 1 l)) ≡ length l - 1
+length-take_drop [] = refl
+length-take_drop (x ∷ xs) = let one : length (x ∷ xs) - 1 ≡ length xs = omega arith in ap (λ (k : ℕ). length (take k xs)) one ∙ ap length (take-length xs) ∙ sym one

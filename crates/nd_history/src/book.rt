@@ -1,6 +1,6 @@
 //! The entries so far, and what follows from them for leases and machines.
 
-ghost use Rattle.std.specs.Prelude.{◌≡◌, ℕ, ◌+◌, ◌<◌, ◌≤◌, ◌^◌, ◌++◌, [], ◌∷◌, length, reverse, slice_index_or, vec_capacity, ◌↔◌, IsTrue, IfOk, OnOk};
+ghost use Rattle.std.specs.Prelude.{◌≡◌, ℕ, ◌+◌, ◌<◌, ◌≤◌, ◌^◌, ◌++◌, [], ◌∷◌, false, length, reverse, slice_index_or, vec_capacity, ◌↔◌, IsTrue, IfOk, OnOk};
 ghost use Rattle.nd_history.specs.History.{live, lease_of, current_of, load, is_started, is_up};
 ghost use Rattle.nd_history.specs.Legal.{IsLeastFree};
 ghost use Rattle.nd_history.specs.Books.{CanRecord, MayRecord};
@@ -160,6 +160,14 @@ impl Book {
         ensures each { (m : ℕ) → slice_index_or result.now m 0 ≡ load m (reverse self.now.entries) }
     {
         self.leases.loads()
+    }
+
+    /// Which machines are up, the local one first.
+    pub(crate) fn ups(&self) -> &[bool]
+        ensures sized { length result.now ≡ self.now.machines }
+        ensures each { (m : ℕ) → m < self.now.machines → slice_index_or result.now m false ≡ is_up m (reverse self.now.entries) }
+    {
+        self.ups.as_slice()
     }
 
     /// The least slot of this machine that no live lease is on.

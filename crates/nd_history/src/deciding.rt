@@ -13,27 +13,24 @@ use crate::inputs::Inputs;
 use nd_eligible::{Need, local_ok};
 use nd_hook::{Decision, Reply, decide, reply};
 
-/// The most machines that a builders list names.
-pub const MOST_MACHINES: usize = 1024;
-
 /// The loads of the builders, in the order of their list.
-fn builder_loads<'a>(inputs: &Inputs, book: &'a Book) -> &'a [u32]
+pub fn builder_loads<'a>(inputs: &Inputs, book: &'a Book) -> &'a [u32]
     requires { book.now.machines ≡ length inputs.now.machines + 1 }
-    ensures { result.now ≡ loads_of (premises_of inputs.now) (reverse book.now.entries) }
+    ensures value { result.now ≡ loads_of (premises_of inputs.now) (reverse book.now.entries) }
+    ensures sized { length result.now ≡ length inputs.now.machines }
 {
     let loads = book.loads();
     &loads[1..]
 }
 
 /// Which builders are up, in the order of their list.
-fn fill_ups(inputs: &Inputs, book: &Book, ups: &mut [bool])
-    requires sized { length ups.old ≡ length inputs.now.machines }
-    requires park { book.now.machines ≡ length inputs.now.machines + 1 }
-    ensures { ups.new ≡ ups_of (premises_of inputs.now) (reverse book.now.entries) }
+pub fn builder_ups<'a>(inputs: &Inputs, book: &'a Book) -> &'a [bool]
+    requires { book.now.machines ≡ length inputs.now.machines + 1 }
+    ensures value { result.now ≡ ups_of (premises_of inputs.now) (reverse book.now.entries) }
+    ensures sized { length result.now ≡ length inputs.now.machines }
 {
-    for place in 0..ups.len() {
-        ups[place] = book.is_up(place + 1);
-    }
+    let ups = book.ups();
+    &ups[1..]
 }
 
 /// Whether the local machine may build a derivation with this need, and is up.
@@ -65,16 +62,13 @@ fn is_local_free(inputs: &Inputs, book: &Book, need: &Need) -> bool
 pub(crate) fn decide_now(inputs: &Inputs, book: &Book, drv: usize) -> Decision
     requires sound { IsSound inputs.now.graph }
     requires node { drv < length inputs.now.graph.paths }
-    requires few { length inputs.now.machines ≤ 1024 }
     requires park { book.now.machines ≡ length inputs.now.machines + 1 }
     ensures { HasDecision (premises_of inputs.now) (reverse book.now.entries) drv result }
 {
     let need = inputs.graph.need(drv);
     let machines = inputs.machines.as_slice();
     let loads = builder_loads(inputs, book);
-    let mut ups = [false; MOST_MACHINES];
-    let ups = &mut ups[..machines.len()];
-    fill_ups(inputs, book, ups);
+    let ups = builder_ups(inputs, book);
     let loc = is_local(inputs, book, need);
     let loc_free = is_local_free(inputs, book, need);
     decide(machines, loads, ups, need, loc, loc_free)
@@ -84,16 +78,13 @@ pub(crate) fn decide_now(inputs: &Inputs, book: &Book, drv: usize) -> Decision
 pub fn reply_now(inputs: &Inputs, book: &Book, drv: usize) -> Reply
     requires sound { IsSound inputs.now.graph }
     requires node { drv < length inputs.now.graph.paths }
-    requires few { length inputs.now.machines ≤ 1024 }
     requires park { book.now.machines ≡ length inputs.now.machines + 1 }
     ensures { HasReply (premises_of inputs.now) (reverse book.now.entries) drv result }
 {
     let need = inputs.graph.need(drv);
     let machines = inputs.machines.as_slice();
     let loads = builder_loads(inputs, book);
-    let mut ups = [false; MOST_MACHINES];
-    let ups = &mut ups[..machines.len()];
-    fill_ups(inputs, book, ups);
+    let ups = builder_ups(inputs, book);
     let loc_free = is_local_free(inputs, book, need);
     reply(machines, loads, ups, need, loc_free)
 }

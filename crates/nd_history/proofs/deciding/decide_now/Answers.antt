@@ -8,5 +8,5 @@ returns c = record {
   loc_is = c.is_local-loc.ensures;
   loc_free = c.is_local_free-loc_free.result;
   loc_free_is = c.is_local_free-loc_free.ensures;
-  decided = rw (← c.builder_loads-loads.ensures, ← c.fill_ups.ensures, ← c.as_slice-machines.ensures) c.decide.ensures;
+  decided = rw (← c.builder_loads-loads.ensures.value, ← c.builder_ups-ups.ensures.value, ← c.as_slice-machines.ensures) c.decide.ensures;
 }

@@ -6,5 +6,5 @@ returns c = record {
   needs = c.need-need.ensures;
   loc_free = c.is_local_free-loc_free.result;
   loc_free_is = c.is_local_free-loc_free.ensures;
-  replied = rw (← c.builder_loads-loads.ensures, ← c.fill_ups.ensures, ← c.as_slice-machines.ensures) c.reply.ensures;
+  replied = rw (← c.builder_loads-loads.ensures.value, ← c.builder_ups-ups.ensures.value, ← c.as_slice-machines.ensures) c.reply.ensures;
 }
