@@ -1,2 +1,5 @@
 pub mod Decided
 pub mod Waiting
+pub mod Turned
+pub mod TurnsKept
+pub mod Listing

@@ -4,3 +4,6 @@
 
 pub mod deciding;
 pub mod laws;
+mod turns;
+
+pub use turns::Turns;
