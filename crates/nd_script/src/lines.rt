@@ -30,10 +30,7 @@ fn read_line(alloc: Global, line: &[u8], drvs: usize, machines: usize) -> Result
     let Some(verb) = verb_named(first) else {
         return Err(LineError::Bad);
     };
-    match said(alloc, verb, words, drvs, machines) {
-        Ok(command) => Ok(command),
-        Err(fault) => Err(fault),
-    }
+    said(alloc, verb, words, drvs, machines)
 }
 
 /// What a verb asks for with these words.

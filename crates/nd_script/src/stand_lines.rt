@@ -31,10 +31,7 @@ fn read_rule(alloc: Global, line: &[u8], drvs: usize, machines: usize) -> Result
     let Some(topic) = topic_named(first) else {
         return Err(LineError::Bad);
     };
-    match ruled(alloc, topic, words, drvs, machines) {
-        Ok(rule) => Ok(rule),
-        Err(fault) => Err(fault),
-    }
+    ruled(alloc, topic, words, drvs, machines)
 }
 
 /// The rule about a topic with these words.
