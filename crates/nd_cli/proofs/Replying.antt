@@ -13,7 +13,7 @@ use Rattle.nd_hook.specs.declared.kinds.Reply.{Reply}
 use Rattle.nd_eligible.specs.Eligibility.{IsEligibleAt, AreEligible}
 use Rattle.nd_hook.specs.Replies.{IsReply}
 use Rattle.nd_hook.specs.ReplyText.{reply_text}
-use Rattle.nd_hook.specs.Written.{WritesPart}
+use Rattle.nd_devices.specs.Written.{WritesPart}
 use Rattle.nd_cli.proofs.Accepted.{same_reply}
 use Rattle.nd_hook.specs.Idle.{idle, all_up, IsFreeHere, IsIdleReply}
 use Rattle.nd_cli.specs.Asks.{AreReplies, WritesReply, WritesReplyPart, WritesReplies, WritesSomeReplies}

@@ -2,7 +2,7 @@
 use Rattle.std.specs.Prelude.{◌≡◌, ℕ, Bool, true, List, Option}
 use Rattle.nd_machines.specs.Builders.{Builder}
 use Rattle.nd_graph.specs.Graphs.{Nodes}
-use Rattle.nd_hook.specs.Watched.{Watched}
+use Rattle.nd_devices.specs.Watched.{Watched}
 use Rattle.nd_cli.specs.Inputs.{ReadsWhole, is_write_fault}
 use Rattle.nd_cli.specs.Parks.{HasPark, IsParkFault, local_of}
 use Rattle.nd_cli.specs.Asks.{WritesReplies, WritesSomeReplies}

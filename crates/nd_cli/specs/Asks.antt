@@ -9,7 +9,7 @@ use Rattle.nd_eligible.specs.declared.need.Need.{Need}
 use Rattle.nd_hook.specs.declared.kinds.Reply.{Reply}
 use Rattle.nd_hook.specs.Idle.{IsIdleReply}
 use Rattle.nd_hook.specs.ReplyText.{reply_text}
-use Rattle.nd_hook.specs.Written.{WritesPart}
+use Rattle.nd_devices.specs.Written.{WritesPart}
 
 -- the replies about derivations with these needs, in order
 pub record AreReplies (machines : List Builder) (local : Settings) (needs : List Need) (text : List ℕ) : Type 0 where

@@ -4,8 +4,8 @@ use Rattle.std.specs.Prelude.{◌≡◌, ℕ, ◌<◌, ◌≤◌, Bool, true, Li
 use Rattle.std.specs.Io.KnownBytes.{Appends}
 use Rattle.nd_graph.specs.declared.fault.GraphError.{GraphError}
 use Rattle.nd_graph.specs.DrvPaths.{IsDrvPath, HasNoDrvPath}
-use Rattle.nd_hook.specs.Watched.{Watched}
-use Rattle.nd_hook.specs.Written.{WritesPart}
+use Rattle.nd_devices.specs.Watched.{Watched}
+use Rattle.nd_devices.specs.Written.{WritesPart}
 use Rattle.nd_cli.specs.Inputs.{limit, ReadsWhole, is_write_fault}
 use Rattle.nd_cli.specs.declared.fault.Place.{Place}
 use Rattle.nd_cli.specs.declared.fault.DerivationError.{DerivationError}

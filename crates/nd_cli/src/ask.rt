@@ -11,7 +11,7 @@ use crate::fault::CliFault;
 use crate::input::read_input;
 use crate::options::ParkOptions;
 use crate::park::read_park;
-use nd_hook::Told;
+use nd_devices::Told;
 use std::alloc::Global;
 use std::io::{Read, Write};
 use std::thread::Threads;

@@ -7,8 +7,9 @@ ghost use Rattle.nd_cli.specs.Inputs.{is_write_fault, is_write_failure};
 ghost use Rattle.nd_hook.specs.Idle.{IsFreeHere, idle, all_up};
 
 use crate::fault::CliFault;
+use nd_devices::{Fault, Told, WriteError};
 use nd_eligible::{Classes, Local, Need, local_ok};
-use nd_hook::{Fault, Told, WriteError, reply_in, write_reply};
+use nd_hook::{reply_in, write_reply};
 use nd_machines::Machine;
 use std::alloc::Global;
 use std::io::Write;

@@ -6,7 +6,7 @@ ghost use Rattle.nd_cli.specs.Inputs.{ReadsWhole, IsReadFault, is_read_failure};
 
 use crate::fault::CliFault;
 use nd_bytes::ByteString;
-use nd_hook::{TakeError, Told};
+use nd_devices::{TakeError, Told};
 use std::alloc::Global;
 use std::io::Read;
 

@@ -3,15 +3,15 @@
 ghost use Rattle.std.specs.Prelude.{◌≡◌, ◌≤◌, ℕ, List, Some, ◌++◌, ◌∷◌, ◌||◌, [], false, length, is_err, IfOk, IfErr, OnOk, OnErr};
 ghost use Rattle.std.specs.Io.KnownBytes.{Appends};
 ghost use Rattle.nd_graph.specs.DrvPaths.{IsDrvPath};
-ghost use Rattle.nd_hook.specs.Written.{WritesPart};
+ghost use Rattle.nd_devices.specs.Written.{WritesPart};
 ghost use Rattle.nd_cli.specs.Statuses.{RefusesNoInput};
 ghost use Rattle.nd_cli.specs.Inputs.{limit, OkUnlessMemory, is_write_fault, is_read_failure, is_write_failure};
 ghost use Rattle.nd_cli.specs.Paths.{HasPath, AnswersPath, LeavesPath, IsPathFault, IsTextFault};
 
 use crate::fault::{CliFault, DerivationError, Place};
 use crate::input::{LIMIT, read_input};
+use nd_devices::{Fault, Told};
 use nd_graph::{GraphError, drv_path};
-use nd_hook::{Fault, Told};
 use nd_path::StorePath;
 use std::alloc::Global;
 use std::io::{Read, Write};
@@ -84,7 +84,7 @@ fn derivation_path(alloc: Global, name: &[u8], text: &[u8]) -> Result<StorePath,
 /// Writes a line with its newline, and has the writer pass on what it holds back.
 ///
 /// `Fault`: the writer refused, and is marked. A part of the line, from its beginning, is out.
-#[tactic(auto, using(nd_hook::proofs::Pieces::writes))]
+#[tactic(auto, using(nd_devices::proofs::Pieces::writes))]
 fn write_line<W: Write>(line: &[u8], output: &mut Told<W>) -> Result<(), Fault>
     ensures written { OnOk result (Appends (W.contents output.old.device) (W.contents output.new.device) (line.now ++ 10 ∷ [])) }
     ensures partly { OnErr result (WritesPart (W.contents output.old.device) (W.contents output.new.device) (line.now ++ 10 ∷ [])) }
@@ -95,7 +95,7 @@ fn write_line<W: Write>(line: &[u8], output: &mut Told<W>) -> Result<(), Fault>
 }
 
 /// Writes a newline, and has the writer pass on what it holds back.
-#[tactic(auto, using(nd_hook::proofs::Pieces::flushes))]
+#[tactic(auto, using(nd_devices::proofs::Pieces::flushes))]
 fn end_line<W: Write>(output: &mut Told<W>) -> Result<(), Fault>
     ensures written { OnOk result (Appends (W.contents output.old.device) (W.contents output.new.device) (10 ∷ [])) }
     ensures partly { OnErr result (WritesPart (W.contents output.old.device) (W.contents output.new.device) (10 ∷ [])) }

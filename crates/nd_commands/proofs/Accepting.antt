@@ -6,7 +6,7 @@ use Rattle.nd_graph.proofs.OneBundle.{one_graph, never_both, is_refused}
 use Rattle.nd_bytes.specs.Lines.{lines_of}
 use Rattle.nd_closure.proofs.Once.{table_once, memory_alone}
 use Rattle.nd_history.specs.Premises.{Premises}
-use Rattle.nd_hook.specs.Watched.{Watched}
+use Rattle.nd_devices.specs.Watched.{Watched}
 use Rattle.nd_history.specs.Choices.{machines_in}
 use Rattle.nd_ledger.specs.Worlds.{World}
 use Rattle.nd_script.specs.declared.command.Command.{Command}

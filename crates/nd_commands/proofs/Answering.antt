@@ -5,9 +5,9 @@ use Rattle.std.proofs.KnownBytes.{Appends-kept}
 use Rattle.nd_machines.specs.Builders.{Builder}
 use Rattle.nd_eligible.specs.Settings.{Settings}
 use Rattle.nd_graph.specs.Graphs.{Nodes}
-use Rattle.nd_hook.specs.Watched.{Watched}
-use Rattle.nd_hook.specs.Written.{WritesPart}
-use Rattle.nd_hook.proofs.Pieces.{part_of_first, part_after, written_after, kept_part, kept_as_part}
+use Rattle.nd_devices.specs.Watched.{Watched}
+use Rattle.nd_devices.specs.Written.{WritesPart}
+use Rattle.nd_devices.proofs.Pieces.{part_of_first, part_after, written_after, kept_part, kept_as_part}
 use Rattle.nd_history.specs.declared.entry.Entry.{Entry}
 use Rattle.nd_history.specs.declared.rule.Rule.{Rule}
 use Rattle.nd_history.specs.Premises.{Premises}

@@ -4,8 +4,8 @@ use Rattle.std.specs.Prelude.{◌≡◌, ◌⊎◌, ℕ, ◌<◌, ◌≤◌, Boo
 use Rattle.std.specs.Fmt.{decimal}
 use Rattle.std.specs.Io.KnownBytes.{Appends}
 use Rattle.nd_hook.specs.ReplyText.{line}
-use Rattle.nd_hook.specs.Watched.{Watched}
-use Rattle.nd_hook.specs.Written.{WritesPart}
+use Rattle.nd_devices.specs.Watched.{Watched}
+use Rattle.nd_devices.specs.Written.{WritesPart}
 use Rattle.nd_history.specs.declared.entry.Entry.{Entry}
 use Rattle.nd_history.specs.declared.rule.Rule.{Rule}
 use Rattle.nd_history.specs.Premises.{Premises}

@@ -3,7 +3,7 @@ use Rattle.std.specs.Prelude.{◌≡◌, ℕ, Bool, List, [], Option}
 use Rattle.nd_machines.specs.Builders.{Builder}
 use Rattle.nd_eligible.specs.Settings.{Settings}
 use Rattle.nd_graph.specs.Graphs.{Nodes}
-use Rattle.nd_hook.specs.Watched.{Watched}
+use Rattle.nd_devices.specs.Watched.{Watched}
 use Rattle.nd_history.specs.Premises.{Premises, premises}
 use Rattle.nd_ledger.specs.Worlds.{World}
 use Rattle.nd_cli.specs.Inputs.{ReadsWhole}

@@ -2,7 +2,7 @@
 -- `IsSimGiven` and `IsSimAccepted`, which serve private ones.
 use Rattle.std.specs.Prelude.{◌≡◌, ◌⊎◌, ℕ, Bool, true, false, List, [], Option, Some, Result, MatchResult}
 use Rattle.nd_history.specs.Premises.{Premises}
-use Rattle.nd_hook.specs.Watched.{Watched}
+use Rattle.nd_devices.specs.Watched.{Watched}
 use Rattle.nd_ledger.specs.Worlds.{World}
 use Rattle.nd_script.specs.declared.command.Command.{Command}
 use Rattle.nd_cli.specs.Asked.{RefusesPark}

@@ -2,7 +2,7 @@
 
 ghost use Rattle.std.specs.Prelude.{◌≡◌, ◌≤◌, ◌||◌, ℕ, List, Some, false, length, is_err, IfOk, IfErr, OnOk, OnErr};
 ghost use Rattle.std.specs.Io.KnownBytes.{Appends};
-ghost use Rattle.nd_hook.specs.Written.{WritesPart};
+ghost use Rattle.nd_devices.specs.Written.{WritesPart};
 ghost use Rattle.nd_cli.specs.declared.fault.CliFault.{CliFault};
 ghost use Rattle.nd_cli.specs.Statuses.{RefusesNoInput};
 ghost use Rattle.nd_cli.specs.Inputs.{is_write_fault, is_read_failure, is_write_failure};
@@ -12,7 +12,7 @@ ghost use Rattle.nd_commands.specs.Audited.{IsAuditAccepted, AnswersAudit, Leave
 use crate::reading::read_audit_inputs;
 use crate::verdict::{write_illegal, write_legal};
 use nd_cli::{CliFault, Park, ParkOptions};
-use nd_hook::{Fault, Told};
+use nd_devices::{Fault, Told};
 use nd_ledger::{Entry, Rule};
 use nd_report::{AuditError, audit};
 use std::alloc::Global;

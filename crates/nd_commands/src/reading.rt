@@ -13,7 +13,7 @@ use crate::history::read_entries;
 use crate::opening::{close_dispatch, open_dispatch};
 use crate::script::read_script;
 use nd_cli::{CliFault, Park, ParkOptions, read_input, read_park};
-use nd_hook::Told;
+use nd_devices::Told;
 use nd_ledger::{Dispatch, Entry};
 use nd_script::Command;
 use std::alloc::Global;

@@ -11,7 +11,7 @@ use crate::opening::close_dispatch;
 use crate::reading::{SimInputs, read_sim_inputs};
 use crate::simulation::simulate;
 use nd_cli::{CliFault, ParkOptions};
-use nd_hook::Told;
+use nd_devices::Told;
 use nd_sim::SimFault;
 use std::alloc::Global;
 use std::io::{Read, Write};

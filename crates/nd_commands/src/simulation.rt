@@ -6,7 +6,7 @@ ghost use Rattle.nd_history.specs.Statuses.{IsExitStatus};
 ghost use Rattle.nd_sim.specs.Answers.{IsNamed};
 ghost use Rattle.nd_sim.specs.Written.{WritesSimulation, WritesSimulationPart, is_write_failure};
 
-use nd_hook::{Fault, Told, WriteError};
+use nd_devices::{Fault, Told, WriteError};
 use nd_ledger::Dispatch;
 use nd_report::write_report;
 use nd_script::Command;

@@ -3,12 +3,12 @@
 ghost use Rattle.std.specs.Prelude.{◌≡◌, ◌||◌, ◌++◌, ◌∷◌, [], true, false, is_err, OnOk, OnErr};
 ghost use Rattle.std.specs.Fmt.{decimal};
 ghost use Rattle.std.specs.Io.KnownBytes.{Appends};
-ghost use Rattle.nd_hook.specs.Written.{WritesPart};
+ghost use Rattle.nd_devices.specs.Written.{WritesPart};
 ghost use Rattle.nd_history.specs.Audit.{rule_name};
 ghost use Rattle.nd_commands.specs.Audited.{legal_line, illegal_line, refusal_words, verdict_word};
 
 use itoa::Buffer;
-use nd_hook::{Fault, Told};
+use nd_devices::{Fault, Told};
 use nd_ledger::Rule;
 use std::io::Write;
 
@@ -40,7 +40,7 @@ pub(crate) fn write_illegal<W: Write>(
 }
 
 /// Ends a line, and has the writer pass on what it holds back.
-#[tactic(auto, using(nd_hook::proofs::Pieces::flushes))]
+#[tactic(auto, using(nd_devices::proofs::Pieces::flushes))]
 fn end_line<W: Write>(output: &mut Told<W>) -> Result<(), Fault>
     ensures written { OnOk result (Appends (W.contents output.old.device) (W.contents output.new.device) (10 ∷ [])) }
     ensures partly { OnErr result (WritesPart (W.contents output.old.device) (W.contents output.new.device) (10 ∷ [])) }
@@ -52,7 +52,7 @@ fn end_line<W: Write>(output: &mut Told<W>) -> Result<(), Fault>
 }
 
 /// Writes the words for a legal history.
-#[tactic(auto, using(nd_hook::proofs::Pieces::writes))]
+#[tactic(auto, using(nd_devices::proofs::Pieces::writes))]
 fn put_legal<W: Write>(count: usize, output: &mut Told<W>) -> Result<(), Fault>
     ensures written { OnOk result (Appends (W.contents output.old.device) (W.contents output.new.device) (verdict_word true ++ decimal count)) }
     ensures partly { OnErr result (WritesPart (W.contents output.old.device) (W.contents output.new.device) (verdict_word true ++ decimal count)) }
@@ -63,7 +63,7 @@ fn put_legal<W: Write>(count: usize, output: &mut Told<W>) -> Result<(), Fault>
 }
 
 /// Writes the words for a history that isn't legal.
-#[tactic(auto, using(nd_hook::proofs::Pieces::writes))]
+#[tactic(auto, using(nd_devices::proofs::Pieces::writes))]
 fn put_illegal<W: Write>(index: usize, rule: Rule, output: &mut Told<W>) -> Result<(), Fault>
     ensures written { OnOk result (Appends (W.contents output.old.device) (W.contents output.new.device) (verdict_word false ++ refusal_words index rule)) }
     ensures partly { OnErr result (WritesPart (W.contents output.old.device) (W.contents output.new.device) (verdict_word false ++ refusal_words index rule)) }
@@ -74,7 +74,7 @@ fn put_illegal<W: Write>(index: usize, rule: Rule, output: &mut Told<W>) -> Resu
 }
 
 /// Writes a place and a rule.
-#[tactic(auto, using(nd_hook::proofs::Pieces::writes))]
+#[tactic(auto, using(nd_devices::proofs::Pieces::writes))]
 fn put_cause<W: Write>(index: usize, rule: Rule, output: &mut Told<W>) -> Result<(), Fault>
     ensures written { OnOk result (Appends (W.contents output.old.device) (W.contents output.new.device) (refusal_words index rule)) }
     ensures partly { OnErr result (WritesPart (W.contents output.old.device) (W.contents output.new.device) (refusal_words index rule)) }

@@ -1,5 +1,4 @@
 pub mod Parts
 pub mod Pieces
 pub mod Excerpts
-pub mod Causes
-pub mod Cures
+pub mod AdviceWords

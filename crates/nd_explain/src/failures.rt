@@ -2,8 +2,7 @@
 
 ghost use Rattle.std.specs.Prelude.{◌≡◌};
 
-use crate::causes::cause_of;
-use crate::cures::cure_of;
+use crate::advice::{Advice, advice_on};
 use crate::excerpts::excerpt;
 use crate::parts::{Part, part_of};
 use crate::pieces::piece_of;
@@ -84,8 +83,7 @@ impl fmt::Display for Failure<'_> {
         if let Some(text) = &self.text {
             writeln!(f, "text: {text}")?;
         }
-        let cause = cause_of(&self.fault);
-        let cure = cure_of(&self.fault);
+        let Advice { cause, cure } = advice_on(&self.fault);
         write!(f, "cause: {cause}\ncure: {cure}")
     }
 }

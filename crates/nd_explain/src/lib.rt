@@ -2,8 +2,7 @@
 //! the rule wants.
 #![tactic(auto)]
 
-pub mod causes;
-pub mod cures;
+pub mod advice;
 pub mod excerpts;
 pub mod failures;
 pub mod hearing;
@@ -11,8 +10,7 @@ pub mod parts;
 pub mod pieces;
 pub mod sources;
 
-pub use causes::cause_of;
-pub use cures::cure_of;
+pub use advice::{Advice, advice_on};
 pub use excerpts::excerpt;
 pub use failures::Failure;
 pub use hearing::Heard;

@@ -1,4 +1,3 @@
-pub mod Sent
 pub mod Spelled
 pub mod Decimals
 pub mod Plain

@@ -7,12 +7,12 @@ use Rattle.std.proofs.lemmas.List.{append-nil}
 use Rattle.std.proofs.lemmas.Grind.{flat_map-append}
 use Rattle.nd_history.specs.declared.entry.Entry.{Entry}
 use Rattle.nd_history.specs.declared.entry.Entry.TheVariants.{Chosen, NoBuilder, Started, Down, Built, Failed, Stop, Drain, Enable}
-use Rattle.nd_hook.specs.Watched.{Watched}
+use Rattle.nd_devices.specs.Watched.{Watched}
 use Rattle.nd_history_text.specs.HistoryTexts.{words_of, line_of}
 use Rattle.nd_history_text.specs.Lines.{word_of, kind_of, others_of, spaced}
-use Rattle.nd_history_text.specs.Sending.{IsPut}
+use Rattle.nd_devices.specs.Sending.{IsPut}
 use Rattle.nd_history_text.specs.Rows.{row, share}
-use Rattle.nd_history_text.proofs.Sent.{no_text, put_both, put_refused, put_renamed}
+use Rattle.nd_devices.proofs.Sent.{no_text, put_both, put_refused, put_renamed}
 
 -- a refused call says what holds anyhow
 pub on_err : {T E : Type 0} (r : Result T E) (P : Type 0) → P → OnErr r P

@@ -1,6 +1,5 @@
 pub mod HistoryTexts
 pub mod Lines
-pub mod Sending
 pub mod Rows
 pub mod Reading
 pub mod Sound

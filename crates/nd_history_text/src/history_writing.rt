@@ -4,18 +4,17 @@ ghost use Rattle.std.specs.Prelude.{◌≡◌, ◌||◌, not, ◌∷◌, ◌++�
 ghost use Rattle.std.specs.Fmt.{decimal};
 ghost use Rattle.std.specs.Io.KnownBytes.{Appends};
 ghost use Rattle.std.specs.List.{flat_map, list_any};
-ghost use Rattle.nd_hook.specs.Written.{WritesPart};
+ghost use Rattle.nd_devices.specs.Written.{WritesPart};
 ghost use Rattle.nd_history_text.specs.HistoryTexts.{cause_words, output_words, line_of, history_text, is_told_in, version_of, written_text};
 ghost use Rattle.nd_history_text.specs.declared.kinds.Version.TheVariants.{First};
 ghost use Rattle.nd_history_text.specs.Lines.{kind_of, others_of, word_of, spaced};
-ghost use Rattle.nd_history_text.specs.Sending.{IsPut};
+ghost use Rattle.nd_devices.specs.Sending.{IsPut};
 
 use crate::kinds::Version;
 use crate::lines::{is_told, kind, opening, word};
-use crate::page::Page;
 use crate::rows::{Word, put_word, put_words};
+use nd_devices::{Fault, Page, Told, WriteError};
 use nd_history::{Entry, Why};
-use nd_hook::{Fault, Told, WriteError};
 use nd_path::{PathSet, StorePath};
 use std::io;
 
@@ -25,7 +24,7 @@ use std::io;
 ///
 /// Refusal 1 `Write`: the device refused a write. Its mark is then set, and a part of the text, from
 /// its beginning, may be out.
-#[tactic(auto, using(crate::proofs::Sent::ends))]
+#[tactic(auto, using(nd_devices::proofs::Sent::ends))]
 pub fn write_history<W: io::Write>(entries: &[Entry], out: &mut Told<W>) -> Result<(), WriteError>
     ensures written { OnOk result (Appends (W.contents out.old.device) (W.contents out.new.device) (written_text entries.now)) }
     ensures partly { OnErr result (WritesPart (W.contents out.old.device) (W.contents out.new.device) (written_text entries.now)) }
@@ -43,7 +42,7 @@ pub fn write_history<W: io::Write>(entries: &[Entry], out: &mut Told<W>) -> Resu
 ///
 /// Refusal 1 `Write`: the device refused a write. Its mark is then set, and a part of the lines, from
 /// their beginning, may be out.
-#[tactic(auto, using(crate::proofs::Sent::ends))]
+#[tactic(auto, using(nd_devices::proofs::Sent::ends))]
 pub fn write_lines<W: io::Write>(entries: &[Entry], out: &mut Told<W>) -> Result<(), WriteError>
     ensures written { OnOk result (Appends (W.contents out.old.device) (W.contents out.new.device) (flat_map line_of entries.now)) }
     ensures partly { OnErr result (WritesPart (W.contents out.old.device) (W.contents out.new.device) (flat_map line_of entries.now)) }

@@ -1,5 +1,4 @@
-//! The texts of histories, how they are written and read, and the page that gathers a text before it
-//! goes to a writer.
+//! The texts of histories, how they are written and read, and lines of words over a page.
 #![tactic(auto)]
 
 mod history_error;
@@ -8,7 +7,6 @@ mod history_writing;
 pub mod kinds;
 pub mod laws;
 mod lines;
-pub mod page;
 pub mod rows;
 mod words;
 

@@ -4,11 +4,10 @@ ghost use Rattle.std.specs.Prelude.{◌∷◌, ◌++◌, []};
 ghost use Rattle.std.specs.Fmt.{decimal};
 ghost use Rattle.nd_history_text.specs.Lines.{spaced};
 ghost use Rattle.nd_history_text.specs.Rows.{row, share, text_of, texts_of};
-ghost use Rattle.nd_history_text.specs.Sending.{IsPut};
+ghost use Rattle.nd_devices.specs.Sending.{IsPut};
 
-use crate::page::Page;
 use itoa::Buffer;
-use nd_hook::{Fault, Told};
+use nd_devices::{Fault, Page, Told};
 use std::io;
 
 /// A word of a line.

@@ -1,8 +1,5 @@
-pub mod Device
 pub mod Decisions
 pub mod Idle
 pub mod Replies
 pub mod ReplyText
 pub mod SameAnswers
-pub mod Watched
-pub mod Written

@@ -3,42 +3,12 @@
 ghost use Rattle.std.specs.Prelude.{◌≡◌, ◌||◌, is_err, OnOk, OnErr};
 ghost use Rattle.std.specs.Io.KnownBytes.{Appends};
 ghost use Rattle.nd_hook.specs.ReplyText.{line, accept_text, reply_text, IsInList};
-ghost use Rattle.nd_hook.specs.Written.{WritesPart};
+ghost use Rattle.nd_devices.specs.Written.{WritesPart};
 
 use crate::kinds::Reply;
-use crate::told::{Fault, Told};
+use nd_devices::{Told, WriteError};
 use nd_machines::Machine;
-use std::error::Error;
-use std::{fmt, io};
-
-/// Why a text wasn't written.
-#[derive(Clone, Copy, Debug, PartialEq, Eq)]
-pub enum WriteError {
-    /// 1: the device refused a write. A part of the text may be out.
-    Write,
-}
-
-impl fmt::Display for WriteError {
-    ghost use Rattle.std.specs.Prelude.{Some, codes};
-
-    ghost output = { λ _. Some (codes "Write") };
-
-    fn fmt<W: fmt::Write>(&self, f: &mut fmt::Formatter<W>) -> fmt::Result {
-        f.write_str("Write")
-    }
-}
-
-impl Error for WriteError {}
-
-impl From<Fault> for WriteError {
-    ghost use Rattle.nd_hook.specs.declared.writing.WriteError.{WriteError};
-
-    ghost from_gives = { λ _ e. e ≡ WriteError.Write };
-
-    fn from(_fault: Fault) -> Self {
-        WriteError::Write
-    }
-}
+use std::io;
 
 /// Writes a reply: `# accept` and on a second line the URI of the accepted machine, or `# postpone`,
 /// `# decline`, `# decline-permanently`; each line ends with a newline. It takes no memory.
@@ -64,7 +34,7 @@ pub fn write_reply<W: io::Write>(
 }
 
 /// Writes the two lines that accept a machine.
-#[tactic(auto, using(crate::proofs::Pieces::writes))]
+#[tactic(auto, using(nd_devices::proofs::Pieces::writes))]
 fn write_accept<W: io::Write>(uri: &[u8], out: &mut Told<W>) -> Result<(), WriteError>
     ensures written { OnOk result (Appends (W.contents out.old.device) (W.contents out.new.device) (accept_text uri.now)) }
     ensures partly { OnErr result (WritesPart (W.contents out.old.device) (W.contents out.new.device) (accept_text uri.now)) }
@@ -75,7 +45,7 @@ fn write_accept<W: io::Write>(uri: &[u8], out: &mut Told<W>) -> Result<(), Write
 }
 
 /// Writes one line and its newline.
-#[tactic(auto, using(crate::proofs::Pieces::writes), unfolding(crate::specs::ReplyText::line))]
+#[tactic(auto, using(nd_devices::proofs::Pieces::writes), unfolding(crate::specs::ReplyText::line))]
 fn write_line<W: io::Write>(text: &[u8], out: &mut Told<W>) -> Result<(), WriteError>
     ensures written { OnOk result (Appends (W.contents out.old.device) (W.contents out.new.device) (line text.now)) }
     ensures partly { OnErr result (WritesPart (W.contents out.old.device) (W.contents out.new.device) (line text.now)) }

@@ -16,7 +16,7 @@ use Rattle.nd_ledger.specs.declared.refusal.AdmitError.TheVariants.{Illegal as R
 use Rattle.nd_report.specs.declared.audit_error.AuditError.{AuditError}
 use Rattle.nd_report.specs.declared.audit_error.AuditError.TheVariants.{Memory}
 use Rattle.nd_report.specs.Audits.{IsFirstIllegal, IsAuditRefused, answer_at}
-use Rattle.nd_history_text.proofs.Sent.{front_more, parted}
+use Rattle.nd_devices.proofs.Sent.{front_more, parted}
 
 -- a dispatch has these inputs, and admitted the first n entries of a history
 pub record IsAdmitted (i : Premises) (entries : List Entry) (world : World) (n : ℕ) : Type 0 where

@@ -11,14 +11,14 @@ use Rattle.std.proofs.lemmas.List.FromFn.{length-range_with_len, get_or-range_wi
 use Rattle.nd_failure.specs.declared.status.Counts.{Counts}
 use Rattle.nd_failure.specs.declared.status.Status.{Status}
 use Rattle.nd_failure.specs.declared.status.Status.TheVariants.{Waiting}
-use Rattle.nd_hook.specs.Watched.{Watched}
-use Rattle.nd_hook.specs.Written.{WritesPart}
+use Rattle.nd_devices.specs.Watched.{Watched}
+use Rattle.nd_devices.specs.Written.{WritesPart}
 use Rattle.nd_history.specs.declared.entry.Entry.{Entry}
 use Rattle.nd_history.specs.Premises.{Premises}
 use Rattle.nd_history.specs.Standing.{drvs_in}
 use Rattle.nd_history.specs.Statuses.{HasStatusIn, AreCountsIn}
 use Rattle.nd_ledger.specs.Worlds.{World}
-use Rattle.nd_history_text.specs.Sending.{IsPut}
+use Rattle.nd_devices.specs.Sending.{IsPut}
 use Rattle.nd_machines.specs.Builders.{Builder}
 use Rattle.nd_choose.specs.Best.{jobs_at}
 use Rattle.nd_hook.specs.ReplyText.{uri_at}
@@ -26,7 +26,7 @@ use Rattle.nd_history.specs.Choices.{jobs_of}
 use Rattle.nd_history.specs.History.{load, is_up}
 use Rattle.nd_history_text.specs.Rows.{row, share}
 use Rattle.nd_report.specs.Reports.{count_row, up_word, status_word, drv_row, drvs_text, counts_text, machine_row, park_text, builder_row, AreFirstStatuses, IsReport, Reports, ReportsPart, PutsDrvs, PutsAllDrvs}
-use Rattle.nd_history_text.proofs.Sent.{no_text, put_both, put_renamed, item_put, item_refused, items_put, put_sent, put_sent_in_part, put_in_part}
+use Rattle.nd_devices.proofs.Sent.{no_text, put_both, put_renamed, item_put, item_refused, items_put, put_sent, put_sent_in_part, put_in_part}
 
 -- ---- builders
 

@@ -10,8 +10,8 @@ use Rattle.nd_failure.specs.declared.status.Counts.{Counts}
 use Rattle.nd_failure.specs.declared.status.Status.{Status}
 use Rattle.nd_failure.specs.declared.status.Status.TheVariants.{Waiting, Leased, Built, Failed, Cancelled}
 use Rattle.nd_hook.specs.ReplyText.{uri_at}
-use Rattle.nd_hook.specs.Watched.{Watched}
-use Rattle.nd_hook.specs.Written.{WritesPart}
+use Rattle.nd_devices.specs.Watched.{Watched}
+use Rattle.nd_devices.specs.Written.{WritesPart}
 use Rattle.nd_history.specs.declared.entry.Entry.{Entry}
 use Rattle.nd_history.specs.Premises.{Premises}
 use Rattle.nd_history.specs.History.{load, is_up}
@@ -20,7 +20,7 @@ use Rattle.nd_history.specs.Standing.{drvs_in}
 use Rattle.nd_history.specs.Statuses.{HasStatusIn, AreCountsIn}
 use Rattle.nd_ledger.specs.Worlds.{World}
 use Rattle.nd_history_text.specs.Rows.{row, share}
-use Rattle.nd_history_text.specs.Sending.{IsPut}
+use Rattle.nd_devices.specs.Sending.{IsPut}
 
 -- a number under its name
 abbrev pub count_row : List ℕ → ℕ → List ℕ

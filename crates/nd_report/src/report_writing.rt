@@ -3,12 +3,11 @@
 ghost use Rattle.std.specs.Prelude.{◌≡◌, ◌||◌, ◌<◌, ◌≤◌, is_err, length, reverse, slice_index_or, OnOk, OnErr};
 ghost use Rattle.nd_history.specs.Choices.{machines_in, jobs_of};
 ghost use Rattle.nd_report.specs.Reports.{counts_text, up_word, builder_row, builders_text, machine_row, machines_text, park_text, status_word, drv_row, Reports, ReportsPart, PutsAllDrvs};
-ghost use Rattle.nd_history_text.specs.Sending.{IsPut};
+ghost use Rattle.nd_devices.specs.Sending.{IsPut};
 
+use nd_devices::{Fault, Page, Told, WriteError};
 use nd_failure::{Counts, Status};
-use nd_history_text::page::Page;
 use nd_history_text::rows::{Word, put_row};
-use nd_hook::{Fault, Told, WriteError};
 use nd_ledger::Dispatch;
 use nd_machines::Machine;
 use std::io;

@@ -2,7 +2,7 @@
 use Rattle.std.proofs.Common.{◌≡◌, ℕ, ◌<◌, Bool, true, List, length, map, drop, Option, Some, None, refl, subst, sym, ◌∙◌, inl, inr, arith}
 use Rattle.std.specs.List.{list_any, list_all}
 use Rattle.std.proofs.lemmas.List.{length-map}
-use Rattle.nd_hook.specs.Watched.{Watched}
+use Rattle.nd_devices.specs.Watched.{Watched}
 use Rattle.nd_history.specs.History.{is_stop}
 use Rattle.nd_history.specs.Premises.{Premises}
 use Rattle.nd_ledger.specs.Worlds.{World}

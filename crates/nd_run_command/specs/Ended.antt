@@ -2,7 +2,7 @@
 -- contract of `run_engine` cites it by way of `RunsTo` and `IsRunFault`, but for `told_as` and `IsToldOf`, which serve proofs.
 use Rattle.std.specs.Prelude.{◌≡◌, ◌⊎◌, ℕ, Bool, true, false, List, Option, Some, None, reverse}
 use Rattle.std.specs.Io.KnownBytes.{Appends, Keeps}
-use Rattle.nd_hook.specs.Written.{WritesPart}
+use Rattle.nd_devices.specs.Written.{WritesPart}
 use Rattle.nd_history.specs.Statuses.{IsExitStatus}
 use Rattle.nd_ledger.specs.Worlds.{World}
 use Rattle.nd_cli.specs.declared.fault.CliFault.{CliFault}

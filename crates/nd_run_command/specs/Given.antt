@@ -6,7 +6,7 @@ use Rattle.nd_graph.specs.Graphs.{Nodes, rows_of}
 use Rattle.nd_bytes.specs.Lines.{lines_of}
 use Rattle.nd_history.specs.Premises.{Premises}
 use Rattle.nd_ledger.specs.Worlds.{World}
-use Rattle.nd_hook.specs.Watched.{Watched}
+use Rattle.nd_devices.specs.Watched.{Watched}
 use Rattle.nd_script.specs.declared.rule.Rule.{Rule}
 use Rattle.nd_script.specs.declared.script_error.ScriptError.{ScriptError}
 use Rattle.nd_script.specs.Stand.{AreRules, IsStandRefused}

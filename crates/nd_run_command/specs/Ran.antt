@@ -2,7 +2,7 @@
 -- before these two; what stands behind them serves the contracts of the functions that `run_engine` is made of.
 use Rattle.std.specs.Prelude.{◌≡◌, ◌⊎◌, ℕ, ◌<◌, Bool, true, List, length, drop, Option, Some, None, reverse}
 use Rattle.std.specs.List.{list_any, list_all}
-use Rattle.nd_hook.specs.Watched.{Watched}
+use Rattle.nd_devices.specs.Watched.{Watched}
 use Rattle.nd_history.specs.History.{is_stop}
 use Rattle.nd_history.specs.Legal.{IsLegal}
 use Rattle.nd_ledger.specs.Worlds.{World}

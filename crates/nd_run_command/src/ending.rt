@@ -6,7 +6,7 @@ ghost use Rattle.nd_history.specs.Legal.{IsLegal};
 ghost use Rattle.nd_run_command.specs.Ended.{WritesEnd, WritesEndPart, IsStatusOf, IsToldOf};
 
 use nd_cli::CliFault;
-use nd_hook::{Told, WriteError};
+use nd_devices::{Told, WriteError};
 use nd_ledger::Dispatch;
 use nd_report::{write_history, write_report};
 use nd_workers::RunFault;

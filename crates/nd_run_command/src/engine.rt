@@ -7,7 +7,7 @@ ghost use Rattle.nd_run_command.specs.Ran.{RunsTo, IsRunFault, EndsIn, IsEndFaul
 
 use crate::ending::{status_or_fault, write_end};
 use nd_cli::CliFault;
-use nd_hook::Told;
+use nd_devices::Told;
 use nd_ledger::Dispatch;
 use nd_workers::{RunError, RunFault, Worker, run};
 use std::io::Write;

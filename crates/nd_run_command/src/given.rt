@@ -7,7 +7,7 @@ ghost use Rattle.nd_cli.specs.Statuses.{RefusesNoInput};
 ghost use Rattle.nd_run_command.specs.Given.{HasRules, IsGiven, IsGivenAccepted, IsStandFault, IsGivenFault};
 
 use nd_cli::{CliFault, LIMIT, ParkOptions, Place, read_input, read_park};
-use nd_hook::Told;
+use nd_devices::Told;
 use nd_ledger::Dispatch;
 use nd_script::{Rule, ScriptError, parse_stand};
 use std::alloc::Global;

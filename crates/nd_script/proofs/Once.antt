@@ -1,6 +1,7 @@
 -- A text says one list of items at most, and none where a line is bad; so a script, and a stand text.
 use Rattle.std.proofs.Common.{◌≡◌, ℕ, ◌-◌, ◌<◌, List, [], ◌∷◌, length, get_or, zero, suc, Option, Some, refl, sym, ap, subst, ◌∙◌, arith, inl, inr}
 use Rattle.std.specs.List.{AllZip}
+use Rattle.std.specs.Prelude.{Result, Ok, Err, IfOk, IfErr}
 use Rattle.nd_path.proofs.Rising.{rising_same}
 use Rattle.nd_bytes.specs.Lines.{lines_of}
 use Rattle.nd_script.specs.declared.command.Command.{Command}
@@ -14,7 +15,7 @@ use Rattle.nd_script.specs.declared.topic.Topic.TheVariants.{NoConnect, NoCopy, 
 use Rattle.nd_script.specs.Words.{Begins, IsSetOf, IsStatus, AreLists, number_of, largest}
 use Rattle.nd_script.specs.Verbs.{verb_of}
 use Rattle.nd_script.specs.Calls.{IsCallWith, IsStatusCall, IsListsCall, IsBuiltCall}
-use Rattle.nd_script.specs.Lines.{IsLineOf, AreItems, IsRefusedBy}
+use Rattle.nd_script.specs.Lines.{IsLineOf, AreItems, IsRefusedBy, OkUnlessMemory}
 use Rattle.nd_script.specs.Script.{IsStartWith, IsSaid, IsLine, AreCommands}
 use Rattle.nd_script.specs.Stand.{built_bare, topic_of, IsRuled, IsRuleLine, AreRules}
 use Rattle.nd_script.proofs.Operands.{same_rest}
@@ -134,3 +135,10 @@ pub memory_alone : {X : Type 0} (Says : List ℕ → X → Type 0) (some : X) (t
 memory_alone Says some text (BadLine n) items bad are =
     absurd (bad.bad (get_or items (n - 1) some) (AllZip-at Says (lines_of text) items (n - 1) [] some are.each (omega (arith, bad.counted, bad.within))))
 memory_alone Says some text Memory items bad are = refl
+
+-- where a text says one list at most, an answer that is found and refused rightly is that list, or want of memory
+pub exactly_these : {X V : Type 0} (Says : List ℕ → X → Type 0) (some : X) → ((lines : List (List ℕ)) (items others : List X) → AreItems Says lines items → AreItems Says lines others → items ≡ others)
+    → (text : List ℕ) (result : Result V ScriptError) (items_of : V → List X) → IfOk result (λ v. AreItems Says (lines_of text) (items_of v)) → IfErr result (IsRefusedBy Says text)
+    → (items : List X) → AreItems Says (lines_of text) items → OkUnlessMemory result (λ v. items_of v ≡ items)
+exactly_these Says some once text (Ok v) items_of found refused items are = once (lines_of text) (items_of v) items found are
+exactly_these Says some once text (Err e) items_of found refused items are = memory_alone Says some text e items refused are

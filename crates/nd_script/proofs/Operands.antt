@@ -1,6 +1,7 @@
 -- Words that begin with a number, and what rules such a reading out.
 use Rattle.std.proofs.Common.{◌≡◌, ◌==◌, ℕ, List, [], ◌∷◌, length, Option, Some, sym, ap, subst, ◌∙◌, arith, inl, inr}
 use Rattle.std.specs.List.{slice_split}
+use Rattle.std.specs.Prelude.{Result, Ok, Err, IfOk, IfErr}
 use Rattle.std.proofs.lemmas.List.Splits.{length-slice_split}
 use Rattle.nd_bytes.specs.Cut.{pieces}
 use Rattle.nd_closure.specs.Info.{words_of}
@@ -91,3 +92,14 @@ bad_line {V} {X} verb_of Said line first others verb Bad words names none = λ i
     let one : is.verb ≡ verb = cc in
     none item (subst (λ (v : V). Said v others item) one (subst (λ (ws : List (List ℕ)). Said is.verb ws item) rest is.said))
 bad_line verb_of Said line first others verb Memory words names none = tt
+
+-- what the words behind the first one say, or don't, the line does too
+module _ {V X : Type 0} (verb_of : List ℕ → Option V) (Said : V → List (List ℕ) → X → Type 0) (line first : List ℕ) (others : List (List ℕ)) (verb : V) where
+  pub line_said : words_of line ≡ first ∷ others → verb_of first ≡ Some verb → (result : Result X LineError) → IfOk result (Said verb others) → IfOk result (IsLineOf verb_of Said line)
+  line_said words names (Ok item) said = record { first = first; others = others; words = words; verb = verb; names = names; said = said }
+  line_said words names (Err fault) said = tt
+
+  pub line_refused : words_of line ≡ first ∷ others → verb_of first ≡ Some verb → (result : Result X LineError) → IfErr result (RulesOut (Said verb others))
+      → IfErr result (RulesOut (IsLineOf verb_of Said line))
+  line_refused words names (Ok item) none = tt
+  line_refused words names (Err fault) none = bad_line verb_of Said line first others verb fault words names none

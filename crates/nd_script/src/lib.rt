@@ -5,6 +5,7 @@
 pub mod command;
 mod line_error;
 mod lines;
+mod reading;
 pub mod rule;
 pub mod script_error;
 pub mod script_text;

@@ -7,18 +7,22 @@ ghost use Rattle.nd_script.specs.Words.{words_left};
 
 use crate::command::Command;
 use crate::line_error::LineError;
+use crate::reading::Said;
 use crate::verb::{Verb, verb_named};
 use crate::words::{only_operand, operand, path_set, reference_lists, status};
 use nd_bytes::cut;
 use std::alloc::Global;
 
+impl Said for Command {
+    ghost says = { IsLine };
+
+    fn read(alloc: Global, line: &[u8], drvs: usize, machines: usize) -> Result<Self, LineError> {
+        read_line(alloc, line, drvs, machines)
+    }
+}
+
 /// The command of a line, for a graph of `drvs` derivations and a park of `machines` machines.
-pub(crate) fn read_line(
-    alloc: Global,
-    line: &[u8],
-    drvs: usize,
-    machines: usize,
-) -> Result<Command, LineError>
+fn read_line(alloc: Global, line: &[u8], drvs: usize, machines: usize) -> Result<Command, LineError>
     ensures found { IfOk result (IsLine drvs machines line.now) }
     ensures refused { IfErr result (RulesOut (IsLine drvs machines line.now)) }
 {
@@ -26,10 +30,7 @@ pub(crate) fn read_line(
     let Some(verb) = verb_named(first) else {
         return Err(LineError::Bad);
     };
-    match said(alloc, verb, words, drvs, machines) {
-        Ok(command) => Ok(command),
-        Err(fault) => Err(fault),
-    }
+    said(alloc, verb, words, drvs, machines)
 }
 
 /// What a verb asks for with these words.

@@ -7,9 +7,8 @@ ghost use Rattle.nd_script.specs.Lines.{OkUnlessMemory};
 ghost use Rattle.nd_script.specs.Script.{AreCommands, IsRefused};
 
 use crate::command::Command;
-use crate::lines::read_line;
-use crate::script_error::{ScriptError, refusal};
-use nd_bytes::cut;
+use crate::reading::read_text;
+use crate::script_error::ScriptError;
 use std::alloc::Global;
 
 /// The commands of a script, one for each line, for a graph of `drvs` derivations and a park of
@@ -35,18 +34,5 @@ pub fn parse_script(
     ensures refused { IfErr result (IsRefused drvs machines text.now) }
     ensures exactly { (commands : List Command) → AreCommands drvs machines (lines_of text.now) commands → OkUnlessMemory result (λ read. read.items ≡ commands) }
 {
-    let mut commands = Vec::new(alloc);
-    let mut left = text;
-    let mut number = 0;
-    while !left.is_empty() {
-        let (line, rest) = cut(left, b'\n');
-        number += 1;
-        let command = match read_line(alloc, line, drvs, machines) {
-            Ok(command) => command,
-            Err(fault) => return Err(refusal(fault, number)),
-        };
-        commands.push(command)?;
-        left = rest.unwrap_or(&[]);
-    }
-    Ok(commands)
+    read_text(alloc, text, drvs, machines)
 }

@@ -6,6 +6,7 @@ ghost use Rattle.nd_script.specs.Faults.{RulesOut};
 ghost use Rattle.nd_script.specs.Words.{words_left};
 
 use crate::line_error::LineError;
+use crate::reading::Said;
 use crate::rule::Rule;
 use crate::topic::{Topic, topic_named};
 use crate::words::{only_operand, operand, reference_lists, status};
@@ -13,13 +14,16 @@ use nd_bytes::cut;
 use nd_closure::Refs;
 use std::alloc::Global;
 
+impl Said for Rule {
+    ghost says = { IsRuleLine };
+
+    fn read(alloc: Global, line: &[u8], drvs: usize, machines: usize) -> Result<Self, LineError> {
+        read_rule(alloc, line, drvs, machines)
+    }
+}
+
 /// The rule of a line, for a graph of `drvs` derivations and a park of `machines` machines.
-pub(crate) fn read_rule(
-    alloc: Global,
-    line: &[u8],
-    drvs: usize,
-    machines: usize,
-) -> Result<Rule, LineError>
+fn read_rule(alloc: Global, line: &[u8], drvs: usize, machines: usize) -> Result<Rule, LineError>
     ensures found { IfOk result (IsRuleLine drvs machines line.now) }
     ensures refused { IfErr result (RulesOut (IsRuleLine drvs machines line.now)) }
 {
@@ -27,10 +31,7 @@ pub(crate) fn read_rule(
     let Some(topic) = topic_named(first) else {
         return Err(LineError::Bad);
     };
-    match ruled(alloc, topic, words, drvs, machines) {
-        Ok(rule) => Ok(rule),
-        Err(fault) => Err(fault),
-    }
+    ruled(alloc, topic, words, drvs, machines)
 }
 
 /// The rule about a topic with these words.

@@ -6,10 +6,9 @@ ghost use Rattle.nd_script.specs.declared.rule.Rule.{Rule};
 ghost use Rattle.nd_script.specs.Lines.{OkUnlessMemory};
 ghost use Rattle.nd_script.specs.Stand.{AreRules, IsStandRefused};
 
+use crate::reading::read_text;
 use crate::rule::Rule;
-use crate::script_error::{ScriptError, refusal};
-use crate::stand_lines::read_rule;
-use nd_bytes::cut;
+use crate::script_error::ScriptError;
 use std::alloc::Global;
 
 /// The rules of a stand text, one for each line, for a graph of `drvs` derivations and a park of
@@ -34,18 +33,5 @@ pub fn parse_stand(
     ensures refused { IfErr result (IsStandRefused drvs machines text.now) }
     ensures exactly { (rules : List Rule) → AreRules drvs machines (lines_of text.now) rules → OkUnlessMemory result (λ read. read.items ≡ rules) }
 {
-    let mut rules = Vec::new(alloc);
-    let mut left = text;
-    let mut number = 0;
-    while !left.is_empty() {
-        let (line, rest) = cut(left, b'\n');
-        number += 1;
-        let rule = match read_rule(alloc, line, drvs, machines) {
-            Ok(rule) => rule,
-            Err(fault) => return Err(refusal(fault, number)),
-        };
-        rules.push(rule)?;
-        left = rest.unwrap_or(&[]);
-    }
-    Ok(rules)
+    read_text(alloc, text, drvs, machines)
 }

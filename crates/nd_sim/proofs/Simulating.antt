@@ -12,8 +12,8 @@ use Rattle.nd_eligible.specs.Eligibility.{Eligible, IsEligibleAt}
 use Rattle.nd_hook.specs.declared.kinds.Reply.{Reply}
 use Rattle.nd_hook.specs.declared.kinds.Reply.TheVariants.{Accept, Postpone, Decline, DeclinePermanently}
 use Rattle.nd_hook.specs.ReplyText.{reply_text, IsInList}
-use Rattle.nd_hook.specs.Written.{WritesPart}
-use Rattle.nd_hook.proofs.Pieces.{part_after}
+use Rattle.nd_devices.specs.Written.{WritesPart}
+use Rattle.nd_devices.proofs.Pieces.{part_after}
 use Rattle.nd_history.specs.declared.entry.Entry.{Entry}
 use Rattle.nd_history.specs.Premises.{Premises}
 use Rattle.nd_history.specs.Choices.{HasReply}

@@ -3,13 +3,14 @@
 ghost use Rattle.std.specs.Prelude.{◌≡◌, ◌||◌, ◌≤◌, length, drop, reverse, is_err, OnOk, OnErr};
 ghost use Rattle.std.specs.List.{flat_map};
 ghost use Rattle.std.specs.Io.KnownBytes.{Appends};
-ghost use Rattle.nd_hook.specs.Written.{WritesPart};
+ghost use Rattle.nd_devices.specs.Written.{WritesPart};
 ghost use Rattle.nd_history_text.specs.HistoryTexts.{line_of};
 ghost use Rattle.nd_hook.specs.ReplyText.{reply_text};
 ghost use Rattle.nd_sim.specs.Runs.{refused_line};
 ghost use Rattle.nd_sim.specs.Outcomes.{IsReplyNow};
 
-use nd_hook::{Reply, Told, WriteError, write_reply};
+use nd_devices::{Told, WriteError};
+use nd_hook::{Reply, write_reply};
 use nd_ledger::{Dispatch, Refusal};
 use nd_report::write_lines;
 use std::io;

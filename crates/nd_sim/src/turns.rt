@@ -9,7 +9,7 @@ use crate::answer::Answer;
 use crate::commands::obey;
 use crate::fault::SimFault;
 use crate::lines::{write_added, write_refused, write_replied};
-use nd_hook::{Told, WriteError};
+use nd_devices::{Told, WriteError};
 use nd_ledger::Dispatch;
 use nd_script::Command;
 use std::alloc::{AllocError, Global};

@@ -2,7 +2,7 @@
 
 use nd_bytes::ByteString;
 use nd_cli::{CliFault, ParkOptions, ask_engine, path_engine};
-use nd_hook::Told;
+use nd_devices::Told;
 use nd_test_fixtures::printing::is_printed;
 use std::alloc::{AllocError, Global};
 use std::thread::Threads;

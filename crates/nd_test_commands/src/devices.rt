@@ -3,7 +3,7 @@
 use crate::asking::{builders, options};
 use crate::bundles::{N0_LINE, N0_TEXT};
 use nd_cli::{CliFault, ParkOptions, ask_engine, path_engine};
-use nd_hook::Told;
+use nd_devices::Told;
 use nd_test_fixtures::devices::{CountedReader, CountedWriter};
 use nd_test_fixtures::printing::is_printed;
 use std::alloc::Global;

@@ -2,7 +2,7 @@
 
 use nd_bytes::ByteString;
 use nd_cli::{CliFault, ParkOptions};
-use nd_hook::Told;
+use nd_devices::Told;
 use nd_run_command::{RunInputs, places, run_inputs};
 use nd_script::Rule;
 use nd_test_fixtures::printing::is_printed;

@@ -3,7 +3,7 @@
 use crate::replaying::replayed;
 use crate::reports::STORED_REPORT;
 use crate::texts::STORED;
-use nd_hook::{Told, WriteError};
+use nd_devices::{Told, WriteError};
 use nd_ledger::{Dispatch, Entry};
 use nd_report::{read_history, write_history, write_report};
 use nd_test_fixtures::bundles::CHAIN;

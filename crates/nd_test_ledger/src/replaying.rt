@@ -1,6 +1,6 @@
 //! Dispatches with the history of a text, and their reports.
 
-use nd_hook::Told;
+use nd_devices::Told;
 use nd_ledger::{Dispatch, Entry};
 use nd_report::{read_history, write_report};
 use nd_test_fixtures::parks::{Park, close, dispatch_of};

@@ -1,6 +1,6 @@
 //! Texts of histories, by the worked examples.
 
-use nd_hook::Told;
+use nd_devices::Told;
 use nd_ledger::Entry;
 use nd_report::{HistoryError, read_history, write_history, write_lines};
 use std::alloc::Global;

@@ -1,10 +1,8 @@
 //! The worked examples of replies, and devices that refuse. Want of memory is a no.
 
 use crate::values::{is_printed, machines_of, plain_need};
-use nd_hook::{
-    Decision, Fault, Reply, TakeError, Told, WriteError, decide, decide_in, reply, reply_in,
-    write_reply,
-};
+use nd_devices::{Fault, TakeError, Told, WriteError};
+use nd_hook::{Decision, Reply, decide, decide_in, reply, reply_in, write_reply};
 use nd_machines::Machine;
 use std::alloc::{AllocError, Global};
 use std::io;

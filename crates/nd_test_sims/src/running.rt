@@ -3,7 +3,7 @@
 use nd_bytes::ByteString;
 use nd_cli::{CliFault, ParkOptions};
 use nd_commands::{audit_engine, sim_engine};
-use nd_hook::Told;
+use nd_devices::Told;
 use nd_test_fixtures::devices::{CountedReader, CountedWriter};
 use nd_test_fixtures::printing::is_printed;
 use std::alloc::{AllocError, Global};

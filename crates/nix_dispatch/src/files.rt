@@ -5,8 +5,8 @@ ghost use Rattle.nix_dispatch.specs.Options.{StandsFor};
 
 use nd_bytes::ByteString;
 use nd_cli::{CliFault, read_input};
+use nd_devices::Told;
 use nd_explain::{Failure, Heard, Source};
-use nd_hook::Told;
 use std::alloc::Global;
 use std::fs;
 use std::rt::Files;

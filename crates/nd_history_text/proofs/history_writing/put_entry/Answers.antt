@@ -1,6 +1,6 @@
 use Rattle.std.proofs.Common.{◌∙◌, ap}
 use Rattle.nd_history_text.specs.Lines.{word_of}
-use Rattle.nd_history_text.proofs.Sent.{put_both, put_refused, put_renamed}
+use Rattle.nd_devices.proofs.Sent.{put_both, put_refused, put_renamed}
 use Rattle.nd_history_text.proofs.history_writing.put_entry.Goals as goal
 
 pub returns-in_err-put : goal.returns-in_err-put

@@ -1,4 +1,4 @@
-use Rattle.nd_history_text.proofs.Sent.{put_both, put_refused, put_renamed}
+use Rattle.nd_devices.proofs.Sent.{put_both, put_refused, put_renamed}
 use Rattle.nd_history_text.proofs.history_writing.put_history.Goals as goal
 
 pub returns-in_err-put : goal.returns-in_err-put

@@ -1,6 +1,6 @@
 use Rattle.std.proofs.Common.{◌≡◌, ◌≤◌, length, get_or, refl, arith}
 use Rattle.nd_history_text.specs.HistoryTexts.{line_of}
-use Rattle.nd_history_text.proofs.Sent.{no_text, item_put, item_refused, items_put}
+use Rattle.nd_devices.proofs.Sent.{no_text, item_put, item_refused, items_put}
 use Rattle.nd_history_text.proofs.history_writing.put_lines.Goals as goal
 
 pub loop-entry-init : goal.loop-entry-init

@@ -1,8 +1,8 @@
 use Rattle.std.proofs.Common.{take, Ok}
 use Rattle.std.specs.List.{flat_map}
-use Rattle.nd_hook.specs.declared.told.Fault.{Fault}
+use Rattle.nd_devices.specs.declared.refusals.Fault.{Fault}
 use Rattle.nd_history_text.specs.HistoryTexts.{line_of}
-use Rattle.nd_history_text.specs.Sending.{IsPut}
+use Rattle.nd_devices.specs.Sending.{IsPut}
 use Rattle.nd_history_text.proofs.history_writing.put_lines.Given as goal
 
 -- what was passed so far is put

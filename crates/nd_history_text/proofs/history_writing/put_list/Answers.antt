@@ -1,6 +1,6 @@
 use Rattle.std.proofs.Common.{ap}
 use Rattle.nd_history_text.specs.Lines.{spaced}
-use Rattle.nd_history_text.proofs.Sent.{put_renamed}
+use Rattle.nd_devices.proofs.Sent.{put_renamed}
 use Rattle.nd_history_text.proofs.Spelled.{words_put, words_refused}
 use Rattle.nd_history_text.proofs.history_writing.put_list.Goals as goal
 

@@ -1,7 +1,7 @@
 use Rattle.std.proofs.Common.{◌≡◌, ℕ, ◌≤◌, List, length, get_or, refl, arith}
 use Rattle.nd_history_text.specs.HistoryTexts.{output_words}
 use Rattle.nd_history_text.specs.Lines.{spaced}
-use Rattle.nd_history_text.proofs.Sent.{no_text, put_renamed, item_put, item_refused, items_put}
+use Rattle.nd_devices.proofs.Sent.{no_text, put_renamed, item_put, item_refused, items_put}
 use Rattle.nd_history_text.proofs.Spelled.{lists_spaced}
 use Rattle.nd_history_text.proofs.history_writing.put_lists.Goals as goal
 

@@ -2,7 +2,7 @@ use Rattle.std.proofs.Common.{ℕ, List, ap, refl}
 use Rattle.std.specs.List.{flat_map}
 use Rattle.nd_history_text.specs.HistoryTexts.{output_words}
 use Rattle.nd_history_text.specs.Lines.{spaced}
-use Rattle.nd_history_text.proofs.Sent.{put_renamed}
+use Rattle.nd_devices.proofs.Sent.{put_renamed}
 use Rattle.nd_history_text.proofs.Spelled.{no_words, words_put, words_refused}
 use Rattle.nd_history_text.proofs.history_writing.put_others.Goals as goal
 

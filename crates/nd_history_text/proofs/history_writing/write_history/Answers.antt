@@ -1,7 +1,7 @@
 use Rattle.std.proofs.Common.{ap}
 use Rattle.nd_history_text.specs.declared.kinds.Version.{Version}
 use Rattle.nd_history_text.specs.HistoryTexts.{history_text}
-use Rattle.nd_history_text.proofs.Sent.{put_renamed, put_sent_in_part}
+use Rattle.nd_devices.proofs.Sent.{put_renamed, put_sent_in_part}
 use Rattle.nd_history_text.proofs.Spelled.{on_err}
 use Rattle.nd_history_text.proofs.history_writing.write_history.Goals as goal
 

@@ -1,4 +1,4 @@
-use Rattle.nd_history_text.proofs.Sent.{put_sent_in_part}
+use Rattle.nd_devices.proofs.Sent.{put_sent_in_part}
 use Rattle.nd_history_text.proofs.Spelled.{on_err}
 use Rattle.nd_history_text.proofs.history_writing.write_lines.Goals as goal
 

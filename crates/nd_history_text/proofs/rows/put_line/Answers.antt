@@ -1,4 +1,4 @@
-use Rattle.nd_history_text.proofs.Sent.{put_both, put_refused}
+use Rattle.nd_devices.proofs.Sent.{put_both, put_refused}
 use Rattle.nd_history_text.proofs.rows.put_line.Goals as goal
 
 pub returns-in_err-put : goal.returns-in_err-put

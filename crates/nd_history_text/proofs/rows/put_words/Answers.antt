@@ -2,7 +2,7 @@ use Rattle.std.proofs.Common.{◌≤◌, [], ◌∷◌, length, refl, arith}
 use Rattle.nd_history_text.specs.declared.rows.Word.{Word}
 use Rattle.nd_history_text.specs.Lines.{spaced}
 use Rattle.nd_history_text.specs.Rows.{text_of}
-use Rattle.nd_history_text.proofs.Sent.{no_text, put_renamed, place_put, place_refused, items_put}
+use Rattle.nd_devices.proofs.Sent.{no_text, put_renamed, place_put, place_refused, items_put}
 use Rattle.nd_history_text.proofs.Spelled.{words_spaced}
 use Rattle.nd_history_text.proofs.rows.put_words.Goals as goal
 

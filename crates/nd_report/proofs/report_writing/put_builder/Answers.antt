@@ -1,5 +1,5 @@
 use Rattle.nd_report.proofs.Rows.{builder_put}
-use Rattle.nd_history_text.proofs.Sent.{put_renamed}
+use Rattle.nd_devices.proofs.Sent.{put_renamed}
 use Rattle.std.proofs.Common.{◌+◌, reverse, ap}
 use Rattle.nd_report.specs.Reports.{machine_row}
 use Rattle.nd_report.proofs.report_writing.put_builder.Goals as goal

@@ -1,8 +1,8 @@
 use Rattle.std.proofs.Common.{length, reverse, take, Ok}
 use Rattle.std.specs.List.{flat_map, range_with_len}
-use Rattle.nd_hook.specs.declared.told.Fault.{Fault}
+use Rattle.nd_devices.specs.declared.refusals.Fault.{Fault}
 use Rattle.nd_report.specs.Reports.{builder_row}
-use Rattle.nd_history_text.specs.Sending.{IsPut}
+use Rattle.nd_devices.specs.Sending.{IsPut}
 use Rattle.nd_report.proofs.report_writing.put_builders.Given as goal
 
 -- the lines so far are put

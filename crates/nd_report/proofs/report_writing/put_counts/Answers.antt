@@ -1,6 +1,6 @@
 use Rattle.std.proofs.Common.{◌≤◌, ℕ, List, Bor, refl, arith}
 use Rattle.nd_report.specs.Reports.{count_row}
-use Rattle.nd_history_text.proofs.Sent.{no_text, put_renamed, place_put, place_refused, items_put}
+use Rattle.nd_devices.proofs.Sent.{no_text, put_renamed, place_put, place_refused, items_put}
 use Rattle.nd_report.proofs.Rows.{counts_rowed}
 use Rattle.nd_report.proofs.report_writing.put_counts.Goals as goal
 

@@ -1,5 +1,5 @@
 use Rattle.std.proofs.Common.{◌≡◌, [], slice_index_or}
-use Rattle.nd_history_text.proofs.Sent.{put_renamed}
+use Rattle.nd_devices.proofs.Sent.{put_renamed}
 use Rattle.nd_report.proofs.Rows.{drv_rowed}
 use Rattle.nd_report.proofs.report_writing.put_drv.Goals as goal
 

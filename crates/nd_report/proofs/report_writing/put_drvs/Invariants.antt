@@ -1,5 +1,5 @@
 use Rattle.std.proofs.Common.{Ok}
-use Rattle.nd_hook.specs.declared.told.Fault.{Fault}
+use Rattle.nd_devices.specs.declared.refusals.Fault.{Fault}
 use Rattle.nd_report.specs.Reports.{PutsDrvs}
 use Rattle.nd_report.proofs.report_writing.put_drvs.Given as goal
 

@@ -1,5 +1,5 @@
 use Rattle.std.proofs.Common.{reverse}
-use Rattle.nd_history_text.proofs.Sent.{put_renamed}
+use Rattle.nd_devices.proofs.Sent.{put_renamed}
 use Rattle.nd_report.proofs.Rows.{machine_rowed}
 use Rattle.nd_report.proofs.report_writing.put_machine.Goals as goal
 

@@ -2,8 +2,8 @@
 -- Public clauses cite this.
 use Rattle.std.specs.Prelude.{◌≡◌, ◌||◌, ℕ, List, ◌++◌, Option, Result, is_err, OnOk, OnErr}
 use Rattle.std.specs.Io.KnownBytes.{Appends}
-use Rattle.nd_hook.specs.Watched.{Watched}
-use Rattle.nd_hook.specs.Written.{WritesPart}
+use Rattle.nd_devices.specs.Watched.{Watched}
+use Rattle.nd_devices.specs.Written.{WritesPart}
 
 -- what was held back and then the text are what was sent and then what is held back
 pub record Sends (old : Option (List ℕ)) (held : List ℕ) (new : Option (List ℕ)) (left text : List ℕ) : Type 0 where

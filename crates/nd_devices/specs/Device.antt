@@ -1,8 +1,8 @@
 -- Which answers of a whole read say that the device refused it.
 -- Public clauses cite this.
 use Rattle.std.specs.Prelude.{ℕ, Bool, true, false, List, Result, Ok, Err, codes}
-use Rattle.nd_hook.specs.declared.told.TakeError.{TakeError}
-use Rattle.nd_hook.specs.declared.told.TakeError.TheVariants.{Fault, Memory}
+use Rattle.nd_devices.specs.declared.refusals.TakeError.{TakeError}
+use Rattle.nd_devices.specs.declared.refusals.TakeError.TheVariants.{Fault, Memory}
 
 -- the answer is the device's fault
 abbrev pub is_fault_of : {A : Type 0} → Result A TakeError → Bool

@@ -1,7 +1,7 @@
 use Rattle.std.proofs.Common.{arith, rules}
 use Rattle.std.proofs.KnownBytes.{Appends-trans}
 use Rattle.std.proofs.Math.Seq.{take-add}
-use Rattle.nd_hook.proofs.told.Told.put_all.Goals as goal
+use Rattle.nd_devices.proofs.told.Told.put_all.Goals as goal
 
 -- one more write goes on where the last one ended
 pub loop-at-preserved : goal.loop-at-preserved

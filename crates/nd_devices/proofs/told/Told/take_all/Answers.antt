@@ -2,7 +2,7 @@ use Rattle.std.proofs.Common.{◌++◌, ◌≤◌, length, take, arith, length-a
 use Rattle.std.proofs.lemmas.List.{length-take, length-take-le}
 use Rattle.std.proofs.KnownBytes.{Consumes-trans}
 use Rattle.std.proofs.lemmas.Result.{err_from_is_err_and}
-use Rattle.nd_hook.proofs.told.Told.take_all.Goals as goal
+use Rattle.nd_devices.proofs.told.Told.take_all.Goals as goal
 
 -- the last read's bytes were taken though there was no memory for them
 pub returns-in_err-extend_from_slice-clause-partly : goal.returns-in_err-extend_from_slice-clause-partly

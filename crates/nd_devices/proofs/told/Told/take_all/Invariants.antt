@@ -1,6 +1,6 @@
 use Rattle.std.proofs.Common.{◌≡◌, ◌≤◌, ◌+◌, ◌-◌, vec_len}
 use Rattle.std.specs.Io.KnownBytes.{Consumes}
-use Rattle.nd_hook.proofs.told.Told.take_all.Given as goal
+use Rattle.nd_devices.proofs.told.Told.take_all.Given as goal
 
 -- the bytes so far are what the device gave, and no read was refused
 abbrev pub invariant-loop-room : goal.invariant-loop-room

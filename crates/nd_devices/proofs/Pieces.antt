@@ -2,7 +2,7 @@
 use Rattle.std.proofs.Common.{◌∙◌, ℕ, List, [], ◌++◌, Option, sym, ap, append_assoc, append-nil, take, drop, take-append-drop}
 use Rattle.std.specs.Io.KnownBytes.{Appends, Keeps}
 use Rattle.std.proofs.KnownBytes.{Appends-trans, Appends-kept}
-use Rattle.nd_hook.specs.Written.{WritesPart}
+use Rattle.nd_devices.specs.Written.{WritesPart}
 
 -- the first piece was written in part
 pub part_of_first : (old new : Option (List ℕ)) (text more : List ℕ) → WritesPart old new text → WritesPart old new (text ++ more)

@@ -6,10 +6,10 @@ use Rattle.std.specs.Io.KnownBytes.{Appends}
 use Rattle.std.proofs.Math.Seq.{split_at}
 use Rattle.std.proofs.lemmas.Grind.{flat_map-append}
 use Rattle.std.proofs.lemmas.List.{append-nil, get_or_default, take_all, take_more}
-use Rattle.nd_hook.specs.Watched.{Watched}
-use Rattle.nd_hook.specs.Written.{WritesPart}
-use Rattle.nd_hook.proofs.Pieces.{part_of_first, part_after, written_after}
-use Rattle.nd_history_text.specs.Sending.{Sends, SendsPart, IsPut}
+use Rattle.nd_devices.specs.Watched.{Watched}
+use Rattle.nd_devices.specs.Written.{WritesPart}
+use Rattle.nd_devices.proofs.Pieces.{part_of_first, part_after, written_after}
+use Rattle.nd_devices.specs.Sending.{Sends, SendsPart, IsPut}
 
 kept : (o : Option (List ℕ)) → Appends o o []
 kept None = tt

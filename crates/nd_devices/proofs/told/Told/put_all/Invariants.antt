@@ -1,6 +1,6 @@
 use Rattle.std.proofs.Common.{◌≡◌, ◌≤◌, ◌-◌, length, take}
 use Rattle.std.specs.Io.KnownBytes.{Appends}
-use Rattle.nd_hook.proofs.told.Told.put_all.Given as goal
+use Rattle.nd_devices.proofs.told.Told.put_all.Given as goal
 
 -- what was put so far is out, and no write was refused
 abbrev pub invariant-loop-at : goal.invariant-loop-at

@@ -1,5 +1,5 @@
-use Rattle.nd_history_text.proofs.Sent.{gone_put}
-use Rattle.nd_history_text.proofs.page.Page.put.Goals as goal
+use Rattle.nd_devices.proofs.Sent.{gone_put}
+use Rattle.nd_devices.proofs.page.Page.put.Goals as goal
 
 pub returns : goal.returns
 returns g c =

@@ -2,75 +2,13 @@
 
 ghost use Rattle.std.specs.Prelude.{◌≡◌, ℕ, ◌+◌, ◌≤◌, ◌||◌, false, length, is_err, take, vec_len, List, IfOk, OnOk, OnErr, true};
 ghost use Rattle.std.specs.Io.KnownBytes.{Appends, Consumes, IsAtEnd, Keeps, WriteAppends, ReadConsumes};
-ghost use Rattle.nd_hook.specs.Device.{is_fault_of};
-ghost use Rattle.nd_hook.specs.Written.{WritesPart};
+ghost use Rattle.nd_devices.specs.Device.{is_fault_of};
+ghost use Rattle.nd_devices.specs.Written.{WritesPart};
 
-use std::alloc::{AllocError, Global};
-use std::error::Error;
-use std::fmt;
+use crate::refusals::{Fault, TakeError};
+use std::alloc::Global;
 use std::io::{Read, Write};
 use std::marker::Model;
-
-/// A device refused a read or a write. It says no more: the device's own error is let go.
-#[derive(Clone, Copy, Debug, PartialEq, Eq)]
-pub struct Fault;
-
-impl fmt::Display for Fault {
-    ghost use Rattle.std.specs.Prelude.{Some, codes};
-
-    ghost output = { λ _. Some (codes "Fault") };
-
-    fn fmt<W: fmt::Write>(&self, f: &mut fmt::Formatter<W>) -> fmt::Result {
-        f.write_str("Fault")
-    }
-}
-
-impl Error for Fault {}
-
-/// Why a whole input wasn't read.
-#[derive(Clone, Copy, Debug, PartialEq, Eq)]
-pub enum TakeError {
-    /// 1: the device refused a read.
-    Fault,
-    /// 2: there was no memory for the bytes.
-    Memory,
-}
-
-impl fmt::Display for TakeError {
-    ghost use Rattle.std.specs.Prelude.{Some};
-    ghost use Rattle.nd_hook.specs.Device.{take_error_name};
-
-    ghost output = { λ e. Some (take_error_name e) };
-
-    fn fmt<W: fmt::Write>(&self, f: &mut fmt::Formatter<W>) -> fmt::Result {
-        match self {
-            TakeError::Fault => f.write_str("Fault"),
-            TakeError::Memory => f.write_str("Memory"),
-        }
-    }
-}
-
-impl Error for TakeError {}
-
-impl From<Fault> for TakeError {
-    ghost use Rattle.nd_hook.specs.declared.told.TakeError.{TakeError};
-
-    ghost from_gives = { λ _ e. e ≡ TakeError.Fault };
-
-    fn from(_fault: Fault) -> Self {
-        TakeError::Fault
-    }
-}
-
-impl From<AllocError> for TakeError {
-    ghost use Rattle.nd_hook.specs.declared.told.TakeError.{TakeError};
-
-    ghost from_gives = { λ _ e. e ≡ TakeError.Memory };
-
-    fn from(_refused: AllocError) -> Self {
-        TakeError::Memory
-    }
-}
 
 /// A reader or writer with a mark, which is set exactly by a [`put`](Told::put), a
 /// [`take`](Told::take) or a [`flush`](Told::flush) that the device refused.
@@ -81,7 +19,7 @@ pub struct Told<T> {
 }
 
 impl<T> Model for Told<T> {
-    ghost use Rattle.nd_hook.specs.Watched.{Watched};
+    ghost use Rattle.nd_devices.specs.Watched.{Watched};
 
     ghost Value = { Watched T };
 

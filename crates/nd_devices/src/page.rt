@@ -2,10 +2,11 @@
 
 ghost use Rattle.std.specs.Prelude.{◌≡◌, ◌+◌, ◌≤◌, ◌++◌, ◌||◌, [], length, is_err, OnOk, OnErr};
 ghost use Rattle.std.specs.Io.KnownBytes.{Appends};
-ghost use Rattle.nd_hook.specs.Written.{WritesPart};
-ghost use Rattle.nd_history_text.specs.Sending.{IsPut};
+ghost use Rattle.nd_devices.specs.Written.{WritesPart};
+ghost use Rattle.nd_devices.specs.Sending.{IsPut};
 
-use nd_hook::{Fault, Told};
+use crate::refusals::Fault;
+use crate::told::Told;
 use std::io;
 use std::marker::Model;
 

@@ -1,0 +1,4 @@
+pub mod Device
+pub mod Sending
+pub mod Watched
+pub mod Written
