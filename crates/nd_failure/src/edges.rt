@@ -188,7 +188,7 @@ impl Edges {
     }
 
     /// The nodes that have a node among their inputs, each as often as it has it there.
-    pub(crate) fn dependants(&self, node: usize) -> &[usize]
+    pub fn dependants(&self, node: usize) -> &[usize]
         requires { node < length self.now }
         ensures { AreDependants self.now node result.now }
     {

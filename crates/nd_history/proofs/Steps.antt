@@ -1,11 +1,12 @@
 -- When a derivation has a step, and which.
-use Rattle.std.proofs.Common.{◌≡◌, ℕ, zero, suc, ◌+◌, ◌<◌, ◌≤◌, Bool, true, false, not, ◌==◌, ◌||◌, ◌-◌, eq-eqb, List, [], ◌∷◌, ◌++◌, length, length-append, reverse, append-nil, append_assoc, if◌then◌else◌, refl, sym, ap, ◌∙◌, subst, arith, inl, inr, Option, Some, add-one, get_or}
+use Rattle.std.proofs.Common.{◌≡◌, ℕ, zero, suc, ◌+◌, ◌<◌, ◌≤◌, Bool, true, false, not, ◌==◌, ◌||◌, ◌-◌, eq-eqb, List, [], ◌∷◌, ◌++◌, length, length-append, reverse, append-nil, append_assoc, if◌then◌else◌, refl, sym, ap, ◌∙◌, subst, arith, inl, inr, Option, None, Some, add-one, get_or}
 use Rattle.std.proofs.lemmas.Bool.{cases_lt, cases_eq}
 use Rattle.std.specs.Option.{IsSomeAnd, option_map_or}
 use Rattle.std.proofs.lemmas.Option.{slice_get_cases, slice_get_read}
 use Rattle.nd_machines.specs.Builders.{Builder}
 use Rattle.nd_eligible.specs.Eligibility.{Eligible}
 use Rattle.nd_choose.specs.Best.{jobs_at}
+use Rattle.nd_hook.specs.declared.kinds.Decision.{Decision}
 use Rattle.nd_hook.specs.declared.kinds.Decision.TheVariants.{Local, Remote, Wait, NoBuilder as NobodyBuilds}
 use Rattle.nd_failure.specs.Progress as board
 use Rattle.nd_failure.specs.Progress.{Progress}
@@ -18,7 +19,7 @@ use Rattle.nd_history.specs.Standing.{drvs_in, IsReady}
 use Rattle.nd_history.specs.Choices.{jobs_of, HasDecision, IsBestFor}
 use Rattle.nd_history.specs.Legal.{IsLegal, IsPlaceFor, IsLeastFree}
 use Rattle.nd_history.specs.Marks.{AreMarked}
-use Rattle.nd_history.specs.Pumping.{IsStepOf, IsAtRest, AreAtRest, IsPumpStep, ArePumpSteps, HasPumped, is_open}
+use Rattle.nd_history.specs.Pumping.{IsStepOf, IsStepAsDecided, IsStepOrRest, IsAtRest, AreAtRest, IsPumpStep, ArePumpSteps, HasPumped, is_open}
 use Rattle.nd_history.proofs.Boards.{ready_said, ready_marked}
 use Rattle.nd_history.proofs.OneChoice.{decision_once, remote_best}
 
@@ -69,6 +70,11 @@ rest_waiting i past d wait = record {
   rests = λ e step. step_no_wait i past d e step wait;
   waits = λ (ready : IsReady i past d). wait;
 }
+
+-- the step that was decided on, or rest
+pub decided_or_rest : (i : Premises) (past : List Entry) (d : ℕ) (decision : Decision) (answer : Option Entry) → HasDecision i past d decision → IsStepAsDecided i past d decision answer → IsStepOrRest i past d answer
+decided_or_rest i past d decision None decided is = rest_waiting i past d (subst (HasDecision i past d) is decided)
+decided_or_rest i past d decision (Some e) decided step = step
 
 -- the step where the local machine is decided on
 pub step_local : (i : Premises) (past : List Entry) (d s : ℕ) → IsReady i past d → HasDecision i past d Local → s < i.local.jobs → IsLeastFree past 0 s → IsStepOf i past d (Chosen d 0 s)

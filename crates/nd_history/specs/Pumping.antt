@@ -2,6 +2,7 @@
 -- first, but for those of `ArePumpSteps`.
 -- Public clauses cite this, but `is_open` serves proofs alone.
 use Rattle.std.specs.Prelude.{◌≡◌, ℕ, ◌<◌, Bool, not, ◌||◌, length, List, [], ◌∷◌, ◌++◌, reverse, Option, Some, None, MatchOption}
+use Rattle.nd_hook.specs.declared.kinds.Decision.{Decision}
 use Rattle.nd_hook.specs.declared.kinds.Decision.TheVariants.{Wait}
 use Rattle.nd_history.specs.declared.entry.Entry.{Entry}
 use Rattle.nd_history.specs.declared.entry.Entry.TheVariants.{Chosen, NoBuilder, Started, Down, Built, Failed, Stop, Drain, Enable}
@@ -32,6 +33,10 @@ pub record IsStepOf (i : Premises) (past : List Entry) (d : ℕ) (e : Entry) : T
 pub record IsAtRest (i : Premises) (past : List Entry) (d : ℕ) : Type 0 where
   pub rests : (e : Entry) → IsStepOf i past d e → ⊥
   pub waits : IsReady i past d → HasDecision i past d Wait
+
+-- what a decision about derivation d leads to: its step, or none where it is to wait
+abbrev pub IsStepAsDecided : Premises → List Entry → ℕ → Decision → Option Entry → Type 0
+IsStepAsDecided i past d decision answer = MatchOption answer (decision ≡ Wait) (IsStepOf i past d)
 
 -- what is answered about derivation d: its step, or none where there is none
 abbrev pub IsStepOrRest : Premises → List Entry → ℕ → Option Entry → Type 0

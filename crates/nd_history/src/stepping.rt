@@ -4,9 +4,9 @@ ghost use Rattle.std.specs.Prelude.{◌≡◌, ℕ, ◌+◌, ◌<◌, ◌≤◌,
 ghost use Rattle.nd_graph.specs.Graphs.{IsSound};
 ghost use Rattle.nd_history.specs.Premises.{premises_of};
 ghost use Rattle.nd_history.specs.Standing.{IsReady};
-ghost use Rattle.nd_history.specs.Choices.{AreSmall};
+ghost use Rattle.nd_history.specs.Choices.{AreSmall, HasDecision};
 ghost use Rattle.nd_history.specs.Legal.{IsLegal};
-ghost use Rattle.nd_history.specs.Pumping.{IsStepOrRest, AreAtRest, IsPumpStep};
+ghost use Rattle.nd_history.specs.Pumping.{IsStepAsDecided, IsStepOrRest, AreAtRest, IsPumpStep};
 ghost use Rattle.nd_history.specs.Fitting.{FitTogether};
 ghost use Rattle.nd_history.specs.Marks.{AreMarked};
 
@@ -17,13 +17,15 @@ use crate::inputs::Inputs;
 use nd_failure::Board;
 use nd_hook::Decision;
 
-/// The step of derivation `drv`, which is ready, if its decision isn't to wait.
-fn step_of_ready(inputs: &Inputs, book: &Book, drv: u32) -> Option<Entry>
+/// The step that this decision about derivation `drv`, which is ready, leads to: none where it is to
+/// wait.
+pub fn step_for(inputs: &Inputs, book: &Book, drv: u32, decision: Decision) -> Option<Entry>
     requires fit { FitTogether (premises_of inputs.now) book.now }
     requires ready { IsReady (premises_of inputs.now) (reverse book.now.entries) drv }
-    ensures { IsStepOrRest (premises_of inputs.now) (reverse book.now.entries) drv result }
+    requires decided { HasDecision (premises_of inputs.now) (reverse book.now.entries) drv decision }
+    ensures { IsStepAsDecided (premises_of inputs.now) (reverse book.now.entries) drv decision result }
 {
-    match decide_now(inputs, book, drv as usize) {
+    match decision {
         Decision::Local => {
             let slot = free_slot(book, 0, inputs.local.jobs());
             Some(Entry::Chosen {
@@ -41,6 +43,16 @@ fn step_of_ready(inputs: &Inputs, book: &Book, drv: u32) -> Option<Entry>
         Decision::Wait => None,
         Decision::NoBuilder => Some(Entry::NoBuilder { drv }),
     }
+}
+
+/// The step of derivation `drv`, which is ready, if its decision isn't to wait.
+fn step_of_ready(inputs: &Inputs, book: &Book, drv: u32) -> Option<Entry>
+    requires fit { FitTogether (premises_of inputs.now) book.now }
+    requires ready { IsReady (premises_of inputs.now) (reverse book.now.entries) drv }
+    ensures { IsStepOrRest (premises_of inputs.now) (reverse book.now.entries) drv result }
+{
+    let decision = decide_now(inputs, book, drv as usize);
+    step_for(inputs, book, drv, decision)
 }
 
 /// The step of the first derivation that has one. The board, which follows the book, says which
