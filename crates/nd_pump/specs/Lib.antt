@@ -3,3 +3,4 @@ pub mod Waiting
 pub mod Turned
 pub mod TurnsKept
 pub mod Listing
+pub mod Taking

@@ -1,7 +1,7 @@
 -- Whose turn it is: the ready derivations by kind, and the kinds that are passed over since they are to wait. How a queue follows
 -- a history entry by entry. The histories of these definitions stand newest first. Parking is this project's own choice.
 -- Public clauses cite this.
-use Rattle.std.specs.Prelude.{◌≡◌, ℕ, Bool, true, false, List, Contains, Option, None, Some, MatchOption, slice_get, slice_index_or}
+use Rattle.std.specs.Prelude.{◌≡◌, ℕ, Bool, true, false, List, Contains, Option, None, Some, MatchOption, length, slice_get, slice_index_or}
 use Rattle.std.specs.Option.{option_map}
 use Rattle.nd_flags.specs.Members.{IsMember}
 use Rattle.nd_graph.specs.Walks.{inputs_of}
@@ -26,6 +26,12 @@ pub record Turned : Type 0 where
 abbrev pub is_parked : Turned → ℕ → Bool
 is_parked t n = slice_index_or t.queue.parked n false
 
+-- the queue's groups are the kinds
+pub record IsWhole (t : Turned) : Type 0 where
+  pub groups : t.queue.groups ≡ t.kinds.numbers
+  pub ready : length t.queue.ready ≡ length t.kinds.numbers
+  pub parked : length t.queue.parked ≡ length t.kinds.kinds
+
 -- what is ready on the board is ready in the queue
 pub record AreListed (p : Progress) (q : Queued) : Type 0 where
   pub each : (d : ℕ) → IsReady p d → IsMember q.ready d
@@ -36,6 +42,7 @@ pub record DoWait (i : Premises) (past : List Entry) (t : Turned) : Type 0 where
 
 -- the turns follow the history, as the board does
 pub record AreTurns (i : Premises) (past : List Entry) (p : Progress) (t : Turned) : Type 0 where
+  pub whole : IsWhole t
   pub kinds : AreKinds i.machines i.local i.graph.needs t.kinds
   pub listed : AreListed p t.queue
   pub waits : DoWait i past t

@@ -1,9 +1,11 @@
-//! What is decided about the derivations of a kind, once for all of them, and that a kind that is to wait
-//! goes on waiting until one of its machines changes.
+//! The pump's next step: what is decided about the derivations of a kind, once for all of them, whose turn
+//! it is, and that a kind that is to wait goes on waiting until one of its machines changes.
 #![tactic(auto)]
 
 pub mod deciding;
 pub mod laws;
+mod stepping;
 mod turns;
 
+pub use stepping::next_step;
 pub use turns::Turns;

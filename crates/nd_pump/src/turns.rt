@@ -3,7 +3,7 @@
 ghost use Rattle.std.specs.Prelude.{◌≡◌, ◌<◌, ℕ, Some, false, true, length, slice_get, slice_set, IfOk};
 ghost use Rattle.nd_kinds.specs.Kinds.{AreKinds, number_of};
 ghost use Rattle.nd_pump.specs.Listing.{IsSized, ListsAlso, ListsTo};
-ghost use Rattle.nd_pump.specs.Turned.{AreListed, is_parked};
+ghost use Rattle.nd_pump.specs.Turned.{AreListed, IsWhole, is_parked};
 ghost use Rattle.nd_queue.specs.Queues.{IsFirstDue};
 
 use nd_eligible::{Local, Need};
@@ -68,6 +68,7 @@ impl Turns {
         board: &Board,
     ) -> Result<Turns, AllocError>
         requires { length board.now.inputs ≡ length needs.now }
+        ensures whole { IfOk result IsWhole }
         ensures kinds { IfOk result (λ t. AreKinds machines.now local.now needs.now t.kinds) }
         ensures listed { IfOk result (λ t. AreListed board.now t.queue) }
         ensures parked { IfOk result (λ t. (n : ℕ) → is_parked t n ≡ false) }
