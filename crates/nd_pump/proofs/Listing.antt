@@ -1,13 +1,21 @@
 -- Derivations that are ready are listed one after another.
-use Rattle.std.proofs.Common.{◌≡◌, ◌∙◌, ℕ, ◌+◌, ◌<◌, ◌≤◌, Bool, true, false, List, length, get_or, refl, sym, subst, inl, inr, arith}
+use Rattle.std.proofs.Common.{◌≡◌, ◌∙◌, ℕ, ◌+◌, ◌<◌, ◌≤◌, Bool, true, false, List, length, get_or, refl, sym, ap, subst, inl, inr, ◌⊎◌, Some, None, arith}
 use Rattle.std.proofs.Math.ListN.{set, length-set}
-use Rattle.std.proofs.lemmas.Bool.{cases_eq, cases_lt}
+use Rattle.std.specs.Prelude.{Contains}
+use Rattle.std.proofs.lemmas.Bool.{cases_eq, cases_lt, false≢true}
+use Rattle.std.proofs.lemmas.List.Elements.{All-contains, All-from_get_or}
+use Rattle.nd_failure.specs.Reversed.{AreDependants}
+use Rattle.nd_failure.proofs.SpreadFacts.{dependant_of_input}
 use Rattle.std.proofs.lemmas.List.{get_or-set_same, get_or-set_other}
 use Rattle.nd_flags.specs.Members.{IsMember}
 use Rattle.nd_failure.specs.Progress.{Progress, IsReady}
 use Rattle.nd_queue.specs.Queues.{Queued}
-use Rattle.nd_pump.specs.Listing.{IsSized, ListsMore, ListsAlso, ListsTo}
-use Rattle.nd_pump.specs.Turned.{AreListed}
+use Rattle.nd_graph.specs.Walks.{inputs_of}
+use Rattle.nd_history.specs.declared.entry.Entry.{Entry}
+use Rattle.nd_history.specs.declared.entry.Entry.TheVariants.{Chosen, NoBuilder, Started, Down, Built, Failed, Stop, Drain, Enable}
+use Rattle.nd_kinds.specs.Kinds.{Kinded, users_of}
+use Rattle.nd_pump.specs.Listing.{IsSized, ListsMore, ListsAlso, ListsTo, ListsEach, ListsAbove, ListsNews, Wakes}
+use Rattle.nd_pump.specs.Turned.{Turned, AreListed, IsNews, HasTurned, is_parked}
 
 member_set : (row : List Bool) (i k : ℕ) → i < length row → IsMember row k → IsMember (set row i true) k
 member_set row i k within member = elim (cases_eq k i) [
@@ -63,3 +71,127 @@ sized_still p old new sized more = record { groups = subst (λ (xs : List ℕ). 
 -- all of them
 pub lists_all : (p : Progress) (n : ℕ) (old new : Queued) → length p.inputs ≤ n → ListsTo p n old new → AreListed p new
 lists_all p n old new le so_far = record { each = λ d ready. let lt = ready.node in so_far.below d (omega (arith, lt, le)) ready }
+
+-- ---- lists of derivations
+
+pub more_none : (q : Queued) → ListsMore q q
+more_none q = record { groups = refl; parked = refl; sized = refl; kept = λ k member. member }
+
+-- those at the first n places of a list
+pub record ListsFirst (p : Progress) (drvs : List ℕ) (n : ℕ) (old new : Queued) : Type 0 where
+  pub more : ListsMore old new
+  pub first : (k : ℕ) → k < n → IsReady p (get_or drvs k 0) → IsMember new.ready (get_or drvs k 0)
+
+pub first_none : (p : Progress) (drvs : List ℕ) (q : Queued) → ListsFirst p drvs 0 q q
+first_none p drvs q = record { more = more_none q; first = λ k lt ready. absurd (omega (arith, lt)) }
+
+pub first_next : (p : Progress) (drvs : List ℕ) (n : ℕ) (old mid new : Queued) → ListsFirst p drvs n old mid → ListsAlso p (get_or drvs n 0) mid new → ListsFirst p drvs (n + 1) old new
+first_next p drvs n old mid new so_far also = record {
+  more = more_more old mid new so_far.more also.more;
+  first = λ k lt ready. elim (cases_lt k n) [
+    | inl before ↦ also.more.kept (get_or drvs k 0) (so_far.first k before ready)
+    | inr from_on ↦
+        let here : n ≡ k = omega (arith, lt, from_on) in
+        subst (λ (j : ℕ). IsMember new.ready (get_or drvs j 0)) here (also.here (subst (λ (j : ℕ). IsReady p (get_or drvs j 0)) (sym here) ready))
+  ];
+}
+
+pub first_all : (p : Progress) (drvs : List ℕ) (n : ℕ) (old new : Queued) → length drvs ≤ n → ListsFirst p drvs n old new → ListsEach p drvs old new
+first_all p drvs n old new le so_far = record {
+  more = so_far.more;
+  each = λ d has.
+      All-contains (λ (x : ℕ). IsReady p x → IsMember new.ready x) drvs d
+      (All-from_get_or (λ (x : ℕ). IsReady p x → IsMember new.ready x) drvs 0 (λ k lt ready. so_far.first k (omega (arith, lt, le)) ready)) has;
+}
+
+pub each_above : (p : Progress) (c : ℕ) (drvs : List ℕ) (old new : Queued) → AreDependants p.inputs c drvs → ListsEach p drvs old new → ListsAbove p c old new
+each_above p c drvs old new are each = record { more = each.more; above = λ d has ready. each.each d (dependant_of_input p.inputs c d drvs are has) ready }
+
+-- ---- what an entry makes ready
+
+pub news_here : (p : Progress) (e : Entry) (d : ℕ) (old new : Queued) → e ≡ Down d → ListsAlso p d old new → ListsNews p e old new
+news_here p e d old new is also =
+    subst (λ (x : Entry). ListsNews p x old new) (sym is)
+    (record { more = also.more; news = λ k news ready. subst (λ (j : ℕ). IsMember new.ready j) (sym news) (also.here (subst (IsReady p) news ready)) })
+
+pub news_above : (p : Progress) (e : Entry) (c : ℕ) (refs : List (List (List ℕ))) (old new : Queued) → e ≡ Built c refs → ListsAbove p c old new → ListsNews p e old new
+news_above p e c refs old new is above = subst (λ (x : Entry). ListsNews p x old new) (sym is) (record { more = above.more; news = above.above })
+
+-- ---- groups that are woken
+
+pub record WakesFirst (groups : List ℕ) (n : ℕ) (old new : Queued) : Type 0 where
+  pub groups_same : new.groups ≡ old.groups
+  pub ready_same : new.ready ≡ old.ready
+  pub sized : length new.parked ≡ length old.parked
+  pub fewer : (k : ℕ) → get_or new.parked k false ≡ true → get_or old.parked k false ≡ true
+  pub first : (k : ℕ) → k < n → get_or new.parked (get_or groups k 0) false ≡ false
+
+pub wakes_none : (q : Queued) (groups : List ℕ) (n : ℕ) → n ≡ 0 → WakesFirst groups n q q
+wakes_none q groups n is = record { groups_same = refl; ready_same = refl; sized = refl; fewer = λ k up. up; first = λ k lt. absurd (omega (arith, lt, is)) }
+
+-- a group that is put down
+lowered : (row : List Bool) (g k : ℕ) → g < length row → (k ≡ g) × (get_or (set row g false) k false ≡ false) ⊎ (get_or (set row g false) k false ≡ get_or row k false)
+lowered row g k lt = elim (cases_eq k g) [
+  | inl same ↦ inl (same, subst (λ (j : ℕ). get_or (set row g false) j false ≡ false) (sym same) (get_or-set_same row g false false lt))
+  | inr apart ↦ inr (get_or-set_other row g k false false apart)
+]
+
+false_not_true : (b : Bool) → b ≡ false → b ≡ true → ⊥
+false_not_true b no_flag flag = false≢true (sym no_flag ∙ flag)
+
+pub wakes_next : (groups : List ℕ) (n g : ℕ) (old mid new : Queued) → g ≡ get_or groups n 0 → g < length old.parked → new ≡ record mid { parked = set mid.parked g false } → WakesFirst groups n old mid → WakesFirst groups (n + 1) old new
+wakes_next groups n g old mid new at lt is so_far =
+    let sized = so_far.sized in
+    let within : g < length mid.parked = omega (arith, lt, sized) in
+    subst (λ (q : Queued). WakesFirst groups (n + 1) old q) (sym is) (record {
+      groups_same = so_far.groups_same;
+      ready_same = so_far.ready_same;
+      sized = length-set mid.parked g false ∙ so_far.sized;
+      fewer = λ k up. elim (lowered mid.parked g k within) [
+        | inl here ↦ absurd (false_not_true (get_or (set mid.parked g false) k false) here.1 up)
+        | inr same ↦ so_far.fewer k (sym same ∙ up)
+      ];
+      first = λ k before. elim (lowered mid.parked g (get_or groups k 0) within) [
+        | inl here ↦ here.1
+        | inr same ↦ elim (cases_lt k n) [
+          | inl earlier ↦ same ∙ so_far.first k earlier
+          | inr from_on ↦
+              let last : n ≡ k = omega (arith, before, from_on) in
+              let one : g ≡ get_or groups k 0 = at ∙ ap (λ (j : ℕ). get_or groups j 0) last in
+              subst (λ (j : ℕ). get_or (set mid.parked g false) j false ≡ false) one (get_or-set_same mid.parked g false false within)
+        ]
+      ];
+    })
+
+pub wakes_all : (groups : List ℕ) (n : ℕ) (old new : Queued) → length groups ≤ n → WakesFirst groups n old new → Wakes groups old new
+wakes_all groups n old new le so_far = record {
+  groups_same = so_far.groups_same;
+  ready_same = so_far.ready_same;
+  sized = so_far.sized;
+  fewer = so_far.fewer;
+  woken = λ k has.
+      All-contains (λ (x : ℕ). get_or new.parked x false ≡ false) groups k
+      (All-from_get_or (λ (x : ℕ). get_or new.parked x false ≡ false) groups 0 (λ j lt. so_far.first j (omega (arith, lt, le)))) has;
+}
+
+-- ---- the turns after an entry
+
+-- .. which touches no machine
+pub turned_alone : (p : Progress) (e : Entry) (t : Turned) (q : Queued) → ListsNews p e t.queue q → HasTurned p e None t (record { queue = q; kinds = t.kinds })
+turned_alone p e t q news = record {
+  kinds = refl;
+  kept = news.more.kept;
+  listed = news.news;
+  parked = λ n up. ap (λ (xs : List Bool). get_or xs n false) (sym news.more.parked) ∙ up;
+  woken = tt;
+}
+
+-- .. which touches machine m
+pub turned_awake : (p : Progress) (e : Entry) (m : ℕ) (t : Turned) (mid q : Queued) → ListsNews p e t.queue mid → Wakes (users_of t.kinds m) mid q → HasTurned p e (Some m) t (record { queue = q; kinds = t.kinds })
+turned_awake p e m t mid q news wakes = record {
+  kinds = refl;
+  kept = λ d member. subst (λ (xs : List Bool). IsMember xs d) (sym wakes.ready_same) (news.more.kept d member);
+  listed = λ d is ready. subst (λ (xs : List Bool). IsMember xs d) (sym wakes.ready_same) (news.news d is ready);
+  parked = λ n up. ap (λ (xs : List Bool). get_or xs n false) (sym news.more.parked) ∙ wakes.fewer n up;
+  woken = wakes.woken;
+}

@@ -1,13 +1,14 @@
 //! Whose turn it is among the derivations that are ready.
 
-ghost use Rattle.std.specs.Prelude.{◌≡◌, ◌<◌, ℕ, Some, false, true, length, slice_get, slice_set, IfOk};
+ghost use Rattle.std.specs.Prelude.{◌≡◌, ◌<◌, ℕ, All, Some, false, true, length, slice_get, slice_set, IfOk, IfSome};
 ghost use Rattle.nd_kinds.specs.Kinds.{AreKinds, number_of};
-ghost use Rattle.nd_pump.specs.Listing.{IsSized, ListsAlso, ListsTo};
-ghost use Rattle.nd_pump.specs.Turned.{AreListed, IsWhole, is_parked};
+ghost use Rattle.nd_pump.specs.Listing.{IsSized, ListsAlso, ListsTo, ListsEach, ListsAbove, ListsNews, IsNewsWithin, Wakes};
+ghost use Rattle.nd_pump.specs.Turned.{AreListed, IsWhole, HasTurned, is_parked};
 ghost use Rattle.nd_queue.specs.Queues.{IsFirstDue};
 
 use nd_eligible::{Local, Need};
 use nd_failure::Board;
+use nd_history::entry::Entry;
 use nd_kinds::{Kind, Kinds};
 use nd_machines::Machine;
 use nd_queue::Queue;
@@ -55,6 +56,54 @@ fn list_ready(queue: &mut Queue, board: &Board, len: usize)
 {
     for drv in 0..len {
         list_if_ready(queue, board, drv);
+    }
+}
+
+/// Lists each of these derivations that is ready on the board.
+#[tactic(auto, using(crate::proofs::Listing::first_none, crate::proofs::Listing::first_next, crate::proofs::Listing::first_all, crate::proofs::Listing::sized_still))]
+fn list_each(queue: &mut Queue, board: &Board, drvs: &[usize])
+    requires within { All (λ d. d < length board.now.inputs) drvs.now }
+    requires sized { IsSized board.now queue.old }
+    ensures { ListsEach board.now drvs.now queue.old queue.new }
+{
+    for drv in drvs {
+        list_if_ready(queue, board, *drv);
+    }
+}
+
+/// Lists each derivation that is ready on the board and has `drv` among its inputs.
+#[tactic(auto, using(crate::proofs::Listing::each_above, nd_failure::proofs::SpreadFacts::dependants_within))]
+fn list_above(queue: &mut Queue, board: &Board, drv: usize)
+    requires node { drv < length board.now.inputs }
+    requires sized { IsSized board.now queue.old }
+    ensures { ListsAbove board.now drv queue.old queue.new }
+{
+    list_each(queue, board, board.edges().dependants(drv));
+}
+
+/// Lists what an entry made ready, which the board has followed.
+#[tactic(auto, using(crate::proofs::Listing::news_here, crate::proofs::Listing::news_above, crate::proofs::Listing::more_none))]
+fn list_news(queue: &mut Queue, board: &Board, entry: &Entry)
+    requires within { IsNewsWithin (length board.now.inputs) entry.now }
+    requires sized { IsSized board.now queue.old }
+    ensures { ListsNews board.now entry.now queue.old queue.new }
+{
+    match entry {
+        Entry::Down { drv } => list_if_ready(queue, board, *drv as usize),
+        Entry::Built { drv, .. } => list_above(queue, board, *drv as usize),
+        Entry::Chosen { .. } | Entry::NoBuilder { .. } | Entry::Started { .. } => {}
+        Entry::Failed { .. } | Entry::Stop | Entry::Drain { .. } | Entry::Enable { .. } => {}
+    }
+}
+
+/// Wakes these groups.
+#[tactic(auto, using(crate::proofs::Listing::wakes_none, crate::proofs::Listing::wakes_next, crate::proofs::Listing::wakes_all))]
+fn wake_all(queue: &mut Queue, groups: &[usize])
+    requires { All (λ n. n < length queue.old.parked) groups.now }
+    ensures { Wakes groups.now queue.old queue.new }
+{
+    for group in groups {
+        queue.wake(*group);
     }
 }
 
@@ -113,5 +162,20 @@ impl Turns {
     {
         let number = self.queue.group(drv);
         self.queue.park(number);
+    }
+
+    /// Follows one more entry, which the board has followed: what it made ready is listed, and no kind
+    /// that may use `machine`, which it touches, is passed over. It takes no memory.
+    #[tactic(auto, using(crate::proofs::Listing::turned_awake, crate::proofs::Listing::turned_alone))]
+    pub fn follow(&mut self, board: &Board, entry: &Entry, machine: Option<u32>)
+        requires board { length board.now.inputs ≡ length self.old.kinds.numbers }
+        requires within { IsNewsWithin (length board.now.inputs) entry.now }
+        requires machine { IfSome machine (λ m. m < length self.old.kinds.users) }
+        ensures { HasTurned board.now entry.now machine self.old self.new }
+    {
+        list_news(&mut self.queue, board, entry);
+        if let Some(machine) = machine {
+            wake_all(&mut self.queue, self.kinds.users(machine as usize));
+        }
     }
 }
