@@ -1,3 +1,6 @@
 pub mod Waiting
 pub mod Listing
 pub mod Taking
+pub mod News
+pub mod Steady
+pub mod Following

@@ -171,7 +171,8 @@ impl Turns {
         requires board { length board.now.inputs ≡ length self.old.kinds.numbers }
         requires within { IsNewsWithin (length board.now.inputs) entry.now }
         requires machine { IfSome machine (λ m. m < length self.old.kinds.users) }
-        ensures { HasTurned board.now entry.now machine self.old self.new }
+        ensures turned { HasTurned board.now entry.now machine self.old self.new }
+        ensures whole { IsWhole self.new }
     {
         list_news(&mut self.queue, board, entry);
         if let Some(machine) = machine {
