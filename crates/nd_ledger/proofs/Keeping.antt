@@ -1,7 +1,8 @@
 -- What a dispatch holds stays so when an allowed entry is recorded.
-use Rattle.std.proofs.Common.{◌≡◌, ℕ, ◌+◌, ◌<◌, ◌≤◌, Bool, true, false, not, ◌==◌, ◌||◌, cond, if◌then◌else◌, List, [], ◌∷◌, ◌++◌, length, reverse, refl, sym, ap, ◌∙◌, subst, arith, Some}
+use Rattle.std.proofs.Common.{◌≡◌, ℕ, ◌+◌, ◌<◌, ◌≤◌, Bool, true, false, not, ◌==◌, ◌||◌, cond, if◌then◌else◌, List, [], ◌∷◌, ◌++◌, length, reverse, refl, sym, ap, ◌∙◌, subst, arith, Option, None, Some}
 use Rattle.std.proofs.lemmas.Grind.{common_steps}
 use Rattle.std.specs.List.{list_any, filter, find}
+use Rattle.std.specs.Option.{option_map, IfSome}
 use Rattle.nd_ledger.specs.declared.dispatch.Dispatch.TheInside.{Inside}
 use Rattle.nd_history.specs.declared.entry.Entry.{Entry}
 use Rattle.nd_history.specs.declared.entry.Entry.TheVariants.{Chosen, NoBuilder, Started, Down, Built, Failed, Stop, Drain, Enable}
@@ -20,28 +21,38 @@ use Rattle.nd_history.specs.Fitting.{FitTogether}
 use Rattle.nd_provision.specs.Stored.{Stored, AreStored, is_quiet, IsSameStored, HasTaken}
 use Rattle.nd_provision.specs.declared.copying.Additions.{Additions}
 use Rattle.nd_history.specs.Pumping.{step_drv}
-use Rattle.nd_ledger.specs.Moves.{IsRoomier, IsStepRecorded, IsReadyToStart, IsReadyToEnd}
+use Rattle.nd_ledger.specs.Moves.{IsRoomier, IsStepRecorded, CanTurn, IsReadyToStart, IsReadyToEnd}
 use Rattle.nd_ledger.specs.Inner.{IsKept, room_for}
 use Rattle.nd_history.specs.Marks.{AreMarked, board_after}
+use Rattle.nd_history.specs.Choices.{machines_in}
+use Rattle.nd_history.specs.Legal.{IsInRange}
+use Rattle.nd_kinds.specs.Kinds.{AreKinds}
+use Rattle.nd_pump.specs.Turned.{Turned, AreTurns, AreListed, HasTurned, IsWhole, is_parked, touched}
+use Rattle.nd_pump.specs.Listing.{IsNewsWithin}
+use Rattle.nd_pump.proofs.Following.{turned_after, turns_fresh}
+use Rattle.nd_pump.proofs.Taking.{drvs_needs}
 use Rattle.nd_history.proofs.Following.{newest_first}
-use Rattle.nd_history.proofs.Legality.{leased_ranged}
+use Rattle.nd_history.proofs.Legality.{leased_ranged, allowed_at}
+use Rattle.nd_history.proofs.Headline.{chosen_in}
 use Rattle.nd_history.proofs.Slots.{load_within}
 use Rattle.nd_history.proofs.Boards.{leased_marked}
 use Rattle.nd_history.proofs.Marking.{followed}
 use Rattle.nd_provision.proofs.Storing.{stored_quiet, stored_same, stored_start, stored_built}
 
 -- one more entry in the book and on the board
-pub record IsRecorded (old new : Recorded) (was now : Progress) (e : Entry) : Type 0 where
+pub record IsRecorded (old new : Recorded) (was now : Progress) (before after : Turned) (e : Entry) : Type 0 where
   pub entries : new.entries ≡ old.entries ++ e ∷ []
   pub room : old.room ≤ new.room + 1
   pub drvs : new.drvs ≡ old.drvs
   pub machines : new.machines ≡ old.machines
   pub board : now ≡ board_after was e
+  pub turned : HasTurned (board_after was e) e (touched e (reverse old.entries)) before after
+  pub whole : IsWhole after
 
 -- .. with what is kept of references and holdings after it
-pub kept_with : (d : Inside) (book : Recorded) (board : Progress) (stores : Stored) (e : Entry) → IsRecorded d.book book d.board board e → IsKept d → IsAllowed (premises_of d.inputs) e (reverse d.book.entries) → room_for (e ∷ reverse d.book.entries) + 1 ≤ d.book.room
-    → AreStored (premises_of d.inputs) (e ∷ reverse d.book.entries) stores → IsKept (record d { book = book; board = board; stores = stores })
-kept_with d book board stores e rec was allowed room stored =
+pub kept_with : (d : Inside) (book : Recorded) (board : Progress) (turns : Turned) (stores : Stored) (e : Entry) → IsRecorded d.book book d.board board d.turns turns e → IsKept d → IsAllowed (premises_of d.inputs) e (reverse d.book.entries) → room_for (e ∷ reverse d.book.entries) + 1 ≤ d.book.room
+    → AreStored (premises_of d.inputs) (e ∷ reverse d.book.entries) stores → IsKept (record d { book = book; board = board; turns = turns; stores = stores })
+kept_with d book board turns stores e rec was allowed room stored =
     let turned : reverse book.entries ≡ e ∷ reverse d.book.entries = newest_first d.book.entries book.entries e rec.entries in
     let P : List Entry → Type 0 = λ past. IsLegal (premises_of d.inputs) past in
     let Q : List Entry → Type 0 = λ past. room_for past ≤ book.room in
@@ -58,11 +69,16 @@ kept_with d book board stores e rec was allowed room stored =
       small = was.small;
       stores = subst R (sym turned) stored;
       marked = subst S (sym turned) (subst T (sym rec.board) (followed (premises_of d.inputs) (reverse d.book.entries) d.board e was.legal was.marked allowed));
+      turns = (
+          let U : List Entry → Type 0 = λ past. AreTurns (premises_of d.inputs) past board turns in
+          let V : Progress → Type 0 = λ p. AreTurns (premises_of d.inputs) (e ∷ reverse d.book.entries) p turns in
+          subst U (sym turned) (subst V (sym rec.board) (turned_after (premises_of d.inputs) (reverse d.book.entries) d.board d.turns turns e was.legal was.marked allowed was.turns rec.turned rec.whole))
+          );
     }
 
 -- .. which an entry that is no start and no build leaves as it was
-pub kept : (d : Inside) (book : Recorded) (board : Progress) (e : Entry) → IsRecorded d.book book d.board board e → IsKept d → IsAllowed (premises_of d.inputs) e (reverse d.book.entries) → room_for (e ∷ reverse d.book.entries) + 1 ≤ d.book.room → is_quiet e ≡ true → IsKept (record d { book = book; board = board })
-kept d book board e rec was allowed room quiet = kept_with d book board d.stores e rec was allowed room (stored_quiet (premises_of d.inputs) (reverse d.book.entries) e d.stores quiet was.stores)
+pub kept : (d : Inside) (book : Recorded) (board : Progress) (turns : Turned) (e : Entry) → IsRecorded d.book book d.board board d.turns turns e → IsKept d → IsAllowed (premises_of d.inputs) e (reverse d.book.entries) → room_for (e ∷ reverse d.book.entries) + 1 ≤ d.book.room → is_quiet e ≡ true → IsKept (record d { book = book; board = board; turns = turns })
+kept d book board turns e rec was allowed room quiet = kept_with d book board turns d.stores e rec was allowed room (stored_quiet (premises_of d.inputs) (reverse d.book.entries) e d.stores quiet was.stores)
 
 -- ---- leases that are found
 
@@ -94,30 +110,30 @@ fewer d (t ∷ leases) h = fewer_step d t leases (d == t.drv) h (fewer d leases)
 
 -- ---- the entries that end leases, and a stop
 
-pub kept_failed : (d : Inside) (book : Recorded) (board : Progress) (t : Ticket) (e : Entry) (why : Why) → e ≡ Failed t.drv why → IsRecorded d.book book d.board board e → IsKept d → lease_of t.drv (reverse d.book.entries) ≡ Some t → IsKept (record d { book = book; board = board })
-kept_failed d book board t e why is rec was found =
+pub kept_failed : (d : Inside) (book : Recorded) (board : Progress) (turns : Turned) (t : Ticket) (e : Entry) (why : Why) → e ≡ Failed t.drv why → IsRecorded d.book book d.board board d.turns turns e → IsKept d → lease_of t.drv (reverse d.book.entries) ≡ Some t → IsKept (record d { book = book; board = board; turns = turns })
+kept_failed d book board turns t e why is rec was found =
     let past = reverse d.book.entries in
     let leased = found_leased t.drv past t found in
-    let P : Entry → Type 0 = λ e. IsRecorded d.book book d.board board e in
-    kept d book board (Failed t.drv why) (subst P is rec) was
+    let P : Entry → Type 0 = λ e. IsRecorded d.book book d.board board d.turns turns e in
+    kept d book board turns (Failed t.drv why) (subst P is rec) was
     (record { ranged = leased_ranged (premises_of d.inputs) past was.legal t.drv leased; may = leased })
     (let less = fewer t.drv (live past) leased in let room = was.room in omega arith) refl
 
-pub kept_down : (d : Inside) (book : Recorded) (board : Progress) (t : Ticket) (e : Entry) → e ≡ Down t.drv → IsRecorded d.book book d.board board e → IsKept d → lease_of t.drv (reverse d.book.entries) ≡ Some t → is_started t.drv (reverse d.book.entries) ≡ false → IsKept (record d { book = book; board = board })
-kept_down d book board t e is rec was found fresh =
+pub kept_down : (d : Inside) (book : Recorded) (board : Progress) (turns : Turned) (t : Ticket) (e : Entry) → e ≡ Down t.drv → IsRecorded d.book book d.board board d.turns turns e → IsKept d → lease_of t.drv (reverse d.book.entries) ≡ Some t → is_started t.drv (reverse d.book.entries) ≡ false → IsKept (record d { book = book; board = board; turns = turns })
+kept_down d book board turns t e is rec was found fresh =
     let past = reverse d.book.entries in
     let leased = found_leased t.drv past t found in
-    let P : Entry → Type 0 = λ e. IsRecorded d.book book d.board board e in
-    kept d book board (Down t.drv) (subst P is rec) was
+    let P : Entry → Type 0 = λ e. IsRecorded d.book book d.board board d.turns turns e in
+    kept d book board turns (Down t.drv) (subst P is rec) was
     (record { ranged = leased_ranged (premises_of d.inputs) past was.legal t.drv leased; may = record { live = leased; fresh = fresh } })
     (let less = fewer t.drv (live past) leased in let room = was.room in omega arith) refl
 
 stop_room : (past : List Entry) (n : ℕ) → has_stop past ≡ false → room_for past ≤ n → room_for (Stop ∷ past) + 1 ≤ n
 stop_room past n none room = let at = rw none at room in omega arith
 
-pub kept_stop : (d : Inside) (book : Recorded) (board : Progress) → IsRecorded d.book book d.board board Stop → IsKept d → has_stop (reverse d.book.entries) ≡ false → IsKept (record d { book = book; board = board })
-kept_stop d book board rec was none =
-    kept d book board Stop rec was (record { ranged = tt; may = none }) (stop_room (reverse d.book.entries) d.book.room none was.room) refl
+pub kept_stop : (d : Inside) (book : Recorded) (board : Progress) (turns : Turned) → IsRecorded d.book book d.board board d.turns turns Stop → IsKept d → has_stop (reverse d.book.entries) ≡ false → IsKept (record d { book = book; board = board; turns = turns })
+kept_stop d book board turns rec was none =
+    kept d book board turns Stop rec was (record { ranged = tt; may = none }) (stop_room (reverse d.book.entries) d.book.room none was.room) refl
 
 -- ---- entries that end no lease, for which room was made
 
@@ -148,27 +164,28 @@ kept_room d book n more was =
       small = was.small;
       stores = (let R : List Entry → Type 0 = λ es. AreStored (premises_of d.inputs) (reverse es) d.stores in subst R (sym more.entries) was.stores);
       marked = (let S : List Entry → Type 0 = λ es. AreMarked (premises_of d.inputs) (reverse es) d.board in subst S (sym more.entries) was.marked);
+      turns = (let U : List Entry → Type 0 = λ es. AreTurns (premises_of d.inputs) (reverse es) d.board d.turns in subst U (sym more.entries) was.turns);
     }
 
 -- an entry is recorded where room was made for it, a stop and all leases
-pub kept_more_with : (d : Inside) (roomy book : Recorded) (board : Progress) (stores : Stored) (e : Entry) (n : ℕ) → HasRoom d.book roomy (length (live (reverse d.book.entries)) + n + 2) → IsRecorded roomy book d.board board e → IsKept d → IsAllowed (premises_of d.inputs) e (reverse d.book.entries)
-    → length (live (e ∷ reverse d.book.entries)) ≤ length (live (reverse d.book.entries)) + n → AreStored (premises_of d.inputs) (e ∷ reverse d.book.entries) stores → IsKept (record d { book = book; board = board; stores = stores })
-kept_more_with d roomy book board stores e n more rec was allowed few stored =
+pub kept_more_with : (d : Inside) (roomy book : Recorded) (board : Progress) (turns : Turned) (stores : Stored) (e : Entry) (n : ℕ) → HasRoom d.book roomy (length (live (reverse d.book.entries)) + n + 2) → IsRecorded roomy book d.board board d.turns turns e → IsKept d → IsAllowed (premises_of d.inputs) e (reverse d.book.entries)
+    → length (live (e ∷ reverse d.book.entries)) ≤ length (live (reverse d.book.entries)) + n → AreStored (premises_of d.inputs) (e ∷ reverse d.book.entries) stores → IsKept (record d { book = book; board = board; turns = turns; stores = stores })
+kept_more_with d roomy book board turns stores e n more rec was allowed few stored =
     let P : List Entry → Type 0 = λ es. IsAllowed (premises_of d.inputs) e (reverse es) in
     let Q : List Entry → Type 0 = λ es. room_for (e ∷ reverse es) + 1 ≤ roomy.room in
     let R : List Entry → Type 0 = λ es. AreStored (premises_of d.inputs) (e ∷ reverse es) stores in
     let bit = stop_bit (has_stop (e ∷ reverse d.book.entries)) in
     let had = more.more in
-    kept_with (record d { book = roomy }) book board stores e rec (kept_room d roomy (length (live (reverse d.book.entries)) + n + 2) more was)
+    kept_with (record d { book = roomy }) book board turns stores e rec (kept_room d roomy (length (live (reverse d.book.entries)) + n + 2) more was)
     (subst P (sym more.entries) allowed)
     (subst Q (sym more.entries) (omega arith))
     (subst R (sym more.entries) stored)
 
 -- an entry that is no start and no build, and makes no more than one lease
-pub kept_more : (d : Inside) (roomy book : Recorded) (board : Progress) (e : Entry) (n : ℕ) → HasRoom d.book roomy (length (live (reverse d.book.entries)) + n + 2) → IsRecorded roomy book d.board board e → IsKept d → IsAllowed (premises_of d.inputs) e (reverse d.book.entries)
-    → length (live (e ∷ reverse d.book.entries)) ≤ length (live (reverse d.book.entries)) + n → is_quiet e ≡ true → IsKept (record d { book = book; board = board })
-kept_more d roomy book board e n more rec was allowed few quiet =
-    kept_more_with d roomy book board d.stores e n more rec was allowed few (stored_quiet (premises_of d.inputs) (reverse d.book.entries) e d.stores quiet was.stores)
+pub kept_more : (d : Inside) (roomy book : Recorded) (board : Progress) (turns : Turned) (e : Entry) (n : ℕ) → HasRoom d.book roomy (length (live (reverse d.book.entries)) + n + 2) → IsRecorded roomy book d.board board d.turns turns e → IsKept d → IsAllowed (premises_of d.inputs) e (reverse d.book.entries)
+    → length (live (e ∷ reverse d.book.entries)) ≤ length (live (reverse d.book.entries)) + n → is_quiet e ≡ true → IsKept (record d { book = book; board = board; turns = turns })
+kept_more d roomy book board turns e n more rec was allowed few quiet =
+    kept_more_with d roomy book board turns d.stores e n more rec was allowed few (stored_quiet (premises_of d.inputs) (reverse d.book.entries) e d.stores quiet was.stores)
 
 -- the load of a machine is a small number
 pub small_load : (d : Inside) → IsKept d → (m : ℕ) → load m (reverse d.book.entries) ≤ 65535
@@ -205,13 +222,13 @@ step_quiet (Built c refs) d h = cc
 step_quiet e d h = refl
 
 -- a step is recorded
-pub kept_step : (d : Inside) (book : Recorded) (board : Progress) (e : Entry) → IsStepRecorded d.book book d.board board e → IsKept d → IsAllowed (premises_of d.inputs) e (reverse d.book.entries) → is_quiet e ≡ true → IsKept (record d { book = book; board = board })
-kept_step d book board e rec was allowed quiet =
+pub kept_step : (d : Inside) (book : Recorded) (board : Progress) (turns : Turned) (e : Entry) → IsStepRecorded d.book book d.board board d.turns turns e → IsKept d → IsAllowed (premises_of d.inputs) e (reverse d.book.entries) → is_quiet e ≡ true → IsKept (record d { book = book; board = board; turns = turns })
+kept_step d book board turns e rec was allowed quiet =
     let had = rec.room in
     let roomy : Recorded = record { entries = d.book.entries; room = book.room + 1; drvs = book.drvs; machines = book.machines; rooms = book.rooms } in
-    kept_more d roomy book board e 1
+    kept_more d roomy book board turns e 1
     (record { entries = refl; drvs = rec.drvs; machines = rec.machines; room = rec.kept; more = omega arith })
-    (record { entries = rec.entries; room = omega arith; drvs = refl; machines = refl; board = rec.board })
+    (record { entries = rec.entries; room = omega arith; drvs = refl; machines = refl; board = rec.board; turned = rec.turned; whole = rec.whole })
     was allowed (live_grows (reverse d.book.entries) e) quiet
 
 -- what was kept with other room for references and holdings is kept
@@ -226,34 +243,35 @@ kept_stores d stores same was = record {
   small = was.small;
   stores = stored_same (premises_of d.inputs) (reverse d.book.entries) d.stores stores same was.stores;
   marked = was.marked;
+  turns = was.turns;
 }
 
 -- ---- starts, and builds that end
 
-pub kept_started : (d : Inside) (roomy book : Recorded) (board : Progress) (mid new : Stored) (t : Ticket) (paths : List (List ℕ)) (a : Additions) (e : Entry) → e ≡ Started t.drv paths → IsRoomier d.book roomy → IsRecorded roomy book d.board board e → IsKept d → IsSameStored d.stores mid
-    → IsReadyToStart (premises_of d.inputs) (reverse d.book.entries) t paths roomy mid a → HasTaken mid new a → IsKept (record d { book = book; board = board; stores = new })
-kept_started d roomy book board mid new t paths a e is more rec was same ready took =
+pub kept_started : (d : Inside) (roomy book : Recorded) (board : Progress) (turns : Turned) (mid new : Stored) (t : Ticket) (paths : List (List ℕ)) (a : Additions) (e : Entry) → e ≡ Started t.drv paths → IsRoomier d.book roomy → IsRecorded roomy book d.board board d.turns turns e → IsKept d → IsSameStored d.stores mid
+    → IsReadyToStart (premises_of d.inputs) (reverse d.book.entries) t paths roomy mid a → HasTaken mid new a → IsKept (record d { book = book; board = board; turns = turns; stores = new })
+kept_started d roomy book board turns mid new t paths a e is more rec was same ready took =
     let i = premises_of d.inputs in
     let past = reverse d.book.entries in
-    let P : Entry → Type 0 = λ e. IsRecorded roomy book d.board board e in
+    let P : Entry → Type 0 = λ e. IsRecorded roomy book d.board board d.turns turns e in
     let leased = found_leased t.drv past t ready.live in
     let had = ready.room in
-    kept_more_with d roomy book board new (Started t.drv paths) 0
+    kept_more_with d roomy book board turns new (Started t.drv paths) 0
     (record { entries = more.entries; drvs = more.drvs; machines = more.machines; room = more.room; more = omega arith })
     (subst P is rec) was
     (record { ranged = leased_ranged i past was.legal t.drv leased; may = record { ticket = t; live = ready.live; fresh = ready.fresh; right = ready.right } })
     (omega arith)
     (stored_start i past t.drv t paths mid new a was.legal ready.live (stored_same i past d.stores mid same was.stores) ready.adds took)
 
-pub kept_built : (d : Inside) (book : Recorded) (board : Progress) (mid new : Stored) (t : Ticket) (refs : List (List (List ℕ))) (a : Additions) (e : Entry) → e ≡ Built t.drv refs → IsRecorded d.book book d.board board e → IsKept d → IsSameStored d.stores mid
-    → IsReadyToEnd (premises_of d.inputs) (reverse d.book.entries) t refs mid a → HasTaken mid new a → IsKept (record d { book = book; board = board; stores = new })
-kept_built d book board mid new t refs a e is rec was same ready took =
+pub kept_built : (d : Inside) (book : Recorded) (board : Progress) (turns : Turned) (mid new : Stored) (t : Ticket) (refs : List (List (List ℕ))) (a : Additions) (e : Entry) → e ≡ Built t.drv refs → IsRecorded d.book book d.board board d.turns turns e → IsKept d → IsSameStored d.stores mid
+    → IsReadyToEnd (premises_of d.inputs) (reverse d.book.entries) t refs mid a → HasTaken mid new a → IsKept (record d { book = book; board = board; turns = turns; stores = new })
+kept_built d book board turns mid new t refs a e is rec was same ready took =
     let i = premises_of d.inputs in
     let past = reverse d.book.entries in
-    let P : Entry → Type 0 = λ e. IsRecorded d.book book d.board board e in
+    let P : Entry → Type 0 = λ e. IsRecorded d.book book d.board board d.turns turns e in
     let leased = found_leased t.drv past t ready.live in
     let allowed : IsAllowed i (Built t.drv refs) past = record { ranged = leased_ranged i past was.legal t.drv leased; may = record { live = leased; started = ready.started; right = ready.right } } in
-    kept_with d book board new (Built t.drv refs) (subst P is rec) was allowed
+    kept_with d book board turns new (Built t.drv refs) (subst P is rec) was allowed
     (let less = fewer t.drv (live past) leased in let room = was.room in omega arith)
     (stored_built i past t.drv t refs mid new a (allowed, was.legal) ready.live (stored_same i past d.stores mid same was.stores) ready.adds took)
 
@@ -268,6 +286,10 @@ pub record IsCopy (d copy : Inside) : Type 0 where
   pub room : length (live (reverse d.book.entries)) + 1 ≤ copy.book.room
   pub stores : IsSameStored d.stores copy.stores
   pub board : copy.board ≡ d.board
+  pub whole : IsWhole copy.turns
+  pub kinds : AreKinds copy.inputs.machines copy.inputs.local copy.inputs.graph.needs copy.turns.kinds
+  pub listed : AreListed copy.board copy.turns.queue
+  pub none : (n : ℕ) → is_parked copy.turns n ≡ false
 
 -- a copy holds what the original holds
 pub kept_copy : (d copy : Inside) → IsCopy d copy → IsKept d → IsKept copy
@@ -295,9 +317,78 @@ kept_copy d copy same was =
       small = subst AreSmall (sym same.inputs) was.small;
       stores = subst StoresAfter (sym same.entries) (subst Stores (sym same.inputs) stored);
       marked = subst MarkedAfter (sym same.entries) (subst BoardAfter (sym same.board) (subst Marked (sym same.inputs) was.marked));
+      turns = turns_fresh (premises_of copy.inputs) (reverse copy.book.entries) copy.board copy.turns same.whole same.kinds same.listed same.none;
     }
 
 -- a derivation whose lease is found is leased on the board
 pub found_marked : (d : Inside) → IsKept d → (t : Ticket) → lease_of t.drv (reverse d.book.entries) ≡ Some t → IsLeased d.board t.drv
 found_marked d was t found =
     leased_marked (premises_of d.inputs) (reverse d.book.entries) d.board was.legal was.marked t.drv (found_leased t.drv (reverse d.book.entries) t found)
+
+-- ---- turns
+
+-- other turns of the same history
+pub kept_turns : (d : Inside) (turns : Turned) → AreTurns (premises_of d.inputs) (reverse d.book.entries) d.board turns → IsKept d → IsKept (record d { turns = turns })
+kept_turns d turns are was = record {
+  legal = was.legal;
+  room = was.room;
+  sound = was.sound;
+  drvs = was.drvs;
+  park = was.park;
+  few = was.few;
+  small = was.small;
+  stores = was.stores;
+  marked = was.marked;
+  turns = are;
+}
+
+machine_ranged : (n : ℕ) (o : Option Ticket) → ((t : Ticket) → o ≡ Some t → t.machine < n) → IfSome (option_map (λ (t : Ticket). t.machine) o) (λ m. m < n)
+machine_ranged n None h = tt
+machine_ranged n (Some t) h = h t refl
+
+lease_machine : (i : Premises) (past : List Entry) (n d : ℕ) (t : Ticket) → n ≡ machines_in i → IsLegal i past → lease_of d past ≡ Some t → t.machine < n
+lease_machine i past n d t is legal found =
+    let chosen = chosen_in past (λ (u : Ticket). d == u.drv) t found in
+    let ranged : t.machine < machines_in i = (allowed_at i chosen.later chosen.before past (Chosen t.drv t.machine t.slot) chosen.place legal).0.ranged.1 in
+    omega (arith, is, ranged)
+
+touched_ranged : (i : Premises) (past : List Entry) (n : ℕ) (e : Entry) → n ≡ machines_in i → IsLegal i past → IsInRange i e → IfSome (touched e past) (λ m. m < n)
+touched_ranged i past n (Chosen d m s) is legal ranged = tt
+touched_ranged i past n (NoBuilder d) is legal ranged = tt
+touched_ranged i past n (Started d paths) is legal ranged = tt
+touched_ranged i past n (Down d) is legal ranged = machine_ranged n (lease_of d past) (λ t found. lease_machine i past n d t is legal found)
+touched_ranged i past n (Built d refs) is legal ranged = machine_ranged n (lease_of d past) (λ t found. lease_machine i past n d t is legal found)
+touched_ranged i past n (Failed d why) is legal ranged = machine_ranged n (lease_of d past) (λ t found. lease_machine i past n d t is legal found)
+touched_ranged i past n Stop is legal ranged = tt
+touched_ranged i past n (Drain m) is legal ranged = omega (arith, is, ranged)
+touched_ranged i past n (Enable m) is legal ranged = omega (arith, is, ranged)
+
+news_within : (i : Premises) (n : ℕ) (e : Entry) → n ≡ drvs_in i → IsInRange i e → IsNewsWithin n e
+news_within i n (Chosen d m s) is ranged = tt
+news_within i n (NoBuilder d) is ranged = tt
+news_within i n (Started d paths) is ranged = tt
+news_within i n (Down d) is ranged = omega (arith, is, ranged)
+news_within i n (Built d refs) is ranged = omega (arith, is, ranged)
+news_within i n (Failed d why) is ranged = tt
+news_within i n Stop is ranged = tt
+news_within i n (Drain m) is ranged = tt
+news_within i n (Enable m) is ranged = tt
+
+-- the turns can follow what is allowed
+pub can_turn : (d : Inside) (e : Entry) → IsKept d → IsAllowed (premises_of d.inputs) e (reverse d.book.entries) → CanTurn d.book d.board d.turns e
+can_turn d e was allowed =
+    let i = premises_of d.inputs in
+    let rows : length d.board.inputs ≡ drvs_in i = ap length was.marked.inputs in
+    record {
+      sized = rows ∙ (sym (drvs_needs i was.sound) ∙ sym was.turns.kinds.sized);
+      within = news_within i (length d.board.inputs) e rows allowed.ranged;
+      machine = touched_ranged i (reverse d.book.entries) (length d.turns.kinds.users) e was.turns.kinds.park was.legal allowed.ranged;
+    }
+
+-- .. over a book with the same entries
+pub same_turn : (old new : Recorded) (board : Progress) (turns : Turned) (e : Entry) → new.entries ≡ old.entries → CanTurn old board turns e → CanTurn new board turns e
+same_turn old new board turns e same can = record {
+  sized = can.sized;
+  within = can.within;
+  machine = subst (λ (es : List Entry). IfSome (touched e (reverse es)) (λ m. m < length turns.kinds.users)) (sym same) can.machine;
+}

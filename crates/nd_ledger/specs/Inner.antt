@@ -11,6 +11,7 @@ use Rattle.nd_history.specs.Choices.{AreSmall}
 use Rattle.nd_history.specs.Legal.{IsLegal}
 use Rattle.nd_provision.specs.Stored.{AreStored}
 use Rattle.nd_history.specs.Marks.{AreMarked}
+use Rattle.nd_pump.specs.Turned.{AreTurns}
 
 abbrev pub seen : Inside → World
 seen d = record { inputs = premises_of d.inputs; history = d.book.entries }
@@ -34,3 +35,5 @@ pub record IsKept (d : Inside) : Type 0 where
   pub stores : AreStored (premises_of d.inputs) (reverse d.book.entries) d.stores
   -- the board follows the history
   pub marked : AreMarked (premises_of d.inputs) (reverse d.book.entries) d.board
+  -- the turns follow the history and the board
+  pub turns : AreTurns (premises_of d.inputs) (reverse d.book.entries) d.board d.turns

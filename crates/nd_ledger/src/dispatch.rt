@@ -35,12 +35,12 @@ use nd_history::deciding::reply_now;
 use nd_history::entry::{Entry, Why};
 use nd_history::inputs::{Inputs, Parts};
 use nd_history::rule::Rule;
-use nd_history::stepping::next_step;
 use nd_hook::Reply;
 use nd_leases::Ticket;
 use nd_machines::Machine;
 use nd_path::PathSet;
 use nd_provision::stores::Stores;
+use nd_pump::{Turns, next_step};
 use std::alloc::{AllocError, Global};
 use std::marker::Model;
 
@@ -52,6 +52,7 @@ pub struct Dispatch {
     book: Book,
     board: Board,
     stores: Stores,
+    turns: Turns,
 }
 
 impl Model for Dispatch {
@@ -81,8 +82,8 @@ impl Dispatch {
         ensures err { OnErr result (HasPumped self.old.inputs self.old.history self.new.history) }
     {
         let before = self.book.entries().len();
-        while let Some(step) = next_step(&self.inputs, &self.book, &self.board) {
-            record_step(&mut self.book, &mut self.board, step)?;
+        while let Some(step) = next_step(&self.inputs, &self.book, &self.board, &mut self.turns) {
+            record_step(&mut self.book, &mut self.board, &mut self.turns, step)?;
         }
         let _order = self.inputs.graph.order();
         Ok(self.book.entries().len() - before)
@@ -119,6 +120,7 @@ impl Dispatch {
                 enter(
                     &mut self.book,
                     &mut self.board,
+                    &mut self.turns,
                     Entry::Started {
                         drv: ticket.drv,
                         paths,
@@ -157,6 +159,7 @@ impl Dispatch {
                 enter(
                     &mut self.book,
                     &mut self.board,
+                    &mut self.turns,
                     Entry::Built {
                         drv: ticket.drv,
                         refs,
@@ -231,6 +234,7 @@ impl Dispatch {
         enter(
             &mut self.book,
             &mut self.board,
+            &mut self.turns,
             Entry::Failed {
                 drv: ticket.drv,
                 why,
@@ -261,6 +265,7 @@ impl Dispatch {
         enter(
             &mut self.book,
             &mut self.board,
+            &mut self.turns,
             Entry::Down { drv: ticket.drv },
         );
         Ok(())
@@ -279,7 +284,12 @@ impl Dispatch {
         if self.board.has_stop() {
             return Err(Refusal::AlreadyStopped);
         }
-        enter(&mut self.book, &mut self.board, Entry::Stop);
+        enter(
+            &mut self.book,
+            &mut self.board,
+            &mut self.turns,
+            Entry::Stop,
+        );
         Ok(())
     }
 
@@ -292,7 +302,12 @@ impl Dispatch {
     {
         let room = self.book.live_len() + 2;
         self.book.make_room(room)?;
-        enter(&mut self.book, &mut self.board, Entry::Drain { machine });
+        enter(
+            &mut self.book,
+            &mut self.board,
+            &mut self.turns,
+            Entry::Drain { machine },
+        );
         Ok(())
     }
 
@@ -305,7 +320,12 @@ impl Dispatch {
     {
         let room = self.book.live_len() + 2;
         self.book.make_room(room)?;
-        enter(&mut self.book, &mut self.board, Entry::Enable { machine });
+        enter(
+            &mut self.book,
+            &mut self.board,
+            &mut self.turns,
+            Entry::Enable { machine },
+        );
         Ok(())
     }
 
@@ -367,6 +387,7 @@ impl Dispatch {
         record_step(
             &mut self.book,
             &mut self.board,
+            &mut self.turns,
             Entry::Chosen { drv, machine, slot },
         )?;
         Ok(())
@@ -382,7 +403,12 @@ impl Dispatch {
         if let Err(rule) = check_no_builder(&self.inputs, &self.book, &self.board, drv) {
             return Err(AdmitError::Illegal(rule));
         }
-        record_step(&mut self.book, &mut self.board, Entry::NoBuilder { drv })?;
+        record_step(
+            &mut self.book,
+            &mut self.board,
+            &mut self.turns,
+            Entry::NoBuilder { drv },
+        )?;
         Ok(())
     }
 
@@ -514,6 +540,15 @@ impl Dispatch {
         let Ok(stores) = Stores::new(alloc, &parts.graph, builders, &parts.info) else {
             return Err(parts);
         };
+        let Ok(turns) = Turns::new(
+            alloc,
+            parts.machines.as_slice(),
+            &parts.local,
+            parts.graph.needs(),
+            &board,
+        ) else {
+            return Err(parts);
+        };
         learn_jobs(parts.machines.as_slice(), &parts.local);
         Ok(Dispatch {
             inputs: Inputs {
@@ -526,6 +561,7 @@ impl Dispatch {
             book,
             board,
             stores,
+            turns,
         })
     }
 
@@ -550,11 +586,25 @@ impl Dispatch {
             drop(stores);
             return Err(AllocError);
         };
+        let Ok(turns) = Turns::new(
+            alloc,
+            inputs.machines.as_slice(),
+            &inputs.local,
+            inputs.graph.needs(),
+            &board,
+        ) else {
+            drop(inputs);
+            drop(book);
+            drop(stores);
+            drop(board);
+            return Err(AllocError);
+        };
         Ok(Dispatch {
             inputs,
             book,
             board,
             stores,
+            turns,
         })
     }
 

@@ -73,3 +73,12 @@ turned_after i past p t new e legal marked allowed was turned whole = record {
         (was.waits.each n kind stood (turned.parked n up));
   };
 }
+
+-- turns in which no kind is passed over
+pub turns_fresh : (i : Premises) (past : List Entry) (p : Progress) (t : Turned) → IsWhole t → AreKinds i.machines i.local i.graph.needs t.kinds → AreListed p t.queue → ((n : ℕ) → is_parked t n ≡ false) → AreTurns i past p t
+turns_fresh i past p t whole kinds listed none = record {
+  whole = whole;
+  kinds = kinds;
+  listed = listed;
+  waits = record { each = λ n kind at up. absurd (false≢true (sym (none n) ∙ up)) };
+}

@@ -109,7 +109,7 @@ turns_parked i past p t new n kind kinds queue at wait was =
 
 -- ---- a derivation that isn't due has no step
 
-drvs_needs : (i : Premises) → IsSound i.graph → length i.graph.needs ≡ drvs_in i
+pub drvs_needs : (i : Premises) → IsSound i.graph → length i.graph.needs ≡ drvs_in i
 drvs_needs i sound = sound.needs_sized ∙ (sym sound.inputs_sized ∙ sym (length-map i.graph.inputs nodes_of))
 
 need_at : (i : Premises) (d : ℕ) → d < length i.graph.needs → (need : Need) × (slice_get i.graph.needs d ≡ Some need)

@@ -3,6 +3,7 @@ use Rattle.nd_history.specs.declared.entry.Entry.TheVariants.{NoBuilder}
 use Rattle.nd_history.specs.Premises.{premises_of}
 use Rattle.nd_history.proofs.Boards.{can_follow}
 use Rattle.nd_ledger.proofs.Keeping.{kept_step}
+use Rattle.nd_ledger.proofs.Keeping.{can_turn}
 use Rattle.nd_ledger.proofs.dispatch.Dispatch.admit_no_builder.Goals as goal
 
 pub record_step-requires-clause-can : goal.record_step-requires-clause-can
@@ -12,4 +13,7 @@ record_step-requires-clause-can c =
 
 pub invariant_of-self-2 : goal.invariant_of-self-2
 invariant_of-self-2 c =
-    kept_step c.self.inside c.record_step.new.book c.record_step.new.board (NoBuilder c.args.drv) c.in_ok-record_step.ensures.ok c.self.invariant c.in_default.ensures refl
+    kept_step c.self.inside c.record_step.new.book c.record_step.new.board c.record_step.new.turns (NoBuilder c.args.drv) c.in_ok-record_step.ensures.ok c.self.invariant c.in_default.ensures refl
+
+pub record_step-requires-clause-turn : goal.record_step-requires-clause-turn
+record_step-requires-clause-turn c = can_turn c.self.inside (NoBuilder c.args.drv) c.self.invariant c.in_default.ensures

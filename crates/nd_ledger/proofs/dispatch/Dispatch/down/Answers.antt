@@ -7,6 +7,7 @@ use Rattle.nd_history.specs.Legal.{IsAllowed}
 use Rattle.nd_ledger.specs.Worlds.{World}
 use Rattle.nd_history.specs.declared.entry.Entry.TheVariants.{Down}
 use Rattle.nd_ledger.proofs.Admitting.{allowed_down}
+use Rattle.nd_ledger.proofs.Keeping.{can_turn}
 use Rattle.nd_ledger.proofs.dispatch.Dispatch.down.Goals as goal
 
 pub invariant_of-self : goal.invariant_of-self
@@ -14,7 +15,7 @@ invariant_of-self c =
     let found : IsLive (reverse c.self.inside.book.entries) c.args.ticket = search rules in
     let fresh : is_started c.args.ticket.drv (reverse c.self.inside.book.entries) ≡ false = search rules in
     let r = c.enter.ensures in
-    kept_down c.self.inside c.enter.new.book c.enter.new.board c.args.ticket _ refl (record { entries = r.entries; room = r.room; drvs = r.drvs; machines = r.machines; board = r.board }) c.self.invariant found fresh
+    kept_down c.self.inside c.enter.new.book c.enter.new.board c.enter.new.turns c.args.ticket _ refl (record { entries = r.entries; room = r.room; drvs = r.drvs; machines = r.machines; board = r.board; turned = r.turned; whole = r.whole }) c.self.invariant found fresh
 
 pub is_started-requires : goal.is_started-requires
 is_started-requires c =
@@ -33,3 +34,10 @@ returns-clause-allowed c =
     let fresh : is_started c.args.ticket.drv (reverse d.book.entries) ≡ false = search rules in
     let P = λ (w : World). IsAllowed w.inputs (Down c.args.ticket.drv) (reverse w.history) in
     subst P c.self.view_is (allowed_down (premises_of d.inputs) (reverse d.book.entries) c.args.ticket c.self.invariant.legal found fresh)
+
+pub enter-requires-clause-turn : goal.enter-requires-clause-turn
+enter-requires-clause-turn c =
+    let d = c.self.inside in
+    let found : IsLive (reverse d.book.entries) c.args.ticket = search rules in
+    let fresh : is_started c.args.ticket.drv (reverse d.book.entries) ≡ false = search rules in
+    can_turn d (Down c.args.ticket.drv) c.self.invariant (allowed_down (premises_of d.inputs) (reverse d.book.entries) c.args.ticket c.self.invariant.legal found fresh)

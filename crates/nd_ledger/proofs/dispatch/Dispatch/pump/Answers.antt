@@ -3,7 +3,7 @@ use Rattle.nd_ledger.specs.Worlds.{World}
 use Rattle.nd_history.specs.Premises.{Premises, premises_of}
 use Rattle.nd_history.specs.Pumping.{IsPumpStep}
 use Rattle.nd_history.proofs.Following.{newest_first, may_record}
-use Rattle.nd_ledger.proofs.Keeping.{fit_kept, kept_step, step_quiet}
+use Rattle.nd_ledger.proofs.Keeping.{fit_kept, kept_step, kept_turns, can_turn, step_quiet}
 use Rattle.nd_history.proofs.Resting.{waits_for_leases}
 use Rattle.nd_history.proofs.Steps.{pumped_more, pump_smaller, pump_counted}
 use Rattle.nd_history.proofs.Boards.{can_follow}
@@ -15,11 +15,13 @@ loop-step-preserved c =
     let inv = c.loop-step.invariant in
     let e = c.in-Some.step in
     let rec = c.in_ok-record_step.ensures.ok in
+    let t = c.next_step.new.turns in
+    let step = c.in-Some.ensures.step in
     let P : Premises → Type 0 = λ i. IsPumpStep i (reverse d.book.entries) e in
     record {
-      kept = kept_step d c.record_step.new.book c.record_step.new.board e rec inv.kept c.in-Some.ensures.step.allowed (step_quiet e c.in-Some.ensures.drv c.in-Some.ensures.step.about);
+      kept = kept_step (record d { turns = t }) c.record_step.new.book c.record_step.new.board c.record_step.new.turns e rec (kept_turns d t c.in-Some.ensures.turns inv.kept) step.step.allowed (step_quiet e step.drv step.step.about);
       same = inv.same;
-      pumped = pumped_more _ _ d.book.entries c.record_step.new.book.entries e inv.pumped rec.entries (subst P inv.same c.in-Some.ensures);
+      pumped = pumped_more _ _ d.book.entries c.record_step.new.book.entries e inv.pumped rec.entries (subst P inv.same step);
     }
 
 pub loop-step-smaller : goal.loop-step-smaller
@@ -27,7 +29,7 @@ loop-step-smaller c =
     let d = c.loop-step.self-inside in
     let e = c.in-Some.step in
     let longer = c.in_ok-record_step.ensures.ok.entries in
-    pump_smaller (premises_of d.inputs) (reverse d.book.entries) e (reverse c.record_step.new.book.entries) (newest_first d.book.entries c.record_step.new.book.entries e longer) c.in-Some.ensures
+    pump_smaller (premises_of d.inputs) (reverse d.book.entries) e (reverse c.record_step.new.book.entries) (newest_first d.book.entries c.record_step.new.book.entries e longer) c.in-Some.ensures.step
 
 pub returns-clause-steps : goal.returns-clause-steps
 returns-clause-steps c =
@@ -42,15 +44,20 @@ returns-clause-steps c =
 pub returns-clause-idle : goal.returns-clause-idle
 returns-clause-idle c =
     let d = c.loop-step.self-inside in
-    waits_for_leases (premises_of d.inputs) (reverse d.book.entries) c.order-order.result.now c.loop-step.invariant.kept.sound.ranged c.order-order.ensures.fall c.in_default.ensures
+    waits_for_leases (premises_of d.inputs) (reverse d.book.entries) c.order-order.result.now c.loop-step.invariant.kept.sound.ranged c.order-order.ensures.fall c.in_default.ensures.step
 
 pub record_step-requires-clause-may : goal.record_step-requires-clause-may
 record_step-requires-clause-may c =
     let d = c.loop-step.self-inside in
-    may_record (premises_of d.inputs) d.book c.in-Some.step (fit_kept d c.loop-step.invariant.kept) c.in-Some.ensures.step.allowed
+    may_record (premises_of d.inputs) d.book c.in-Some.step (fit_kept d c.loop-step.invariant.kept) c.in-Some.ensures.step.step.allowed
 
 pub record_step-requires-clause-can : goal.record_step-requires-clause-can
 record_step-requires-clause-can c =
     let d = c.loop-step.self-inside in
     let kept = c.loop-step.invariant.kept in
-    can_follow (premises_of d.inputs) (reverse d.book.entries) d.board c.in-Some.step kept.legal kept.marked c.in-Some.ensures.step.allowed
+    can_follow (premises_of d.inputs) (reverse d.book.entries) d.board c.in-Some.step kept.legal kept.marked c.in-Some.ensures.step.step.allowed
+
+pub record_step-requires-clause-turn : goal.record_step-requires-clause-turn
+record_step-requires-clause-turn c =
+    let d = c.loop-step.self-inside in
+    can_turn (record d { turns = c.next_step.new.turns }) c.in-Some.step (kept_turns d c.next_step.new.turns c.in-Some.ensures.turns c.loop-step.invariant.kept) c.in-Some.ensures.step.step.allowed
