@@ -131,6 +131,15 @@ impl<U: Flags> Model for Layered<U> {
     ghost invariant = { λ row. AreSummed row.items.items (U.flags row.above) };
 }
 
+impl<U: Flags> Layered<U> {
+    /// The number of flags.
+    pub(crate) fn len(&self) -> usize
+        ensures { result ≡ length self.now }
+    {
+        self.items.len()
+    }
+}
+
 impl<U: Flags> Flags for Layered<U> {
     ghost flags = { λ row. row };
 

@@ -36,6 +36,13 @@ impl NodeSet {
         })
     }
 
+    /// How many numbers may be members: those below this one.
+    pub fn len(&self) -> usize
+        ensures { result ≡ length self.now }
+    {
+        self.rows.len()
+    }
+
     /// Puts `i` into the set.
     pub fn insert(&mut self, i: usize)
         requires { i < length self.old }

@@ -1,26 +1,20 @@
 -- When a derivation has a step, and which.
-use Rattle.std.proofs.Common.{◌≡◌, ℕ, zero, suc, ◌+◌, ◌<◌, ◌≤◌, Bool, true, false, not, ◌==◌, ◌||◌, ◌-◌, eq-eqb, List, [], ◌∷◌, ◌++◌, length, length-append, reverse, append-nil, append_assoc, if◌then◌else◌, refl, sym, ap, ◌∙◌, subst, arith, inl, inr, Option, None, Some, add-one, get_or}
-use Rattle.std.proofs.lemmas.Bool.{cases_lt, cases_eq}
+use Rattle.std.proofs.Common.{◌≡◌, ℕ, zero, suc, ◌+◌, ◌<◌, ◌≤◌, Bool, true, false, not, ◌==◌, ◌||◌, ◌-◌, eq-eqb, List, [], ◌∷◌, ◌++◌, length, length-append, reverse, append-nil, append_assoc, if◌then◌else◌, refl, sym, ap, ◌∙◌, subst, arith, inl, inr, Option, Some, add-one, get_or}
+use Rattle.std.proofs.lemmas.Bool.{cases_eq}
 use Rattle.std.specs.Option.{IsSomeAnd, option_map_or}
 use Rattle.std.proofs.lemmas.Option.{slice_get_cases, slice_get_read}
 use Rattle.nd_machines.specs.Builders.{Builder}
 use Rattle.nd_eligible.specs.Eligibility.{Eligible}
 use Rattle.nd_choose.specs.Best.{jobs_at}
-use Rattle.nd_hook.specs.declared.kinds.Decision.{Decision}
 use Rattle.nd_hook.specs.declared.kinds.Decision.TheVariants.{Local, Remote, Wait, NoBuilder as NobodyBuilds}
-use Rattle.nd_failure.specs.Progress as board
-use Rattle.nd_failure.specs.Progress.{Progress}
-use Rattle.nd_failure.specs.Statuses.{IsFirstReady}
 use Rattle.nd_history.specs.declared.entry.Entry.{Entry}
 use Rattle.nd_history.specs.declared.entry.Entry.TheVariants.{Chosen, NoBuilder, Started, Down, Built, Failed, Stop, Drain, Enable}
 use Rattle.nd_history.specs.Premises.{Premises}
 use Rattle.nd_history.specs.History.{is_built, is_failed, is_leased}
 use Rattle.nd_history.specs.Standing.{drvs_in, IsReady}
 use Rattle.nd_history.specs.Choices.{jobs_of, HasDecision, IsBestFor}
-use Rattle.nd_history.specs.Legal.{IsLegal, IsPlaceFor, IsLeastFree}
-use Rattle.nd_history.specs.Marks.{AreMarked}
-use Rattle.nd_history.specs.Pumping.{IsStepOf, IsStepAsDecided, IsStepOrRest, IsAtRest, AreAtRest, IsPumpStep, ArePumpSteps, HasPumped, is_open}
-use Rattle.nd_history.proofs.Boards.{ready_said, ready_marked}
+use Rattle.nd_history.specs.Legal.{IsPlaceFor, IsLeastFree}
+use Rattle.nd_history.specs.Pumping.{IsStepOf, IsAtRest, IsPumpStep, ArePumpSteps, HasPumped, is_open}
 use Rattle.nd_history.proofs.OneChoice.{decision_once, remote_best}
 
 some_drv : (a b : ℕ) → Some a ≡ Some b → a ≡ b
@@ -71,11 +65,6 @@ rest_waiting i past d wait = record {
   waits = λ (ready : IsReady i past d). wait;
 }
 
--- the step that was decided on, or rest
-pub decided_or_rest : (i : Premises) (past : List Entry) (d : ℕ) (decision : Decision) (answer : Option Entry) → HasDecision i past d decision → IsStepAsDecided i past d decision answer → IsStepOrRest i past d answer
-decided_or_rest i past d decision None decided is = rest_waiting i past d (subst (HasDecision i past d) is decided)
-decided_or_rest i past d decision (Some e) decided step = step
-
 -- the step where the local machine is decided on
 pub step_local : (i : Premises) (past : List Entry) (d s : ℕ) → IsReady i past d → HasDecision i past d Local → s < i.local.jobs → IsLeastFree past 0 s → IsStepOf i past d (Chosen d 0 s)
 step_local i past d s ready decided lt least = record {
@@ -117,38 +106,6 @@ place_ranged i past d p best =
 -- a machine that was read has so many jobs
 pub jobs_read : (machines : List Builder) (p : ℕ) (m : Builder) → p < length machines → m ≡ get_or machines p m → jobs_at machines p ≡ m.jobs
 jobs_read machines p m lt is = ap (λ (o : Option Builder). option_map_or (λ machine. machine.jobs) o 0) (slice_get_read machines (length machines) p m refl lt is)
-
--- ---- the board's next ready derivation is the next that may have a step
-
--- a derivation that is next on the board is ready
-pub next_ready : (i : Premises) (past : List Entry) (p : Progress) (from d : ℕ) → IsLegal i past → AreMarked i past p → IsFirstReady p from d → IsReady i past d
-next_ready i past p from d legal was first = ready_said i past p legal was d first.ready
-
--- where none before `from` has a step, none before the next ready one has
-pub rest_to : (i : Premises) (past : List Entry) (p : Progress) (from d : ℕ) → IsLegal i past → AreMarked i past p → IsFirstReady p from d → ((k : ℕ) → k < from → IsAtRest i past k) → (k : ℕ) → k < d → IsAtRest i past k
-rest_to i past p from d legal was first rests k lt =
-    elim (cases_lt k from) [
-      | inl before ↦ rests k before
-      | inr later ↦ rest_unready i past k (λ (r : IsReady i past k). first.first k later lt (ready_marked i past p legal was k r))
-    ]
-
--- .. nor up to it, where it has none
-pub rest_on : (i : Premises) (past : List Entry) (d : ℕ) → ((k : ℕ) → k < d → IsAtRest i past k) → IsAtRest i past d → (k : ℕ) → k < d + 1 → IsAtRest i past k
-rest_on i past d rests here k lt =
-    elim (cases_lt k d) [
-      | inl before ↦ rests k before
-      | inr later ↦ let same : d ≡ k = omega arith in subst (IsAtRest i past) same here
-    ]
-
--- .. nor any, where no ready one is left
-pub rest_all : (i : Premises) (past : List Entry) (p : Progress) (from : ℕ) → IsLegal i past → AreMarked i past p → ((k : ℕ) → from ≤ k → board.IsReady p k → ⊥) → ((k : ℕ) → k < from → IsAtRest i past k) → AreAtRest i past
-rest_all i past p from legal was none rests = record {
-  each = λ d.
-      elim (cases_lt d from) [
-        | inl before ↦ rests d before
-        | inr later ↦ rest_unready i past d (λ (r : IsReady i past d). none d later (ready_marked i past p legal was d r))
-      ];
-}
 
 -- ---- lists of steps
 

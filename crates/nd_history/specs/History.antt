@@ -7,7 +7,7 @@
 -- Leases, slots, drained machines and the histories themselves are this project's own choice.
 -- Public clauses cite this, but `ends` serves proofs alone.
 use Rattle.std.specs.Prelude.{ℕ, Bool, true, false, not, ◌&&◌, ◌||◌, ◌==◌, if◌then◌else◌, List, [], ◌∷◌, length, Option, count_by}
-use Rattle.std.specs.List.{filter, find, list_any}
+use Rattle.std.specs.List.{find, list_any}
 use Rattle.nd_history.specs.declared.entry.Entry.{Entry}
 use Rattle.nd_history.specs.declared.entry.Entry.TheVariants.{Chosen, NoBuilder, Started, Down, Built, Failed, Stop, Drain, Enable}
 use Rattle.nd_leases.specs.declared.ticket.Ticket.{Ticket}

@@ -1,7 +1,7 @@
 -- What is kept beside the entries, so that questions about leases and machines are answered without a search of the history.
 -- The lists of entries of these definitions stand newest first.
 -- No public clause cites this: it says what a type keeps, and serves private clauses.
-use Rattle.std.specs.Prelude.{◌≡◌, ℕ, ◌+◌, ◌<◌, ◌^◌, None, Bool, true, false, ◌==◌, ◌&&◌, if◌then◌else◌, List, [], ◌∷◌, ◌++◌, length, slice_set, slice_index_or}
+use Rattle.std.specs.Prelude.{◌≡◌, ℕ, ◌+◌, ◌<◌, ◌^◌, None, Bool, true, false, ◌==◌, ◌&&◌, if◌then◌else◌, List, ◌∷◌, length, slice_set, slice_index_or}
 use Rattle.std.specs.List.{list_any}
 use Rattle.nd_history.specs.declared.entry.Entry.{Entry}
 use Rattle.nd_history.specs.declared.entry.Entry.TheVariants.{Chosen, NoBuilder, Started, Down, Built, Failed, Stop, Drain, Enable}

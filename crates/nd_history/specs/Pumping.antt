@@ -38,10 +38,6 @@ pub record IsAtRest (i : Premises) (past : List Entry) (d : ℕ) : Type 0 where
 abbrev pub IsStepAsDecided : Premises → List Entry → ℕ → Decision → Option Entry → Type 0
 IsStepAsDecided i past d decision answer = MatchOption answer (decision ≡ Wait) (IsStepOf i past d)
 
--- what is answered about derivation d: its step, or none where there is none
-abbrev pub IsStepOrRest : Premises → List Entry → ℕ → Option Entry → Type 0
-IsStepOrRest i past d answer = MatchOption answer (IsAtRest i past d) (IsStepOf i past d)
-
 -- there is no step left
 pub record AreAtRest (i : Premises) (past : List Entry) : Type 0 where
   pub each : (d : ℕ) → IsAtRest i past d
@@ -51,6 +47,10 @@ pub record IsPumpStep (i : Premises) (past : List Entry) (e : Entry) : Type 0 wh
   pub drv : ℕ
   pub step : IsStepOf i past drv e
   pub first : (k : ℕ) → k < drv → IsAtRest i past k
+
+-- the next step of a pump, or none where there is no step left
+abbrev pub IsNextStep : Premises → List Entry → Option Entry → Type 0
+IsNextStep i past answer = MatchOption answer (AreAtRest i past) (IsPumpStep i past)
 
 -- the steps after a history, which stands oldest first as they do: each is the pump step of what stands before it
 abbrev pub ArePumpSteps : Premises → List Entry → List Entry → Type 0

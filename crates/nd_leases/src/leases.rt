@@ -14,7 +14,7 @@ use std::marker::Model;
 /// each machine its load and which derivation is on each of its slots.
 ///
 /// A lease, a load and the lease of a slot are found in one step, and the least free slot of a machine
-/// by a walk over the slots that the machine ever needed at once. Only `new`, `make_slot` and
+/// in a few, however many slots the machine ever needed at once. Only `new`, `make_slot` and
 /// `try_clone` take memory.
 #[derive(Drop, Debug)]
 pub struct Leases {
@@ -146,7 +146,7 @@ impl Leases {
         let drv = ticket.drv as usize;
         let machine = ticket.machine as usize;
         self.holders[drv] = Some(ticket);
-        self.started[drv] = false;
+        put_mark(&mut self.started, drv, false);
         self.loads[machine] += 1;
         put_slot(
             &mut self.rows,
@@ -213,6 +213,14 @@ impl Leases {
     }
 }
 
+/// Marks a derivation as started, or as not started.
+fn put_mark(marks: &mut Vec<bool>, drv: usize, started: bool)
+    requires { drv < length marks.old.items }
+    ensures { marks.new.items ≡ slice_set marks.old.items drv started }
+{
+    marks[drv] = started;
+}
+
 /// Puts this derivation on the slot of the machine, or none.
 fn put_slot(rows: &mut Vec<Row>, machine: usize, slot: usize, drv: Option<u32>)
     requires machine { machine < length rows.old.items }
@@ -235,7 +243,7 @@ fn empty_rows(alloc: Global, machines: usize) -> Result<Vec<Row>, AllocError>
 {
     let mut rows = Vec::with_capacity(alloc, machines)?;
     for _ in 0..machines {
-        rows.push_reserved(Row::new(alloc));
+        rows.push_reserved(Row::new(alloc)?);
     }
     Ok(rows)
 }

@@ -1,8 +1,8 @@
 //! The next step of a pump.
 
-ghost use Rattle.std.specs.Prelude.{reverse, MatchOption};
+ghost use Rattle.std.specs.Prelude.{reverse};
 ghost use Rattle.nd_history.specs.Premises.{premises_of};
-ghost use Rattle.nd_history.specs.Pumping.{AreAtRest, IsPumpStep};
+ghost use Rattle.nd_history.specs.Pumping.{IsNextStep};
 ghost use Rattle.nd_history.specs.Fitting.{FitTogether};
 ghost use Rattle.nd_history.specs.Marks.{AreMarked};
 ghost use Rattle.nd_queue.specs.Queues.{IsDue};
@@ -57,7 +57,7 @@ pub fn next_step(inputs: &Inputs, book: &Book, board: &Board, turns: &mut Turns)
     requires marked { AreMarked (premises_of inputs.now) (reverse book.now.entries) board.now }
     requires turns { AreTurns (premises_of inputs.now) (reverse book.now.entries) board.now turns.old }
     ensures turns { AreTurns (premises_of inputs.now) (reverse book.now.entries) board.now turns.new }
-    ensures step { MatchOption result (AreAtRest (premises_of inputs.now) (reverse book.now.entries)) (IsPumpStep (premises_of inputs.now) (reverse book.now.entries)) }
+    ensures step { IsNextStep (premises_of inputs.now) (reverse book.now.entries) result }
 {
     while let Some(drv) = turns.next() {
         if let Some(step) = take_turn(inputs, book, board, turns, drv) {

@@ -1,9 +1,6 @@
-use Rattle.std.proofs.Common.{◌≤◌, reverse, arith}
+use Rattle.std.proofs.Common.{reverse}
 use Rattle.nd_history.specs.Premises.{premises_of}
-use Rattle.nd_history.specs.History.{load}
-use Rattle.nd_history.specs.Choices.{jobs_of}
 use Rattle.nd_history.proofs.Rules.{judged_worse, judged_remote}
-use Rattle.nd_history.proofs.Slots.{load_within}
 use Rattle.nd_history.proofs.auditing.check_ready_choice.Goals as goal
 
 pub returns-then-machine-place : goal.returns-then-machine-place

@@ -1,4 +1,4 @@
-use Rattle.std.proofs.Common.{ℕ, length, reverse, ◌∙◌, arith}
+use Rattle.std.proofs.Common.{ℕ, length, reverse, arith}
 use Rattle.nd_history.specs.History.{is_up}
 use Rattle.nd_history.proofs.Following.{flags_after_first, length-take_drop}
 use Rattle.nd_history.proofs.deciding.builder_ups.Goals as goal

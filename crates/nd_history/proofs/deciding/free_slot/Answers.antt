@@ -1,6 +1,4 @@
-use Rattle.std.proofs.Common.{◌<◌, ◌≤◌, reverse, arith, inl, inr}
-use Rattle.std.proofs.lemmas.Bool.{cases_lt}
-use Rattle.nd_history.specs.History.{load}
+use Rattle.std.proofs.Common.{reverse, arith}
 use Rattle.nd_history.proofs.Slots.{within_load}
 use Rattle.nd_history.proofs.deciding.free_slot.Goals as goal
 

@@ -2,8 +2,6 @@ use Rattle.std.proofs.Common.{◌≡◌, ◌+◌, ◌<◌, ◌≤◌, length, re
 use Rattle.nd_choose.specs.Best.{jobs_at}
 use Rattle.nd_history.specs.Premises.{premises_of}
 use Rattle.nd_history.specs.History.{load}
-use Rattle.nd_history.specs.Choices.{jobs_of}
-use Rattle.nd_history.proofs.Slots.{load_within}
 use Rattle.nd_history.proofs.OneChoice.{remote_best, best_has_room}
 use Rattle.nd_history.proofs.Steps.{step_remote, place_ranged, jobs_read}
 use Rattle.nd_history.proofs.stepping.step_for.Goals as goal

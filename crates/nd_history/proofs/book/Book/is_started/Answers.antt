@@ -1,4 +1,4 @@
-use Rattle.std.proofs.Common.{◌≡◌, ◌<◌, reverse, sym, ap, ◌∙◌, subst, arith}
+use Rattle.std.proofs.Common.{◌<◌, reverse, sym, ap, ◌∙◌, subst, arith}
 use Rattle.nd_history.specs.Books.{Recorded}
 use Rattle.nd_history.specs.History.{is_started}
 use Rattle.nd_history.proofs.book.Book.is_started.Goals as goal

@@ -1,4 +1,4 @@
-use Rattle.std.proofs.Common.{◌≡◌, reverse, ap, ◌∙◌}
+use Rattle.std.proofs.Common.{reverse, ap, ◌∙◌}
 use Rattle.nd_history.specs.Books.{Recorded}
 use Rattle.nd_history.specs.History.{lease_of}
 use Rattle.nd_history.proofs.book.Book.lease.Goals as goal

@@ -1,4 +1,4 @@
-use Rattle.std.proofs.Common.{◌≡◌, ℕ, ◌<◌, ◌^◌, length, reverse, ap, ◌∙◌, arith}
+use Rattle.std.proofs.Common.{length, reverse, ap, ◌∙◌, arith}
 use Rattle.std.proofs.lemmas.List.{length-reverse}
 use Rattle.nd_history.specs.Books.{Recorded}
 use Rattle.nd_history.specs.History.{live}

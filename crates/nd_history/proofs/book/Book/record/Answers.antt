@@ -1,6 +1,5 @@
-use Rattle.std.proofs.Common.{◌≡◌, ℕ, List, length, sym, subst, ap, ◌∙◌}
-use Rattle.nd_leases.specs.declared.ticket.Ticket.{Ticket}
-use Rattle.nd_leases.specs.Tables.{Tables, AreTabled, Become}
+use Rattle.std.proofs.Common.{◌≡◌, ℕ, length, sym, subst, ap, ◌∙◌}
+use Rattle.nd_leases.specs.Tables.{Become}
 use Rattle.nd_history.specs.Books.{Recorded, CanRecord}
 use Rattle.nd_history.specs.Kept.{leases_after}
 use Rattle.nd_history.proofs.Following.{follow_all, can_table, started_sized, ups_sized}

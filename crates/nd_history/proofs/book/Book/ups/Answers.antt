@@ -1,4 +1,4 @@
-use Rattle.std.proofs.Common.{◌≡◌, ℕ, ◌<◌, Bool, false, List, length, get_or, reverse, ap, sym, subst, ◌∙◌}
+use Rattle.std.proofs.Common.{ℕ, ◌<◌, Bool, false, List, length, get_or, reverse, ap, sym, subst, ◌∙◌}
 use Rattle.nd_history.specs.Books.{Recorded}
 use Rattle.nd_history.specs.History.{is_up}
 use Rattle.nd_history.proofs.book.Book.ups.Goals as goal

@@ -10,11 +10,11 @@ invariant_of-self c =
     begun_whole c.self.inside _ c.args.ticket c.self.invariant room
     (record {
       holders = refl;
-      loads = ap (λ (n : ℕ). set c.self.inside.loads.items c.args.ticket.machine (n + 1)) (c.index_mut-3.ensures.value ∙ get_or_default_zero c.self.inside.loads.items c.args.ticket.machine c.index_mut-3.result.now room.machine);
+      loads = ap (λ (n : ℕ). set c.self.inside.loads.items c.args.ticket.machine (n + 1)) (c.index_mut-2.ensures.value ∙ get_or_default_zero c.self.inside.loads.items c.args.ticket.machine c.index_mut-2.result.now room.machine);
       rows = c.put_slot.ensures;
       len = refl;
     })
-    (length-set c.self.inside.started.items c.args.ticket.drv false)
+    (ap length c.put_mark.ensures ∙ length-set c.self.inside.started.items c.args.ticket.drv false)
 
 pub returns-clause-begun : goal.returns-clause-begun
 returns-clause-begun c = λ tickets tabled.
@@ -22,7 +22,7 @@ returns-clause-begun c = λ tickets tabled.
     begun_now c.self.inside _ c.args.self.now c.args.ticket tickets c.self.view_is room
     (record {
       holders = refl;
-      loads = ap (λ (n : ℕ). set c.self.inside.loads.items c.args.ticket.machine (n + 1)) (c.index_mut-3.ensures.value ∙ get_or_default_zero c.self.inside.loads.items c.args.ticket.machine c.index_mut-3.result.now room.machine);
+      loads = ap (λ (n : ℕ). set c.self.inside.loads.items c.args.ticket.machine (n + 1)) (c.index_mut-2.ensures.value ∙ get_or_default_zero c.self.inside.loads.items c.args.ticket.machine c.index_mut-2.result.now room.machine);
       rows = c.put_slot.ensures;
       len = refl;
     })
