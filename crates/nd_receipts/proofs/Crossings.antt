@@ -10,29 +10,29 @@ use Rattle.nd_history.specs.declared.entry.Entry.TheVariants.{Chosen, NoBuilder,
 use Rattle.nd_history.specs.declared.entry.Why.{Why}
 use Rattle.nd_receipts.specs.declared.receipt.Receipt.{Receipt}
 use Rattle.nd_receipts.specs.declared.receipt.Kind.{Kind}
-use Rattle.nd_receipts.specs.Dealt.{place_of, made_as, is_place, mark_by, marks_on, marks_of, AreApart, HaveWorkers, AreReceipted}
+use Rattle.nd_receipts.specs.Dealt.{place_of, made_as, is_place, mark_by, marks_on, marks_of, AreApart, IsOnPlace, HaveWorkers, AreReceipted}
 use Rattle.nd_receipts.specs.Walks.{Knows, Follows, AreUnknown, IsMet, AreAllMet, AreMetBelow, AreLeft, IsDealt}
 
 -- ---- lists
 
-get_set_same : {A : Type 0} (xs : List A) (i : ℕ) (a b : A) → slice_get (set xs i a) i ≡ Some b → b ≡ a
+pub get_set_same : {A : Type 0} (xs : List A) (i : ℕ) (a b : A) → slice_get (set xs i a) i ≡ Some b → b ≡ a
 get_set_same [] i a b h = absurd (none-some b (sym (slice_get_past [] i (omega arith)) ∙ h))
 get_set_same (x ∷ xs) zero a b h = sym (same_Some a b h)
 get_set_same (x ∷ xs) (suc i) a b h = get_set_same xs i a b h
 
-get_set_within : {A : Type 0} (xs : List A) (i : ℕ) (a b : A) → slice_get xs i ≡ Some b → slice_get (set xs i a) i ≡ Some a
+pub get_set_within : {A : Type 0} (xs : List A) (i : ℕ) (a b : A) → slice_get xs i ≡ Some b → slice_get (set xs i a) i ≡ Some a
 get_set_within [] i a b h = absurd (none-some b (sym (slice_get_past [] i (omega arith)) ∙ h))
 get_set_within (x ∷ xs) zero a b h = refl
 get_set_within (x ∷ xs) (suc i) a b h = get_set_within xs i a b h
 
-get_set_other : {A : Type 0} (xs : List A) (i k : ℕ) (a : A) → (k ≡ i → ⊥) → slice_get (set xs i a) k ≡ slice_get xs k
+pub get_set_other : {A : Type 0} (xs : List A) (i k : ℕ) (a : A) → (k ≡ i → ⊥) → slice_get (set xs i a) k ≡ slice_get xs k
 get_set_other [] i k a other = refl
 get_set_other (x ∷ xs) zero zero a other = absurd (other refl)
 get_set_other (x ∷ xs) zero (suc k) a other = refl
 get_set_other (x ∷ xs) (suc i) zero a other = refl
 get_set_other (x ∷ xs) (suc i) (suc k) a other = get_set_other xs i k a (λ is. other (ap suc is))
 
-replicate_at : {A : Type 0} (n : ℕ) (a b : A) (k : ℕ) → slice_get (replicate n a) k ≡ Some b → b ≡ a
+pub replicate_at : {A : Type 0} (n : ℕ) (a b : A) (k : ℕ) → slice_get (replicate n a) k ≡ Some b → b ≡ a
 replicate_at zero a b k h = absurd (none-some b (sym (slice_get_past [] k (omega arith)) ∙ h))
 replicate_at (suc n) a b zero h = sym (same_Some a b h)
 replicate_at (suc n) a b (suc k) h = replicate_at n a b k h
@@ -47,7 +47,7 @@ drop_suc [] k a h = absurd (none-some a (sym (slice_get_past [] k (omega arith))
 drop_suc (x ∷ xs) zero a h = ap (λ y. y ∷ xs) (same_Some x a h)
 drop_suc (x ∷ xs) (suc k) a h = drop_suc xs k a h
 
-drop_at : {A : Type 0} (xs : List A) (k : ℕ) (a : A) → slice_get xs k ≡ Some a → drop k xs ≡ a ∷ drop (k + 1) xs
+pub drop_at : {A : Type 0} (xs : List A) (k : ℕ) (a : A) → slice_get xs k ≡ Some a → drop k xs ≡ a ∷ drop (k + 1) xs
 drop_at xs k a h = let next : suc k ≡ k + 1 = omega arith in drop_suc xs k a h ∙ ap (λ (n : ℕ). a ∷ drop n xs) next
 
 zip_by : {A B : Type 0} (R : A → B → Type 0) (xs : List A) (ys : List B) → length ys ≡ length xs → ((k : ℕ) (x : A) (y : B) → slice_get xs k ≡ Some x → slice_get ys k ≡ Some y → R x y) → AllZip R xs ys
@@ -126,7 +126,7 @@ place_same p q h =
     let b : p.1 ≡ q.1 = eqb-true p.1 q.1 (and_second (p.0 == q.0) (p.1 == q.1) h) in
     λ i. (sym a i, sym b i)
 
-place_other : (p q : ℕ × ℕ) → (q ≡ p → ⊥) → is_place p (Some q) ≡ false
+pub place_other : (p q : ℕ × ℕ) → (q ≡ p → ⊥) → is_place p (Some q) ≡ false
 place_other p q other = by (is_place p (Some q)) refl
   where
     by : (b : Bool) → is_place p (Some q) ≡ b → is_place p (Some q) ≡ false
@@ -138,7 +138,7 @@ left_other places rows met i past es e none h = record {
   each = λ k n p row a b c. h.each k n p row a b c ∙ sym (ap (λ o. cons_option (mark_by p i past o) (marks_on p (i + 1) (e ∷ past) es)) none);
 }
 
-marks_more : (p : ℕ × ℕ) (i : ℕ) (past es : List Entry) (e : Entry) (d : ℕ) (kind : Kind) (o : Option (ℕ × ℕ)) (b : Bool) → made_as e ≡ Some (d, kind) → place_of d past ≡ o → is_place p o ≡ b → marks_on p i past (e ∷ es) ≡ cons_option (if b then Some (i, kind) else None) (marks_on p (i + 1) (e ∷ past) es)
+pub marks_more : (p : ℕ × ℕ) (i : ℕ) (past es : List Entry) (e : Entry) (d : ℕ) (kind : Kind) (o : Option (ℕ × ℕ)) (b : Bool) → made_as e ≡ Some (d, kind) → place_of d past ≡ o → is_place p o ≡ b → marks_on p i past (e ∷ es) ≡ cons_option (if b then Some (i, kind) else None) (marks_on p (i + 1) (e ∷ past) es)
 marks_more p i past es e d kind o b made place is =
     let rest : List (ℕ × Kind) = marks_on p (i + 1) (e ∷ past) es in
     ap (λ x. cons_option (mark_by p i past x) rest) made
@@ -198,18 +198,18 @@ met_by f rows worker index count kind old new v r row at next number sort after 
 
 -- ---- one more entry
 
-pub deals_other : (places : List (ℕ × ℕ)) (rows : List (List Receipt)) (i : ℕ) (e : Entry) (choices after met : List ℕ) → made_as e ≡ None → Follows places choices after e → IsDealt places rows i e choices after met met
-deals_other places rows i e choices after met none follows = record {
+pub deals_other : (places : List (ℕ × ℕ)) (rows : List (List Receipt)) (i : ℕ) (e : Entry) (choices after met : List ℕ) → made_as e ≡ None → Follows places choices after e → IsOnPlace places e → IsDealt places rows i e choices after met met
+deals_other places rows i e choices after met none follows placed = record {
   follows = follows;
   left = λ past es knows h. left_other places rows met i past es e none h;
-  has = λ past knows. record { each = λ d kind made. absurd (none-some (d, kind) (sym none ∙ made)) };
+  has = λ past knows. record { leased = placed; each = λ d kind made. absurd (none-some (d, kind) (sym none ∙ made)) };
 }
 
-pub deals_made : (places : List (ℕ × ℕ)) (rows : List (List Receipt)) (i : ℕ) (e : Entry) (choices after met now : List ℕ) (d w : ℕ) (kind : Kind) (q : ℕ × ℕ) → AreApart places → made_as e ≡ Some (d, kind) → slice_get choices d ≡ Some w → slice_get places w ≡ Some q → IsMet rows w i kind met now → Follows places choices after e → IsDealt places rows i e choices after met now
-deals_made places rows i e choices after met now d w kind q apart made choice there is follows = record {
+pub deals_made : (places : List (ℕ × ℕ)) (rows : List (List Receipt)) (i : ℕ) (e : Entry) (choices after met now : List ℕ) (d w : ℕ) (kind : Kind) (q : ℕ × ℕ) → AreApart places → made_as e ≡ Some (d, kind) → slice_get choices d ≡ Some w → slice_get places w ≡ Some q → IsMet rows w i kind met now → Follows places choices after e → IsOnPlace places e → IsDealt places rows i e choices after met now
+deals_made places rows i e choices after met now d w kind q apart made choice there is follows placed = record {
   follows = follows;
   left = λ past es knows h. left_made places rows met now choices i w q past es e d kind apart knows made choice there is h;
-  has = λ past knows. record { each = λ f sort is. one past knows f sort is };
+  has = λ past knows. record { leased = placed; each = λ f sort is. one past knows f sort is };
 }
   where
     one : (past : List Entry) → Knows places choices past → (f : ℕ) (sort : Kind) → made_as e ≡ Some (f, sort) → (worker : ℕ) × (p : ℕ × ℕ) × (slice_get places worker ≡ Some p) × (place_of f past ≡ Some p)

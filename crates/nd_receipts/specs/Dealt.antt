@@ -57,16 +57,21 @@ marks_of receipts = map (λ r. (r.index, r.kind)) receipts
 pub record AreApart (places : List (ℕ × ℕ)) : Type 0 where
   pub each : (j k : ℕ) (p : ℕ × ℕ) → slice_get places j ≡ Some p → slice_get places k ≡ Some p → j ≡ k
 
--- where a worker makes the entry, its lease is on the place of one of the workers
+-- where the entry is a lease, it is on the place of one of the workers
+pub record IsOnPlace (places : List (ℕ × ℕ)) (e : Entry) : Type 0 where
+  pub each : (d m s : ℕ) → e ≡ Chosen d m s → (worker : ℕ) × (slice_get places worker ≡ Some (m, s))
+
+-- .. and where a worker makes the entry, its lease is
 pub record HasWorker (places : List (ℕ × ℕ)) (past : List Entry) (e : Entry) : Type 0 where
+  pub leased : IsOnPlace places e
   pub each : (d : ℕ) (kind : Kind) → made_as e ≡ Some (d, kind) → (worker : ℕ) × (p : ℕ × ℕ) × (slice_get places worker ≡ Some p) × (place_of d past ≡ Some p)
 
 abbrev pub HaveWorkers : List (ℕ × ℕ) → List Entry → List Entry → Type 0
 HaveWorkers places past [] = Unit {0}
 HaveWorkers places past (e ∷ es) = HasWorker places past e × HaveWorkers places (e ∷ past) es
 
--- the receipts of each worker are the entries that the worker of its place makes, in their order, and every entry that a
--- worker makes is that of a worker
+-- the receipts of each worker are the entries that the worker of its place makes, in their order; and every lease, and every
+-- entry that a worker makes, is on the place of a worker
 pub record AreReceipted (places : List (ℕ × ℕ)) (opening : ℕ) (new : List Entry) (rows : List (List Receipt)) : Type 0 where
   pub each : AllZip (λ p row. marks_of row ≡ marks_on p opening [] new) places rows
   pub all : HaveWorkers places [] new

@@ -1,12 +1,12 @@
 -- What is known while the entries of a run are gone through. No public clause but that of `are_dealt` and of `Tables` cites
 -- these definitions; the rest serves proofs.
-use Rattle.std.specs.Prelude.{◌≡◌, ℕ, suc, ◌+◌, ◌==◌, ◌≤◌, Bool, true, false, if◌then◌else◌, List, ◌∷◌, Option, Some, None, drop, length, replicate, slice_get, slice_set}
+use Rattle.std.specs.Prelude.{◌≡◌, ℕ, suc, ◌+◌, ◌==◌, ◌<◌, ◌≤◌, Bool, true, false, if◌then◌else◌, List, ◌∷◌, Option, Some, None, drop, length, replicate, slice_get, slice_set}
 use Rattle.nd_history.specs.declared.entry.Entry.{Entry}
 use Rattle.nd_history.specs.declared.entry.Entry.TheVariants.{Chosen, NoBuilder, Started, Down, Built, Failed, Stop, Drain, Enable}
 use Rattle.nd_receipts.specs.declared.receipt.Receipt.{Receipt}
 use Rattle.nd_receipts.specs.declared.receipt.Kind.{Kind}
 use Rattle.nd_receipts.specs.declared.tables.Tables.{Tables}
-use Rattle.nd_receipts.specs.Dealt.{place_of, marks_of, marks_on, HasWorker}
+use Rattle.nd_receipts.specs.Dealt.{place_of, marks_of, marks_on, AreApart, HasWorker}
 
 -- for each derivation of the table: the worker on whose place it was leased last
 pub record Knows (places : List (ℕ × ℕ)) (choices : List ℕ) (past : List Entry) : Type 0 where
@@ -53,6 +53,58 @@ pub record IsDealt (places : List (ℕ × ℕ)) (rows : List (List Receipt)) (i 
 -- .. between these tables
 abbrev pub IsDealtBetween : Tables → Tables → List (ℕ × ℕ) → List (List Receipt) → ℕ → Entry → Type 0
 IsDealtBetween old new places rows i e = IsDealt places rows i e old.choices.items new.choices.items old.met.items new.met.items
+
+-- ---- when the walk answers no
+
+-- none of the workers is on this place
+pub record IsNoPlace (places : List (ℕ × ℕ)) (m s : ℕ) : Type 0 where
+  pub each : (worker : ℕ) → slice_get places worker ≡ Some (m, s) → ⊥
+
+-- .. none of the first n
+pub record IsNoPlaceBelow (n : ℕ) (places : List (ℕ × ℕ)) (m s : ℕ) : Type 0 where
+  pub each : (worker : ℕ) → worker < n → slice_get places worker ≡ Some (m, s) → ⊥
+
+-- the entry is a lease on the place of none
+pub record IsNobodys (places : List (ℕ × ℕ)) (e : Entry) : Type 0 where
+  pub drv : ℕ
+  pub machine : ℕ
+  pub slot : ℕ
+  pub is : e ≡ Chosen drv machine slot
+  pub nobody : IsNoPlace places machine slot
+
+-- the table has a place for each derivation that these entries lease
+pub record AreWithin (drvs : ℕ) (es : List Entry) : Type 0 where
+  pub each : (k d m s : ℕ) → slice_get es k ≡ Some (Chosen d m s) → d < drvs
+
+-- the table knows the worker on whose place a derivation was leased last
+pub record Tracks (places : List (ℕ × ℕ)) (choices : List ℕ) (past : List Entry) : Type 0 where
+  pub each : (d w : ℕ) (p : ℕ × ℕ) → place_of d past ≡ Some p → slice_get places w ≡ Some p → slice_get choices d ≡ Some w
+
+-- one more entry keeps it so
+pub record TracksOn (places : List (ℕ × ℕ)) (choices after : List ℕ) (e : Entry) : Type 0 where
+  pub long : length after ≡ length choices
+  pub each : (past : List Entry) → AreApart places → ((d m s : ℕ) → e ≡ Chosen d m s → d < length choices) → Tracks places choices past → Tracks places after (e ∷ past)
+
+-- the next receipt of a worker doesn't name this number and kind
+pub record IsUnmet (rows : List (List Receipt)) (worker index : ℕ) (kind : Kind) (met : List ℕ) : Type 0 where
+  pub each : (row : List Receipt) (count : ℕ) (r : Receipt) → slice_get rows worker ≡ Some row → slice_get met worker ≡ Some count → slice_get row count ≡ Some r → r.index ≡ index → r.kind ≡ kind → ⊥
+
+-- what is left of the receipts before an entry that was gone over is left of them behind it
+pub record IsDealtOn (places : List (ℕ × ℕ)) (rows : List (List Receipt)) (i : ℕ) (e : Entry) (choices after : List ℕ) (met now : List ℕ) : Type 0 where
+  pub long : length now ≡ length met
+  pub tracks : TracksOn places choices after e
+  pub left : (past es : List Entry) → AreApart places → Tracks places choices past → HasWorker places past e → AreLeft places rows met i past (e ∷ es) → AreLeft places rows now (i + 1) (e ∷ past) es
+
+abbrev pub IsDealtOnBetween : Tables → Tables → List (ℕ × ℕ) → List (List Receipt) → ℕ → Entry → Type 0
+IsDealtOnBetween old new places rows i e = IsDealtOn places rows i e old.choices.items new.choices.items old.met.items new.met.items
+
+-- the entry isn't the next of its worker's receipts, or has no worker
+pub record IsUndealt (places : List (ℕ × ℕ)) (rows : List (List Receipt)) (i : ℕ) (e : Entry) (choices met : List ℕ) : Type 0 where
+  pub each : (past es : List Entry) → length rows ≡ length places → length met ≡ length places → Tracks places choices past → HasWorker places past e → AreLeft places rows met i past (e ∷ es) → ⊥
+
+-- some receipt was not met
+pub record AreUnmet (rows : List (List Receipt)) (met : List ℕ) : Type 0 where
+  pub each : length met ≡ length rows → AreAllMet rows met → ⊥
 
 -- what an entry says of whether derivation d is started: its start that it is, its choice that it isn't
 abbrev pub start_said : ℕ → Entry → Option Bool

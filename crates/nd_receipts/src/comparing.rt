@@ -1,6 +1,6 @@
 //! Whether the entries of a history are those that workers noted.
 
-ghost use Rattle.std.specs.Prelude.{◌≡◌, reverse, true};
+ghost use Rattle.std.specs.Prelude.{◌≡◌, reverse, true, false};
 ghost use Rattle.std.specs.List.{AllZip, list_any, list_all};
 ghost use Rattle.nd_history.specs.History.{is_started, is_stop};
 ghost use Rattle.nd_receipts.specs.Made.{made, is_made, is_quiet};
@@ -55,7 +55,8 @@ fn is_started(past: &[Entry], drv: u32) -> bool
 /// Whether the receipt of a failure for want of memory tells of its lease's start what these entries before
 /// it do: one call, the build, stands behind it exactly where the lease was started.
 fn tells_start(past: &[Entry], receipt: &Receipt, copy: &Entry) -> bool
-    ensures { result ≡ true → TellsStart past.now receipt.now copy.now }
+    ensures told { result ≡ true → TellsStart past.now receipt.now copy.now }
+    ensures untold { result ≡ false → TellsStart past.now receipt.now copy.now → ⊥ }
 {
     match copy {
         Entry::Failed { drv, why } => {
@@ -71,7 +72,8 @@ fn tells_start(past: &[Entry], receipt: &Receipt, copy: &Entry) -> bool
 /// Whether the entry that was noted stands where its receipt says, and the receipt tells of its lease's
 /// start what stands before it.
 fn is_at(history: &[Entry], receipt: &Receipt, copy: &Entry) -> bool
-    ensures { result ≡ true → IsNotedIn history.now receipt.now copy.now }
+    ensures noted { result ≡ true → IsNotedIn history.now receipt.now copy.now }
+    ensures unlike { result ≡ false → IsNotedIn history.now receipt.now copy.now → ⊥ }
 {
     let Some(entry) = history.get(receipt.index) else {
         return false;
@@ -86,7 +88,8 @@ fn is_at(history: &[Entry], receipt: &Receipt, copy: &Entry) -> bool
 /// Whether each receipt names the place of the entry that was noted beside it, and those of failures for
 /// want of memory tell whether the lease was started.
 pub fn are_as_noted(history: &[Entry], receipts: &[Receipt], copies: &[Entry]) -> bool
-    ensures { result ≡ true → AllZip (IsNotedIn history.now) receipts.now copies.now }
+    ensures noted { result ≡ true → AllZip (IsNotedIn history.now) receipts.now copies.now }
+    ensures unlike { result ≡ false → AllZip (IsNotedIn history.now) receipts.now copies.now → ⊥ }
 {
     let mut rest = receipts;
     let mut left = copies;

@@ -1,8 +1,8 @@
 //! Whether the entries that workers made in a run are their receipts, each of one worker and in order.
 
-ghost use Rattle.std.specs.Prelude.{◌≡◌, ◌+◌, ◌^◌, ◌<◌, ℕ, List, [], ◌∷◌, map, true, false, length, replicate, slice_get, slice_set, Some, None, IfSome};
-ghost use Rattle.nd_receipts.specs.Dealt.{made_as, AreApart, AreReceipted};
-ghost use Rattle.nd_receipts.specs.Walks.{Follows, AreUnknown, IsMet, AreAllMet, IsDealtBetween};
+ghost use Rattle.std.specs.Prelude.{◌≡◌, ◌+◌, ◌^◌, ◌<◌, ℕ, List, [], ◌∷◌, map, true, false, length, replicate, slice_get, slice_set, Some, None, IfSome, IfNone};
+ghost use Rattle.nd_receipts.specs.Dealt.{made_as, AreApart, IsOnPlace, AreReceipted};
+ghost use Rattle.nd_receipts.specs.Walks.{Follows, AreUnknown, IsMet, AreAllMet, IsDealtBetween, IsNoPlace, IsNobodys, AreWithin, TracksOn, IsUnmet, IsDealtOnBetween, IsUndealt, AreUnmet};
 
 use crate::receipt::{Kind, Receipt};
 use crate::tables::Tables;
@@ -31,8 +31,10 @@ fn made_as(entry: &Entry) -> Option<(u32, Kind)>
 }
 
 /// The worker on this place.
+#[tactic(auto, using(crate::proofs::Refusals::no_place_first, crate::proofs::Refusals::no_place_more, crate::proofs::Refusals::no_place_last))]
 fn worker_on(places: &[(u32, u32)], machine: u32, slot: u32) -> Option<usize>
-    ensures { IfSome result (λ worker. slice_get places.now worker ≡ Some (machine, slot)) }
+    ensures found { IfSome result (λ worker. slice_get places.now worker ≡ Some (machine, slot)) }
+    ensures none { IfNone result (IsNoPlace places.now machine slot) }
 {
     for worker in 0..places.len() {
         let place = places[worker];
@@ -54,9 +56,12 @@ fn put(numbers: &mut Vec<usize>, place: usize, number: usize)
 
 /// Follows over one more entry on which worker's place each derivation was leased last. It answers no
 /// where a lease is on the place of none.
-#[tactic(auto, using(crate::proofs::Crossings::walks))]
+#[tactic(auto, using(crate::proofs::Crossings::walks, crate::proofs::Refusals::stops))]
 fn follow(choices: &mut Vec<usize>, places: &[(u32, u32)], entry: &Entry) -> bool
-    ensures { result ≡ true → Follows places.now choices.old.items choices.new.items entry.now }
+    ensures follows { result ≡ true → Follows places.now choices.old.items choices.new.items entry.now }
+    ensures placed { result ≡ true → IsOnPlace places.now entry.now }
+    ensures tracks { result ≡ true → TracksOn places.now choices.old.items choices.new.items entry.now }
+    ensures nobody { result ≡ false → IsNobodys places.now entry.now }
 {
     match entry {
         Entry::Chosen { drv, machine, slot } => {
@@ -86,7 +91,8 @@ fn meet(
     index: usize,
     kind: Kind,
 ) -> bool
-    ensures { result ≡ true → IsMet (map (λ v. v.items) rows.now) worker index kind met.old.items met.new.items }
+    ensures met { result ≡ true → IsMet (map (λ v. v.items) rows.now) worker index kind met.old.items met.new.items }
+    ensures unmet { result ≡ false → IsUnmet (map (λ v. v.items) rows.now) worker index kind met.old.items }
 {
     let Some(row) = rows.get(worker) else {
         return false;
@@ -109,7 +115,7 @@ fn meet(
 }
 
 /// Goes on over one entry: where a worker makes it, it is the next of that worker's receipts.
-#[tactic(auto, using(crate::proofs::Crossings::walks))]
+#[tactic(auto, using(crate::proofs::Crossings::walks, crate::proofs::Refusals::dealings))]
 fn deal(
     tables: &mut Tables,
     places: &[(u32, u32)],
@@ -118,7 +124,9 @@ fn deal(
     entry: &Entry,
 ) -> bool
     requires { AreApart places.now }
-    ensures { result ≡ true → IsDealtBetween tables.old tables.new places.now (map (λ v. v.items) rows.now) index entry.now }
+    ensures dealt { result ≡ true → IsDealtBetween tables.old tables.new places.now (map (λ v. v.items) rows.now) index entry.now }
+    ensures on { result ≡ true → IsDealtOnBetween tables.old tables.new places.now (map (λ v. v.items) rows.now) index entry.now }
+    ensures undealt { result ≡ false → IsUndealt places.now (map (λ v. v.items) rows.now) index entry.now tables.old.choices.items tables.old.met.items }
 {
     let Tables { choices, met } = tables;
     if let Some((drv, kind)) = made_as(entry) {
@@ -140,7 +148,8 @@ fn deal(
 /// Whether all receipts were met.
 #[tactic(auto, using(crate::proofs::Crossings::walks))]
 fn are_all_met(met: &[usize], rows: &[Vec<Receipt>]) -> bool
-    ensures { result ≡ true → AreAllMet (map (λ v. v.items) rows.now) met.now }
+    ensures met { result ≡ true → AreAllMet (map (λ v. v.items) rows.now) met.now }
+    ensures unmet { result ≡ false → AreUnmet (map (λ v. v.items) rows.now) met.now }
 {
     for worker in 0..rows.len() {
         let (Some(count), Some(row)) = (met.get(worker), rows.get(worker)) else {
@@ -154,8 +163,9 @@ fn are_all_met(met: &[usize], rows: &[Vec<Receipt>]) -> bool
 }
 
 /// Whether the receipts of each worker are the entries, the first of which has the number `opening`, that
-/// the worker of its place made, in their order, and every entry that a worker made is that of a worker.
-#[tactic(auto, using(crate::proofs::Crossings::walks))]
+/// the worker of its place made, in their order, and every lease, and every entry that a worker made, is
+/// on the place of a worker. The tables have a place for each derivation that is leased.
+#[tactic(auto, using(crate::proofs::Crossings::walks, crate::proofs::Refusals::walks_on))]
 pub fn are_dealt(
     new: &[Entry],
     opening: usize,
@@ -167,7 +177,8 @@ pub fn are_dealt(
     requires apart { AreApart places.now }
     requires choices { AreUnknown (length places.now) tables.choices.items }
     requires met { tables.met.items ≡ replicate (length places.now) 0 }
-    ensures { result ≡ true → AreReceipted places.now opening new.now (map (λ v. v.items) rows.now) }
+    ensures dealt { result ≡ true → AreReceipted places.now opening new.now (map (λ v. v.items) rows.now) }
+    ensures undealt { result ≡ false → AreWithin (length tables.choices.items) new.now → AreReceipted places.now opening new.now (map (λ v. v.items) rows.now) → ⊥ }
 {
     if rows.len() != places.len() {
         return false;

@@ -1,6 +1,6 @@
 //! What is known while the entries of a run are gone through.
 
-ghost use Rattle.std.specs.Prelude.{◌≡◌, IfOk, replicate};
+ghost use Rattle.std.specs.Prelude.{◌≡◌, IfOk, length, replicate};
 ghost use Rattle.nd_receipts.specs.Walks.{AreUnknown};
 
 use std::alloc::{AllocError, Global};
@@ -18,6 +18,7 @@ impl Tables {
     #[tactic(auto, using(crate::proofs::Crossings::unknown))]
     pub fn new(alloc: Global, drvs: usize, workers: usize) -> Result<Tables, AllocError>
         ensures choices { IfOk result (λ t. AreUnknown workers t.choices.items) }
+        ensures sized { IfOk result (λ t. length t.choices.items ≡ drvs) }
         ensures met { IfOk result (λ t. t.met.items ≡ replicate workers 0) }
     {
         Ok(Tables {

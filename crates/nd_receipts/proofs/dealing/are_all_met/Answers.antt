@@ -10,5 +10,5 @@ loop-worker-preserved c = met_more (λ (v : Vec Receipt Global). v.items) c.args
     (slice_get_read c.args.met.now (length c.args.met.now) c.loop-worker.worker c.in-Some-Some.count.now refl (search rules) (search rules))
     (search rules)
 
-pub returns : goal.returns
-returns c = λ yes. met_last (λ (v : Vec Receipt Global). v.items) c.args.rows.now c.args.met.now c.loop-worker.worker c.loop-worker.invariant (search rules)
+pub returns-clause-met : goal.returns-clause-met
+returns-clause-met c = λ yes. met_last (λ (v : Vec Receipt Global). v.items) c.args.rows.now c.args.met.now c.loop-worker.worker c.loop-worker.invariant (search rules)
