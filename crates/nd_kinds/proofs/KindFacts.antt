@@ -1,5 +1,5 @@
 -- One more derivation has its kind, and each kind stands with the machines that it may use.
-use Rattle.std.proofs.Common.{◌≡◌, ◌<◌, ◌≤◌, ◌+◌, ◌++◌, ◌∷◌, ◌⊎◌, [], ℕ, zero, suc, true, List, All, Option, Some, length, get_or, slice_get, append-nil, add-one, refl, sym, ap, ◌∙◌, subst, inl, inr, arith}
+use Rattle.std.proofs.Common.{◌≡◌, ◌<◌, ◌≤◌, ◌+◌, ◌++◌, ◌∷◌, ◌⊎◌, [], ℕ, zero, suc, true, List, All, Some, length, get_or, slice_get, append-nil, add-one, refl, sym, ap, ◌∙◌, subst, inl, inr, arith}
 use Rattle.std.specs.Prelude.{Contains}
 use Rattle.std.proofs.Math.ListN.{set, length-set}
 use Rattle.std.proofs.lemmas.Bool.{cases_eq, cases_lt}
@@ -9,9 +9,8 @@ use Rattle.nd_machines.specs.Builders.{Builder}
 use Rattle.nd_eligible.specs.declared.need.Need.{Need}
 use Rattle.nd_eligible.specs.Settings.{Settings}
 use Rattle.nd_kinds.specs.declared.kind.Kind.{Kind}
-use Rattle.nd_kinds.specs.Kinds.{Kinded, IsKindOf, MayUse, HasKind, HaveKinds, AreUsers, AreKinds, number_of, users_of}
-use Rattle.nd_kinds.specs.Sharing.{SharesNeed, AddsTo, IsListed, IsOneMore, AreSoFar}
-use Rattle.nd_eligible.specs.Eligibility.{AreEligible}
+use Rattle.nd_kinds.specs.Kinds.{Kinded, IsKindOf, MayUse, HasKind, HaveKinds, AreKinds, number_of, users_of}
+use Rattle.nd_kinds.specs.Sharing.{SharesNeed, AddsTo, IsListed, IsOneMore, HasJoined, IsOneMoreOf, AreSoFar}
 use Rattle.nd_eligible.proofs.Places.{eligible_within}
 
 -- ---- lists to which a number is added
@@ -125,7 +124,7 @@ so_far_joined machines home needs n first k new shares made so_far =
     })
 
 -- one more derivation has a kind of its own
-pub so_far_added : (machines : List Builder) (home : Settings) (needs : List Need) (n : ℕ) (need : Need) (kind : Kind) (k new : Kinded)
+so_far_added : (machines : List Builder) (home : Settings) (needs : List Need) (n : ℕ) (need : Need) (kind : Kind) (k new : Kinded)
     → slice_get needs n ≡ Some need → IsKindOf machines home need kind → IsOneMore kind k new
     → AreSoFar machines home needs n k → AreSoFar machines home needs (n + 1) new
 so_far_added machines home needs n need kind k new is fits more so_far =
@@ -152,6 +151,49 @@ so_far_added machines home needs n need kind k new is fits more so_far =
       };
       park = more.adds.sized ∙ so_far.park;
     }
+
+pub known_kind : (kind : Kind) (k new : Kinded) (number : ℕ) → slice_get k.kinds number ≡ Some kind → new ≡ record k { numbers = k.numbers ++ number ∷ [] } → IsOneMoreOf kind k new
+known_kind kind k new number at grown = inl (record { number = number; at = at; grown = grown })
+
+pub new_kind : (kind : Kind) (k new : Kinded) → IsOneMore kind k new → IsOneMoreOf kind k new
+new_kind kind k new more = inr more
+
+-- what stands at a number of a list lies within it
+pub kind_within : {X : Type 0} → (xs : List X) (n : ℕ) (x : X) → slice_get xs n ≡ Some x → n < length xs
+kind_within [] n x is = absurd (let no_way : ⊥ = cc in no_way)
+kind_within (y ∷ xs) zero x is = omega arith
+kind_within (y ∷ xs) (suc n) x is = let rest = kind_within xs n x is in omega (arith, rest)
+
+-- one more derivation has a kind that there is
+so_far_known : (machines : List Builder) (home : Settings) (needs : List Need) (n : ℕ) (need : Need) (kind : Kind) (k new : Kinded)
+    → slice_get needs n ≡ Some need → IsKindOf machines home need kind → HasJoined kind k new
+    → AreSoFar machines home needs n k → AreSoFar machines home needs (n + 1) new
+so_far_known machines home needs n need kind k new is fits joined so_far =
+    let number = joined.number in
+    let grown : Kinded = record k { numbers = k.numbers ++ number ∷ [] } in
+    subst (λ (x : Kinded). AreSoFar machines home needs (n + 1) x) (sym joined.grown) (record {
+      sized = length-append k.numbers (number ∷ []) ∙ ap (λ (j : ℕ). j + 1) so_far.sized;
+      kinds = kinds_grown machines home needs n number k grown [] so_far.sized refl (sym (append-nil k.kinds))
+          (λ other here.
+          let one : need ≡ other = cc in
+          record {
+            kind = kind;
+            at = ap (λ (j : ℕ). slice_get k.kinds j) (last_number k grown n number so_far.sized refl) ∙ joined.at;
+            fits = subst (λ (x : Need). IsKindOf machines home x kind) one fits;
+          })
+          so_far.kinds;
+      users = record { each = so_far.users.each };
+      park = so_far.park;
+    })
+
+-- one more derivation has this kind
+pub so_far_taken : (machines : List Builder) (home : Settings) (needs : List Need) (n : ℕ) (need : Need) (kind : Kind) (k new : Kinded)
+    → slice_get needs n ≡ Some need → IsKindOf machines home need kind → IsOneMoreOf kind k new
+    → AreSoFar machines home needs n k → AreSoFar machines home needs (n + 1) new
+so_far_taken machines home needs n need kind k new is fits more so_far = elim more [
+  | inl joined ↦ so_far_known machines home needs n need kind k new is fits joined so_far
+  | inr own ↦ so_far_added machines home needs n need kind k new is fits own so_far
+]
 
 -- all derivations have their kinds
 pub so_far_all : (machines : List Builder) (home : Settings) (needs : List Need) (n : ℕ) (k : Kinded) → n ≡ length needs → AreSoFar machines home needs n k → AreKinds machines home needs k

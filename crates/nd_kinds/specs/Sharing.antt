@@ -1,6 +1,6 @@
 -- Which derivations have the same need.
 -- No public clause cites this: it serves private clauses alone.
-use Rattle.std.specs.Prelude.{◌≡◌, ◌<◌, ◌+◌, ◌⊎◌, ◌++◌, ◌∷◌, [], ℕ, List, Contains, length, slice_get, slice_index_or}
+use Rattle.std.specs.Prelude.{◌≡◌, ◌<◌, ◌+◌, ◌⊎◌, ◌++◌, ◌∷◌, [], ℕ, List, Contains, Some, length, slice_get, slice_index_or}
 use Rattle.nd_eligible.specs.declared.need.Need.{Need}
 use Rattle.nd_kinds.specs.declared.kind.Kind.{Kind}
 use Rattle.nd_machines.specs.Builders.{Builder}
@@ -28,6 +28,16 @@ pub record IsOneMore (kind : Kind) (old new : Kinded) : Type 0 where
   pub kinds : new.kinds ≡ old.kinds ++ kind ∷ []
   pub adds : AddsTo (length old.kinds) old.users new.users
   pub listed : IsListed kind (length old.kinds) new.users
+
+-- one more derivation, of a kind that there is
+pub record HasJoined (kind : Kind) (old new : Kinded) : Type 0 where
+  pub number : ℕ
+  pub at : slice_get old.kinds number ≡ Some kind
+  pub grown : new ≡ record old { numbers = old.numbers ++ number ∷ [] }
+
+-- one more derivation, of this kind
+abbrev pub IsOneMoreOf : Kind → Kinded → Kinded → Type 0
+IsOneMoreOf kind old new = HasJoined kind old new ⊎ IsOneMore kind old new
 
 -- what is known while the derivations are gone through
 pub record AreSoFar (machines : List Builder) (home : Settings) (needs : List Need) (n : ℕ) (k : Kinded) : Type 0 where

@@ -2,18 +2,18 @@
 
 ghost use Rattle.std.specs.Prelude.{◌≡◌, ◌<◌, ◌+◌, ◌++◌, ◌∷◌, [], All, Some, length, slice_get, IfOk, IfSome, OnOk};
 ghost use Rattle.nd_kinds.specs.Kinds.{AreKinds, number_of, users_of};
-ghost use Rattle.nd_kinds.specs.Sharing.{SharesNeed, AddsTo, IsListed, IsOneMore, AreSoFar};
+ghost use Rattle.nd_kinds.specs.Sharing.{SharesNeed, AddsTo, IsListed, IsOneMore, IsOneMoreOf, AreSoFar};
 
 use crate::kind::Kind;
-use crate::sharing::Known;
+use crate::sharing::{Known, Marks};
 use nd_eligible::{Local, Need};
 use nd_machines::Machine;
 use nd_queue::Lists;
 use std::alloc::{AllocError, Global};
 use std::marker::Model;
 
-/// The kinds of the derivations, one for all derivations with the same need, and for each machine the
-/// kinds that may use it. Only `new` takes memory.
+/// The kinds of the derivations, one for all those that may use the same machines with the same
+/// preference, and for each machine the kinds that may use it. Only `new` takes memory.
 #[derive(Drop, Debug)]
 pub struct Kinds {
     /// The number of each derivation's kind.
@@ -63,6 +63,7 @@ impl Kinds {
         ensures { IfOk result (AreKinds machines.now local.now needs.now) }
     {
         let mut known = Known::new(alloc);
+        let mut marks = Marks::new(alloc);
         let mut kinds = Kinds {
             numbers: Vec::with_capacity(alloc, needs.len())?,
             kinds: Vec::new(alloc),
@@ -70,14 +71,14 @@ impl Kinds {
         };
         for drv in 0..needs.len() {
             let first = known.meet(needs, drv)?;
-            kinds.one_more(alloc, machines, local, needs, drv, first)?;
+            kinds.one_more(alloc, machines, local, needs, drv, first, &mut marks)?;
         }
         Ok(kinds)
     }
 
     /// One more derivation, the next of those with these needs. `first` is an earlier one with the same
     /// need, if one is known.
-    #[tactic(auto, using(crate::proofs::KindFacts::so_far_joined, crate::proofs::KindFacts::so_far_added, crate::proofs::KindFacts::places_within))]
+    #[tactic(auto, using(crate::proofs::KindFacts::so_far_joined, crate::proofs::KindFacts::so_far_taken, crate::proofs::KindFacts::places_within))]
     fn one_more(
         &mut self,
         alloc: Global,
@@ -86,6 +87,7 @@ impl Kinds {
         needs: &[Need],
         drv: usize,
         first: Option<usize>,
+        marks: &mut Marks,
     ) -> Result<(), AllocError>
         requires node { drv < length needs.now }
         requires first { IfSome first (SharesNeed needs.now drv) }
@@ -94,7 +96,7 @@ impl Kinds {
     {
         match first {
             Some(first) => self.join(first),
-            None => self.add(Kind::of(alloc, machines, local, &needs[drv])?),
+            None => self.take(Kind::of(alloc, machines, local, &needs[drv])?, marks),
         }
     }
 
@@ -104,8 +106,30 @@ impl Kinds {
         ensures { OnOk result (self.new ≡ record self.old { numbers = self.old.numbers ++ number_of self.old first ∷ [] }) }
     {
         let number = self.numbers[first];
+        self.join_kind(number)
+    }
+
+    /// One more derivation, of the kind with this number.
+    #[tactic(auto, using(crate::proofs::KindFacts::pushed_ranged))]
+    fn join_kind(&mut self, number: usize) -> Result<(), AllocError>
+        requires { number < length self.old.kinds }
+        ensures { OnOk result (self.new ≡ record self.old { numbers = self.old.numbers ++ number ∷ [] }) }
+    {
         self.numbers.push(number)?;
         Ok(())
+    }
+
+    /// One more derivation, of this kind: of an equal one, if one is known, and else of its own.
+    #[tactic(auto, using(crate::proofs::KindFacts::known_kind, crate::proofs::KindFacts::new_kind, crate::proofs::KindFacts::kind_within))]
+    fn take(&mut self, kind: Kind, marks: &mut Marks) -> Result<(), AllocError>
+        requires park { 0 < length self.old.users }
+        requires places { All (λ p. p + 1 < length self.old.users) kind.places }
+        ensures { OnOk result (IsOneMoreOf kind self.old self.new) }
+    {
+        match marks.meet(self.kinds.as_slice(), &kind)? {
+            Some(number) => self.join_kind(number),
+            None => self.add(kind),
+        }
     }
 
     /// One more derivation, of a kind of its own.

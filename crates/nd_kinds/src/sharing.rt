@@ -1,8 +1,9 @@
-//! Which derivations have the same need as an earlier one.
+//! Which derivations have the same need as an earlier one, and which kinds are equal.
 
-ghost use Rattle.std.specs.Prelude.{◌≡◌, ◌<◌, length, slice_get, IfOk, IfSome, IsTrue};
+ghost use Rattle.std.specs.Prelude.{◌≡◌, ◌<◌, Some, length, slice_get, IfOk, IfSome, IsTrue};
 ghost use Rattle.nd_kinds.specs.Sharing.{SharesNeed};
 
+use crate::kind::Kind;
 use nd_bytes::ByteString;
 use nd_eligible::Need;
 use nd_machines::FeatureSet;
@@ -88,6 +89,73 @@ impl<'a> Known<'a> {
             }
         }
         self.firsts.insert(key, drv)?;
+        Ok(None)
+    }
+}
+
+/// A number that equal kinds have in common, and others seldom.
+fn mark_of(kind: &Kind) -> u64 {
+    let mut mark: u64 = 0;
+    for place in kind.places.as_slice() {
+        mark = mark.wrapping_mul(SPREAD).wrapping_add(*place as u64);
+    }
+    let mark = mark.wrapping_mul(SPREAD).wrapping_add(kind.local as u64);
+    mark.wrapping_mul(SPREAD)
+        .wrapping_add(kind.prefer_local as u64)
+}
+
+/// An odd number without a pattern in its bits.
+const SPREAD: u64 = 0x9e37_79b9_7f4a_7c15;
+
+/// Whether two lists of places are the same.
+fn are_same_places(ones: &[usize], others: &[usize]) -> bool
+    ensures { IsTrue result → ones.now ≡ others.now }
+{
+    ones == others
+}
+
+/// Whether two kinds are the same.
+fn is_same_kind(one: &Kind, other: &Kind) -> bool
+    ensures { IsTrue result → one.now ≡ other.now }
+{
+    if one.prefer_local != other.prefer_local {
+        return false;
+    }
+    if one.local != other.local {
+        return false;
+    }
+    are_same_places(one.places.as_slice(), other.places.as_slice())
+}
+
+/// Kinds by their marks: for each mark that was met a kind that has it.
+#[derive(Drop)]
+pub(crate) struct Marks {
+    firsts: BTreeMap<u64, usize>,
+}
+
+impl Marks {
+    /// No kind.
+    pub(crate) fn new(alloc: Global) -> Marks {
+        Marks {
+            firsts: BTreeMap::new(alloc),
+        }
+    }
+
+    /// The number of a kind among these that is equal to this one, if one is known; else the number that
+    /// it gets as the next of them is known from now on.
+    ///
+    /// For the proof: what the map answers is compared once more, so that nothing has to be said of it.
+    pub(crate) fn meet(&mut self, kinds: &[Kind], kind: &Kind) -> Result<Option<usize>, AllocError>
+        ensures { IfOk result (λ found. IfSome found (λ n. slice_get kinds.now n ≡ Some kind.now)) }
+    {
+        let mark = mark_of(kind);
+        if let Some(number) = self.firsts.get(&mark) {
+            let number = *number;
+            if number < kinds.len() && is_same_kind(&kinds[number], kind) {
+                return Ok(Some(number));
+            }
+        }
+        self.firsts.insert(mark, kinds.len())?;
         Ok(None)
     }
 }

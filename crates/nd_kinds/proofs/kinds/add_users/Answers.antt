@@ -1,4 +1,4 @@
-use Rattle.std.proofs.Common.{◌<◌, ◌+◌, ◌≡◌, length, get_or, sym, ap, subst, arith, List, ℕ}
+use Rattle.std.proofs.Common.{◌<◌, ◌+◌, ◌≡◌, length, get_or, ap, subst, arith, List, ℕ}
 use Rattle.nd_kinds.proofs.KindFacts.{adds_more, listed_more, listed_all}
 use Rattle.nd_kinds.proofs.kinds.add_users.Goals as goal
 

@@ -1,7 +1,4 @@
-use Rattle.std.proofs.Common.{◌≡◌, ◌<◌, ◌+◌, ℕ, true, get_or}
-use Rattle.std.specs.Prelude.{Contains}
 use Rattle.nd_kinds.specs.Sharing.{AddsTo}
-use Rattle.nd_kinds.specs.Kinds.{MayUse}
 use Rattle.nd_kinds.proofs.KindFacts.{AreListedTo}
 use Rattle.nd_kinds.proofs.kinds.add_users.Given as goal
 

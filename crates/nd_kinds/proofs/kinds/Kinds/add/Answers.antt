@@ -1,4 +1,4 @@
-use Rattle.std.proofs.Common.{ℕ, List, ◌<◌, ◌∷◌, [], length, All, ap, ◌∙◌, arith}
+use Rattle.std.proofs.Common.{◌∷◌, [], length, ap, ◌∙◌, arith}
 use Rattle.std.proofs.lemmas.List.{length-append}
 use Rattle.nd_kinds.proofs.KindFacts.{kept_added, pushed_ranged}
 use Rattle.nd_kinds.proofs.kinds.Kinds.add.Goals as goal

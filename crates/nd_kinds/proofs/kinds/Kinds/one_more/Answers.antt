@@ -1,7 +1,7 @@
 use Rattle.std.proofs.lemmas.Result.{on_ok_weaker}
 use Rattle.std.proofs.Common.{length, refl}
 use Rattle.std.proofs.lemmas.Option.{slice_get_read}
-use Rattle.nd_kinds.proofs.KindFacts.{so_far_joined, so_far_added}
+use Rattle.nd_kinds.proofs.KindFacts.{so_far_joined, so_far_taken}
 use Rattle.nd_kinds.proofs.kinds.Kinds.one_more.Goals as goal
 
 pub returns-in-Some : goal.returns-in-Some
@@ -11,7 +11,7 @@ returns-in-Some c =
 
 pub returns-in_ok-of-in-None : goal.returns-in_ok-of-in-None
 returns-in_ok-of-in-None c =
-    on_ok_weaker _ (λ more. so_far_added c.args.machines.now c.args.local.now c.args.needs.now c.args.drv c.index-needs-drv.result c.in_ok-of-in-None.field-0 c.args.self.now c.add.new.self
+    on_ok_weaker _ (λ more. so_far_taken c.args.machines.now c.args.local.now c.args.needs.now c.args.drv c.index-needs-drv.result c.in_ok-of-in-None.field-0 c.args.self.now c.take.new.self
     (slice_get_read c.args.needs.now (length c.args.needs.now) c.args.drv c.index-needs-drv.result refl c.requires.node c.index-needs-drv.is)
     c.in_ok-of-in-None.ensures more c.requires.so_far)
-    c.add.ensures
+    c.take.ensures
