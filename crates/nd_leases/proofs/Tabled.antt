@@ -57,8 +57,8 @@ pub record IsRoomFor (old : Tables) (t : Ticket) : Type 0 where
   pub unleased : holder_at old t.drv ≡ None
   pub free : slot_at old t.machine t.slot ≡ None
 
-pub room_for : (old : Tables) (t : Ticket) → length old.rows ≡ length old.loads → t.drv < length old.holders → holder_at old t.drv ≡ None → t.slot < room_at old t.machine → slot_at old t.machine t.slot ≡ None → IsRoomFor old t
-room_for old t rows drv unleased slot free = record {
+pub room_given : (old : Tables) (t : Ticket) → length old.rows ≡ length old.loads → t.drv < length old.holders → holder_at old t.drv ≡ None → t.slot < room_at old t.machine → slot_at old t.machine t.slot ≡ None → IsRoomFor old t
+room_given old t rows drv unleased slot free = record {
   drv = drv;
   machine = let lt : t.machine < length old.rows = row_within old.rows t.machine t.slot slot in omega (arith, lt, rows);
   rows = rows;
@@ -328,7 +328,7 @@ same_held old new tickets same tabled = record {
 pub has_room : (l : Inside) (now : Tables) (t : Ticket) → tables_of l ≡ now → AreWhole l → t.drv < length now.holders → holder_at now t.drv ≡ None → t.slot < room_at now t.machine → slot_at now t.machine t.slot ≡ None → IsRoomFor (tables_of l) t
 has_room l now t view whole drv unleased slot free =
     subst (λ (ts : Tables). IsRoomFor ts t) (sym view)
-    (room_for now t (subst (λ (ts : Tables). length ts.rows ≡ length ts.loads) view whole.rows) drv unleased slot free)
+    (room_given now t (subst (λ (ts : Tables). length ts.rows ≡ length ts.loads) view whole.rows) drv unleased slot free)
 
 pub begun_whole : (l new : Inside) (t : Ticket) → AreWhole l → IsRoomFor (tables_of l) t → IsBegun (tables_of l) t (tables_of new) → length new.started.items ≡ length l.started.items → AreWhole new
 begun_whole l new t whole room is marks = record {
