@@ -2,3 +2,4 @@ pub mod Parts
 pub mod Pieces
 pub mod Excerpts
 pub mod AdviceWords
+pub mod Shown

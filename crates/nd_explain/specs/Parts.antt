@@ -1,7 +1,6 @@
 -- Which input a fault is about, and which part of it. Public clauses cite this.
-use Rattle.std.specs.Prelude.{ℕ, Option, Some, None}
+use Rattle.std.specs.Prelude.{Option, Some, None}
 use Rattle.nd_cli.specs.declared.fault.Place.{Place}
-use Rattle.nd_cli.specs.declared.fault.DerivationError.{DerivationError}
 use Rattle.nd_cli.specs.declared.fault.HistoryTextError.{HistoryTextError}
 use Rattle.nd_cli.specs.declared.fault.CliFault.{CliFault}
 use Rattle.nd_cli.specs.declared.fault.CliFault.TheVariants.{Derivation, Drvs, Builders, Info, Script, Stand, History, TooLarge, TooManySlots, Read, Write, Memory, Thread, Receipts}

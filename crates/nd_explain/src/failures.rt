@@ -1,6 +1,8 @@
 //! A fault with what is known about it, and the lines that say so.
 
-ghost use Rattle.std.specs.Prelude.{◌≡◌};
+ghost use Rattle.std.specs.Prelude.{◌≡◌, IfSome, Some, None, string_bytes};
+ghost use Rattle.nd_explain.specs.Parts.{part_named};
+ghost use Rattle.nd_explain.specs.Shown.{IsShown};
 
 use crate::advice::{Advice, advice_on};
 use crate::excerpts::excerpt;
@@ -29,7 +31,10 @@ pub struct Failure<'a> {
 impl<'a> Failure<'a> {
     /// A fault of which no more is known.
     pub fn of(fault: CliFault) -> Self
-        ensures { result.fault ≡ fault }
+        ensures fault { result.fault ≡ fault }
+        ensures source { result.source ≡ None }
+        ensures system { result.system ≡ None }
+        ensures text { result.text ≡ None }
     {
         Failure {
             fault,
@@ -41,7 +46,10 @@ impl<'a> Failure<'a> {
 
     /// A fault of a file or a device, or of an input whose text isn't at hand.
     pub fn at(fault: CliFault, source: Source<'a>, system: Option<io::Error>) -> Self
-        ensures { result.fault ≡ fault }
+        ensures fault { result.fault ≡ fault }
+        ensures source { result.source ≡ Some source.entry }
+        ensures system { result.system ≡ system }
+        ensures text { result.text ≡ None }
     {
         Failure {
             fault,
@@ -53,7 +61,10 @@ impl<'a> Failure<'a> {
 
     /// A refusal of this text. Where there is no memory for the part that is refused, it isn't shown.
     pub fn of_text(alloc: Global, fault: CliFault, source: Source<'a>, text: &[u8]) -> Self
-        ensures { result.fault ≡ fault }
+        ensures fault { result.fault ≡ fault }
+        ensures source { result.source ≡ Some source.entry }
+        ensures system { result.system ≡ None }
+        ensures text { IfSome result.text (λ s. IsShown text.now (part_named fault) (string_bytes s)) }
     {
         let shown = match piece_of(text, part_of(&fault)) {
             Some(piece) => excerpt(alloc, piece).ok(),

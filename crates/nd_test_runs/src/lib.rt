@@ -7,6 +7,8 @@ mod meeting;
 #[cfg(test)]
 mod parks;
 #[cfg(test)]
+mod punishing;
+#[cfg(test)]
 mod runs;
 #[cfg(test)]
 mod stand_ins;

@@ -10,9 +10,10 @@ use Rattle.nd_workers.specs.declared.working.End.{End}
 use Rattle.nd_workers.specs.declared.working.End.TheVariants.{Again, Finished, Left, Refused}
 use Rattle.nd_workers.specs.Ends.{EndsWell}
 use Rattle.nd_history.specs.Statuses.{IsFinished}
-use Rattle.nd_ledger.specs.Worlds.{World, GoesOnFrom}
+use Rattle.nd_ledger.specs.Worlds.{World}
 use Rattle.nd_workers.specs.Runs.{IsServedIn, IsOver}
 use Rattle.nd_workers.specs.Served.{Seated, IsServed}
+use Rattle.nd_workers.specs.Steps.{RunsOn}
 
 goes_on : (how : End) (s t : Track) → (how ≡ Refused → ⊥) → EndsWell how s t → GoesOn s t
 goes_on Again s t good ends = ends
@@ -34,5 +35,5 @@ served_in history before after how notes receipts good all served same =
       agree = subst R (sym same) (subst R (sym on.receipts_are) (calls_in history on.receipts on.copies on.calls on.agree (subst P on.receipts_are (subst Q on.copies_are all))));
     }
 
-pub is_over : (opening now : World) → GoesOnFrom now opening → IsFinished now.inputs (reverse now.history) → IsOver opening now
-is_over opening now extends finished = record { extends = extends; finished = finished }
+pub is_over : (opening now : World) → RunsOn opening now → IsFinished now.inputs (reverse now.history) → IsOver opening now
+is_over opening now runs finished = record { runs = runs; finished = finished }

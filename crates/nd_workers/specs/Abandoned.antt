@@ -1,7 +1,7 @@
 -- What becomes of leases that no worker serves. The public clause of `abandon` cites `last_entries` and what it is made of;
 -- `LeavesOthers` and `LeavesOtherMachines` serve proofs alone. The histories of these definitions stand newest first.
 -- This project's own choice.
-use Rattle.std.specs.Prelude.{◌≡◌, ◌≢◌, ℕ, Bool, ◌&&◌, ◌==◌, if◌then◌else◌, List, [], ◌∷◌, ◌++◌, map, Option, Some, None}
+use Rattle.std.specs.Prelude.{◌≡◌, ◌≢◌, ℕ, Bool, if◌then◌else◌, List, [], ◌∷◌, ◌++◌, map, Option, Some, None}
 use Rattle.std.specs.List.{filter_map, flat_map, list_any, range_with_len}
 use Rattle.nd_history.specs.declared.entry.Entry.{Entry}
 use Rattle.nd_history.specs.declared.entry.Entry.TheVariants.{Failed, Stop}

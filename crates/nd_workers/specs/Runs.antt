@@ -1,12 +1,12 @@
 -- When a run is refused, and what is known of its end. The public clauses of a run cite it. This project's own choice.
-use Rattle.std.specs.Prelude.{◌≡◌, ℕ, ◌<◌, Bool, true, ◌&&◌, ◌==◌, List, ◌++◌, length, map, drop, count_by, nat_lt, reverse, Option, Some, Vec}
+use Rattle.std.specs.Prelude.{◌≡◌, ℕ, ◌<◌, Bool, true, ◌&&◌, List, ◌++◌, length, map, drop, count_by, nat_lt, reverse, Option, Some, Vec}
 use Rattle.std.specs.List.{AllZip, zip, list_all}
 use Rattle.nd_history.specs.declared.entry.Entry.{Entry}
 use Rattle.nd_leases.specs.Tickets.{same_place}
 use Rattle.nd_history.specs.Premises.{Premises}
 use Rattle.nd_history.specs.Choices.{machines_in, jobs_of}
 use Rattle.nd_history.specs.Statuses.{IsFinished}
-use Rattle.nd_ledger.specs.Worlds.{World, GoesOnFrom}
+use Rattle.nd_ledger.specs.Worlds.{World}
 use Rattle.nd_transports.specs.declared.kinds.Call.{Call}
 use Rattle.nd_receipts.specs.declared.receipt.Receipt.{Receipt}
 use Rattle.nd_receipts.specs.Receipts.{AreCallsIn}
@@ -18,6 +18,7 @@ use Rattle.nd_workers.specs.declared.run_end.RunError.{RunError}
 use Rattle.nd_workers.specs.declared.run_end.RunError.TheVariants.{Slots, TooManySlots, Memory}
 use Rattle.nd_workers.specs.declared.seat.Seat.{Seat}
 use Rattle.nd_workers.specs.Served.{Seated, seat_of}
+use Rattle.nd_workers.specs.Steps.{RunsOn}
 
 -- a worker is on this place
 abbrev pub is_at : ℕ → ℕ → ℕ × ℕ → Bool
@@ -46,9 +47,9 @@ IsRunRefused i places Memory = Unit {0}
 abbrev pub Agrees : Option RunFault → Type 0
 Agrees fault = fault ≡ Some Receipts → ⊥
 
--- a run is over: its dispatch goes on from the one that was handed in, and nothing waits or is leased any more
+-- a run is over: its dispatch goes on from the one that was handed in by what a run may add, and nothing waits or is leased any more
 pub record IsOver (opening now : World) : Type 0 where
-  pub extends : GoesOnFrom now opening
+  pub runs : RunsOn opening now
   pub finished : IsFinished now.inputs (reverse now.history)
 
 -- a worker kept its place, and its transport's calls since then are those of its receipts
@@ -67,6 +68,10 @@ AreServedIn state history before after receipts = AllZip (λ w x. IsServedIn his
 abbrev pub since : World → World → List Entry
 since opening now = drop (length opening.history) now.history
 
--- these are the receipts of the entries that workers on these places made since the opening
+-- these are the receipts of the entries that workers on these places made behind the first ones of a history
+abbrev pub AreReceiptedFrom : {A : Type 0} → ℕ → List Entry → List (ℕ × ℕ) → List (Vec Receipt A) → Type 0
+AreReceiptedFrom opened history places receipts = AreReceipted places opened (drop opened history) (map (λ v. v.items) receipts)
+
+-- .. since the opening
 abbrev pub AreReceiptedSince : {A : Type 0} → World → World → List (ℕ × ℕ) → List (Vec Receipt A) → Type 0
-AreReceiptedSince opening now places receipts = AreReceipted places (length opening.history) (since opening now) (map (λ v. v.items) receipts)
+AreReceiptedSince opening now places receipts = AreReceiptedFrom (length opening.history) now.history places receipts

@@ -1,13 +1,13 @@
 //! What lies under the lock: the dispatch, and how many entries the workers made.
 
-ghost use Rattle.std.specs.Prelude.{◌≡◌, ◌+◌, ◌<◌, ◌≤◌, true, IfErr, OnOk, OnErr, IsTrue};
+ghost use Rattle.std.specs.Prelude.{◌≡◌, ◌+◌, ◌<◌, ◌≤◌, drop, true, IfErr, OnOk, OnErr, IsTrue};
 ghost use Rattle.nd_receipts.specs.Made.{made, is_worker_cause};
 ghost use Rattle.nd_workers.specs.Steps.{RunsOn};
 
 use crate::abandoning::abandon;
 use crate::opened::Opened;
 use nd_closure::Refs;
-use nd_history::Why;
+use nd_history::{Entry, Why};
 use nd_leases::Ticket;
 use nd_ledger::{Dispatch, Job, Refusal, Refused};
 use nd_path::PathSet;
@@ -210,4 +210,16 @@ impl<L: Opened> Desk<L> {
             Err(_) => Next::Short(ticket),
         }
     }
+}
+
+/// The entries behind the first `opening`; none where there are fewer.
+pub(crate) fn entries_since(dispatch: &Dispatch, opening: usize) -> &[Entry]
+    ensures { result.now ≡ drop opening dispatch.now.history }
+{
+    let history = dispatch.history();
+    if history.len() < opening {
+        return &[];
+    }
+    let (_, new) = history.split_at(opening);
+    new
 }

@@ -1,15 +1,17 @@
 //! What a run ended with: the histories, the notes and the receipts compared.
 
-ghost use Rattle.std.specs.Prelude.{◌≡◌, ◌+◌, ◌^◌, ◌<◌, ◌≤◌, ℕ, length, drop, map, replicate, true, All, Some, None};
+ghost use Rattle.std.specs.Prelude.{◌≡◌, ◌+◌, ◌^◌, ◌<◌, ◌≤◌, ℕ, length, drop, map, replicate, reverse, true, All, Some, None};
 ghost use Rattle.std.specs.List.{AllZip, list_any, list_all};
 ghost use Rattle.nd_history.specs.History.{is_stop};
+ghost use Rattle.nd_history.specs.Statuses.{IsFinished};
 ghost use Rattle.nd_receipts.specs.Made.{is_quiet};
 ghost use Rattle.nd_receipts.specs.Noted.{IsNotedIn};
 ghost use Rattle.nd_receipts.specs.Dealt.{AreApart, AreReceipted};
 ghost use Rattle.nd_receipts.specs.Walks.{AreUnknown};
-ghost use Rattle.nd_workers.specs.Runs.{Agrees, IsOver, AreReceiptedSince, since};
+ghost use Rattle.nd_workers.specs.Runs.{Agrees, AreReceiptedFrom};
 ghost use Rattle.nd_workers.specs.Served.{IsSound};
 
+use crate::desk::entries_since;
 use crate::run_end::RunFault;
 use crate::threads::Stint;
 use crate::working::End;
@@ -41,21 +43,9 @@ pub(crate) fn are_sound<T: Transport>(history: &[Entry], stints: &[Stint<T>]) ->
     true
 }
 
-/// The entries behind the first `opening`; none where there are fewer.
-fn entries_since(dispatch: &Dispatch, opening: usize) -> &[Entry]
-    ensures { result.now ≡ drop opening dispatch.now.history }
-{
-    let history = dispatch.history();
-    if history.len() < opening {
-        return &[];
-    }
-    let (_, new) = history.split_at(opening);
-    new
-}
-
-/// Whether the entries that workers made since the opening are the receipts, each of one worker.
+/// Whether the entries that workers made behind the first `opened` are the receipts, each of one worker.
 pub(crate) fn are_receipted(
-    opening: &Dispatch,
+    opened: usize,
     dispatch: &Dispatch,
     places: &[(u32, u32)],
     receipts: &[Vec<Receipt>],
@@ -64,9 +54,8 @@ pub(crate) fn are_receipted(
     requires apart { AreApart places.now }
     requires choices { AreUnknown (length places.now) tables.choices.items }
     requires met { tables.met.items ≡ replicate (length places.now) 0 }
-    ensures { result ≡ true → AreReceiptedSince opening.now dispatch.now places.now receipts.now }
+    ensures { result ≡ true → AreReceiptedFrom opened dispatch.now.history places.now receipts.now }
 {
-    let opened = opening.history().len();
     if dispatch.history().len() < opened {
         drop(tables);
         return false;
@@ -75,11 +64,10 @@ pub(crate) fn are_receipted(
     are_dealt(new, opened, places, receipts, tables)
 }
 
-/// What a run ended with. The workers' notes are those of the history where `sound` says so, and their
-/// receipts where `dealt` does.
-#[tactic(auto, using(crate::proofs::Compared::is_over))]
+/// What a run ended with that began behind the first `opened` entries. The workers' notes are those of
+/// the history where `sound` says so, and their receipts where `dealt` does.
 pub(crate) fn fault_of(
-    opening: &Dispatch,
+    opened: usize,
     dispatch: &Dispatch,
     sound: bool,
     dealt: bool,
@@ -88,14 +76,11 @@ pub(crate) fn fault_of(
 ) -> Option<RunFault>
     ensures sound { Agrees result → sound ≡ true }
     ensures dealt { Agrees result → dealt ≡ true }
-    ensures quiet { result ≡ None → list_all is_quiet (since opening.now dispatch.now) ≡ true }
+    ensures quiet { result ≡ None → list_all is_quiet (drop opened dispatch.now.history) ≡ true }
     ensures thread { result ≡ Some RunFault.Thread → list_any is_stop dispatch.now.history ≡ true }
     ensures memory { result ≡ Some RunFault.Memory → list_any is_stop dispatch.now.history ≡ true }
-    ensures goes_on { Agrees result → IsOver opening.now dispatch.now }
+    ensures finished { Agrees result → IsFinished dispatch.now.inputs (reverse dispatch.now.history) }
 {
-    if !dispatch.extends(opening) {
-        return Some(RunFault::Receipts);
-    }
     if !dispatch.finished() {
         return Some(RunFault::Receipts);
     }
@@ -117,7 +102,7 @@ pub(crate) fn fault_of(
         }
         return Some(RunFault::Receipts);
     }
-    if is_quiet(entries_since(dispatch, opening.history().len())) {
+    if is_quiet(entries_since(dispatch, opened)) {
         return None;
     }
     Some(RunFault::Receipts)

@@ -5,6 +5,7 @@ ghost use Rattle.std.specs.Prelude.{◌≡◌, ◌+◌, ◌<◌, ◌≤◌, [], 
 ghost use Rattle.nd_receipts.specs.Made.{is_worker_cause};
 ghost use Rattle.nd_receipts.specs.Noted.{HasNoted, HasBegun, HasEnded, HasFetched, IsFinished, GoesOn, track_of};
 
+use crate::bells::Bells;
 use crate::desk::Desk;
 use crate::hand::Hand;
 use crate::opened::Opened;
@@ -18,13 +19,14 @@ use nd_transports::kinds::Phase;
 use nd_transports::serving::{Fetch, Outcome, serve_build, serve_copy};
 use nd_transports::transport::Transport;
 use std::alloc::{AllocError, Global};
-use std::sync::{Condvar, Mutex, Wait};
+use std::sync::{Mutex, Wait};
 
-/// What the workers share.
+/// What the workers share. Who makes an entry wakes nobody: a worker looks for its next lease after each
+/// end, and rings for the others then.
 #[derive(Drop)]
 pub(crate) struct Shared<L: Opened> {
     pub(crate) desk: Mutex<Desk<L>>,
-    pub(crate) changed: Condvar,
+    pub(crate) bells: Bells,
 }
 
 /// Under the lock, gives a lease back.
@@ -40,9 +42,7 @@ fn down<L: Opened, R: Wait>(
     ensures ok { OnOk result (HasNoted hand.old.notes hand.new.notes Kind.Down calls paths (Entry.Down ticket.drv)) }
 {
     let mut desk = shared.desk.lock(rt);
-    let made = hand.down(&mut *desk, ticket, calls, paths);
-    shared.changed.notify_all();
-    made
+    hand.down(&mut *desk, ticket, calls, paths)
 }
 
 /// Under the lock, ends a lease without outputs.
@@ -60,12 +60,10 @@ fn fail<L: Opened, R: Wait>(
     ensures ok { OnOk result (HasNoted hand.old.notes hand.new.notes Kind.Failed calls paths (Entry.Failed ticket.drv why)) }
 {
     let mut desk = shared.desk.lock(rt);
-    let made = hand.fail(&mut *desk, ticket, why, calls, paths);
-    shared.changed.notify_all();
-    made
+    hand.fail(&mut *desk, ticket, why, calls, paths)
 }
 
-/// Under the lock, makes a start. It gives nobody work, so it wakes nobody.
+/// Under the lock, makes a start.
 fn start<L: Opened, R: Wait>(
     rt: &R,
     alloc: Global,
@@ -101,9 +99,7 @@ fn end<L: Opened, R: Wait>(
     ensures err { OnErr result (hand.new.notes ≡ hand.old.notes) }
 {
     let mut desk = shared.desk.lock(rt);
-    let made = hand.end(alloc, &mut *desk, ticket, refs, copy);
-    shared.changed.notify_all();
-    made
+    hand.end(alloc, &mut *desk, ticket, refs, copy)
 }
 
 /// Under the lock, ends a lease without outputs, where no copy is to be noted beside it.

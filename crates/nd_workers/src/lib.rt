@@ -2,6 +2,7 @@
 #![tactic(auto)]
 
 pub mod abandoning;
+mod bells;
 mod desk;
 mod faults;
 mod hand;

@@ -1,16 +1,18 @@
 //! A run of all leases of a dispatch by its workers, each in a thread of its own.
 
-ghost use Rattle.std.specs.Prelude.{◌≡◌, ◌+◌, ◌<◌, ◌≤◌, ℕ, length, vec_len, vec_capacity, sum_by, map, drop, replicate, true, All, IfOk, IfErr, OnOk, Some, None};
+ghost use Rattle.std.specs.Prelude.{◌≡◌, ◌+◌, ◌<◌, ◌≤◌, ℕ, length, vec_len, vec_capacity, sum_by, map, drop, replicate, reverse, true, All, IfOk, IfErr, OnOk, Some, None};
 ghost use Rattle.std.specs.List.{AllZip, zip, list_any, list_all};
 ghost use Rattle.nd_history.specs.History.{is_stop};
+ghost use Rattle.nd_history.specs.Statuses.{IsFinished};
 ghost use Rattle.nd_receipts.specs.Made.{made, is_quiet};
 ghost use Rattle.nd_receipts.specs.Noted.{IsNotedIn};
 ghost use Rattle.nd_receipts.specs.Dealt.{AreApart, AreReceipted};
 ghost use Rattle.nd_receipts.specs.Walks.{AreUnknown};
-ghost use Rattle.nd_workers.specs.Runs.{AreManned, IsRunRefused, Agrees, IsOver, AreServedIn, AreReceiptedSince, since};
+ghost use Rattle.nd_workers.specs.Runs.{AreManned, IsRunRefused, Agrees, IsOver, AreServedIn, AreReceiptedFrom, AreReceiptedSince, since};
 ghost use Rattle.nd_workers.specs.Served.{places_served, HaveServed, IsSound, receipts_in};
 ghost use Rattle.nd_workers.specs.Steps.{RunsOn};
 
+use crate::bells::Bells;
 use crate::desk::Desk;
 use crate::faults::{are_receipted, are_sound, fault_of};
 use crate::leasing::Shared;
@@ -26,16 +28,23 @@ use nd_transports::Transport;
 use std::alloc::{AllocError, Global};
 use std::marker::Brand;
 use std::sync::ledger::{Blank, Share};
-use std::sync::{Condvar, Mutex, Wait};
+use std::sync::{Mutex, Wait};
 use std::thread::Threads;
 
 /// The most slots of a run.
 pub const MOST_SLOTS: usize = 1024;
 
+/// The places that workers serve, and the bells of all places.
+#[derive(Drop)]
+struct Posts {
+    manned: Vec<(u32, u32)>,
+    bells: Bells,
+}
+
 /// What the end of a run is compared with.
 #[derive(Drop)]
 struct Plan {
-    opening: Dispatch,
+    opened: usize,
     places: Vec<(u32, u32)>,
     tables: Tables,
     ghost apart: { AreApart places.items },
@@ -139,7 +148,7 @@ fn make_plan(
     places: Vec<(u32, u32)>,
 ) -> Result<Plan, AllocError>
     requires { AreApart places.items }
-    ensures opening { IfOk result (λ p. p.opening ≡ dispatch.now) }
+    ensures opened { IfOk result (λ p. p.opened ≡ length dispatch.now.history) }
     ensures places { IfOk result (λ p. p.places.items ≡ places.items) }
     ensures choices { IfOk result (λ p. AreUnknown (length places.items) p.tables.choices.items) }
 {
@@ -150,30 +159,39 @@ fn make_plan(
             return Err(error);
         }
     };
-    match dispatch.try_clone(alloc) {
-        Ok(opening) => Ok(Plan {
-            opening,
-            places,
-            tables,
-        }),
+    Ok(Plan {
+        opened: dispatch.history().len(),
+        places,
+        tables,
+    })
+}
+
+/// The places that workers serve, with the bells.
+fn make_posts<T>(
+    alloc: Global,
+    dispatch: &Dispatch,
+    seats: &[Seat<T>],
+) -> Result<Posts, AllocError> {
+    let manned = places_of(alloc, seats)?;
+    match Bells::new(alloc, dispatch) {
+        Ok(bells) => Ok(Posts { manned, bells }),
         Err(error) => {
-            drop(places);
-            drop(tables);
+            drop(manned);
             Err(error)
         }
     }
 }
 
-/// The places that workers serve, and what the end of the run is compared with.
+/// The workers' posts, and what the end of the run is compared with.
 fn prepare<T>(
     alloc: Global,
     dispatch: &Dispatch,
     seats: &[Seat<T>],
-) -> Result<(Vec<(u32, u32)>, Plan), RunError>
+) -> Result<(Posts, Plan), RunError>
     ensures refused { IfErr result (IsRunRefused dispatch.now.inputs (places_served seats.now)) }
     ensures manned { OnOk result (AreManned dispatch.now.inputs (places_served seats.now)) }
     ensures few { OnOk result (length seats.now ≤ 1024) }
-    ensures opening { IfOk result (λ p. p.1.opening ≡ dispatch.now) }
+    ensures opened { IfOk result (λ p. p.1.opened ≡ length dispatch.now.history) }
     ensures places { IfOk result (λ p. p.1.places.items ≡ places_served seats.now) }
     ensures choices { IfOk result (λ p. AreUnknown (length p.1.places.items) p.1.tables.choices.items) }
 {
@@ -181,14 +199,14 @@ fn prepare<T>(
         Ok(places) => places,
         Err(why) => return Err(why),
     };
-    let Ok(manned) = places_of(alloc, seats) else {
+    let Ok(posts) = make_posts(alloc, dispatch, seats) else {
         drop(places);
         return Err(RunError::Memory);
     };
     match make_plan(alloc, dispatch, places) {
-        Ok(plan) => Ok((manned, plan)),
+        Ok(plan) => Ok((posts, plan)),
         Err(_) => {
-            drop(manned);
+            drop(posts);
             Err(RunError::Memory)
         }
     }
@@ -239,14 +257,14 @@ fn settle<T: Transport>(
     ensures count { vec_len result.receipts ≡ vec_len stints }
     ensures total { sum_by (λ v. vec_len v) result.receipts.items ≡ receipts_in stints.items }
     ensures sound { Agrees result.fault → All (IsSound result.dispatch.history) stints.items }
-    ensures receipted { Agrees result.fault → AreReceiptedSince plan.opening result.dispatch plan.places.items result.receipts.items }
-    ensures quiet { result.fault ≡ None → list_all is_quiet (since plan.opening result.dispatch) ≡ true }
+    ensures receipted { Agrees result.fault → AreReceiptedFrom plan.opened result.dispatch.history plan.places.items result.receipts.items }
+    ensures quiet { result.fault ≡ None → list_all is_quiet (drop plan.opened result.dispatch.history) ≡ true }
     ensures thread { result.fault ≡ Some RunFault.Thread → list_any is_stop result.dispatch.history ≡ true }
     ensures memory { result.fault ≡ Some RunFault.Memory → list_any is_stop result.dispatch.history ≡ true }
-    ensures goes_on { Agrees result.fault → IsOver plan.opening result.dispatch }
+    ensures finished { Agrees result.fault → IsFinished result.dispatch.inputs (reverse result.dispatch.history) }
 {
     let Plan {
-        opening,
+        opened,
         places,
         tables,
     } = plan;
@@ -257,14 +275,13 @@ fn settle<T: Transport>(
     let sound = are_sound(dispatch.history(), stints.as_slice());
     take_apart(stints, &mut workers, &mut receipts);
     let dealt = are_receipted(
-        &opening,
+        opened,
         &dispatch,
         places.as_slice(),
         receipts.as_slice(),
         tables,
     );
-    let fault = fault_of(&opening, &dispatch, sound, dealt, short, threadless);
-    drop(opening);
+    let fault = fault_of(opened, &dispatch, sound, dealt, short, threadless);
     drop(places);
     Ran {
         dispatch,
@@ -304,7 +321,7 @@ fn serve_leases<L: Opened + Send + Sync, T: Transport, R: Threads + Wait + Sync>
     alloc: Global,
     dispatch: Dispatch,
     seats: Vec<Seat<T>>,
-    manned: Vec<(u32, u32)>,
+    posts: Posts,
     running: Vec<Running<L, T>>,
     stints: Vec<Stint<T>>,
     blank: Blank,
@@ -322,6 +339,7 @@ fn serve_leases<L: Opened + Send + Sync, T: Transport, R: Threads + Wait + Sync>
     ensures total { made result.dispatch.history ≡ made dispatch.history + receipts_in result.stints.items }
     ensures each { HaveServed T.state seats.items result.stints.items }
 {
+    let Posts { manned, bells } = posts;
     let (mut book, mut rest) = blank.open::<L>();
     book.add(&mut rest, count_made(dispatch.history()) as u64);
     let mut desk = Desk {
@@ -334,7 +352,7 @@ fn serve_leases<L: Opened + Send + Sync, T: Transport, R: Threads + Wait + Sync>
     desk.begin(seats.len());
     let shared = Shared {
         desk: Mutex::new(desk),
-        changed: Condvar::new(),
+        bells,
     };
     let ready = Ready {
         seats,
@@ -343,8 +361,8 @@ fn serve_leases<L: Opened + Send + Sync, T: Transport, R: Threads + Wait + Sync>
         stints,
     };
     let Ended { all, stints } = in_scope(rt, alloc, &shared, ready);
-    let Shared { desk, changed } = shared;
-    drop(changed);
+    let Shared { desk, bells } = shared;
+    drop(bells);
     let (dispatch, short, threadless) = close(desk.into_inner(), all);
     Served {
         dispatch,
@@ -381,7 +399,7 @@ fn run_in<L: Opened + Send + Sync, T: Transport, R: Threads + Wait + Sync>(
     alloc: Global,
     dispatch: Dispatch,
     seats: Vec<Seat<T>>,
-    manned: Vec<(u32, u32)>,
+    posts: Posts,
     plan: Plan,
     room: Room<L, T>,
     blank: Blank,
@@ -390,7 +408,7 @@ fn run_in<L: Opened + Send + Sync, T: Transport, R: Threads + Wait + Sync>(
     requires parts { blank.parts ≡ L.parts }
     requires one_more { blank.parts ≡ vec_len seats + 1 }
     requires begun { L.opening ≡ dispatch }
-    requires opening { plan.opening ≡ dispatch }
+    requires opened { plan.opened ≡ length dispatch.history }
     requires choices { AreUnknown (length plan.places.items) plan.tables.choices.items }
     requires running { vec_len seats ≤ vec_capacity room.running }
     requires stints { vec_len seats ≤ vec_capacity room.stints }
@@ -412,7 +430,7 @@ fn run_in<L: Opened + Send + Sync, T: Transport, R: Threads + Wait + Sync>(
         stints,
         back,
     } = room;
-    let served = serve_leases(rt, alloc, dispatch, seats, manned, running, stints, blank);
+    let served = serve_leases(rt, alloc, dispatch, seats, posts, running, stints, blank);
     let Served {
         dispatch,
         stints,
@@ -428,7 +446,7 @@ fn run_named<L: Opened + Send + Sync, T: Transport, R: Threads + Wait + Sync>(
     alloc: Global,
     dispatch: Dispatch,
     seats: Vec<Seat<T>>,
-    manned: Vec<(u32, u32)>,
+    posts: Posts,
     plan: Plan,
     blank: Blank,
 ) -> Result<Ran<T>, NotRun<T>>
@@ -436,7 +454,7 @@ fn run_named<L: Opened + Send + Sync, T: Transport, R: Threads + Wait + Sync>(
     requires parts { blank.parts ≡ L.parts }
     requires one_more { blank.parts ≡ vec_len seats + 1 }
     requires begun { L.opening ≡ dispatch }
-    requires opening { plan.opening ≡ dispatch }
+    requires opened { plan.opened ≡ length dispatch.history }
     requires choices { AreUnknown (length plan.places.items) plan.tables.choices.items }
     ensures why { IfErr result (λ r. r.why ≡ RunError.Memory) }
     ensures dispatch { IfErr result (λ r. r.dispatch ≡ dispatch) }
@@ -453,12 +471,12 @@ fn run_named<L: Opened + Send + Sync, T: Transport, R: Threads + Wait + Sync>(
     ensures calls { IfOk result (λ e. Agrees e.fault → AreServedIn T.state e.dispatch.history seats.items e.workers.items e.receipts.items) }
 {
     let Ok(room) = make_room::<L, T>(alloc, seats.len()) else {
-        drop(manned);
+        drop(posts);
         drop(plan);
         drop(blank);
         return refused(RunError::Memory, dispatch, seats);
     };
-    Ok(run_in(rt, alloc, dispatch, seats, manned, plan, room, blank))
+    Ok(run_in(rt, alloc, dispatch, seats, posts, plan, room, blank))
 }
 
 /// As [`run`], by workers with transports of one type.
@@ -486,9 +504,9 @@ pub fn run_with<T: Transport, R: Threads + Wait + Sync>(
     let alloc = *workers.allocator();
     match prepare(alloc, &dispatch, workers.as_slice()) {
         Ok(prepared) => {
-            let (manned, plan) = prepared;
+            let (posts, plan) = prepared;
             let blank = Blank::new(workers.len() as u64 + 1);
-            run_named::<Brand, T, R>(rt, alloc, dispatch, workers, manned, plan, blank)
+            run_named::<Brand, T, R>(rt, alloc, dispatch, workers, posts, plan, blank)
         }
         Err(why) => refused(why, dispatch, workers),
     }

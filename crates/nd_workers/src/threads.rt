@@ -83,7 +83,7 @@ fn start<'s, E, L: Opened + Send + Sync + 's, T: Transport + 's, R: Wait + Sync>
 fn unstarted<L: Opened, R: Wait>(rt: &R, shared: &Shared<L>, started: usize) {
     let mut desk = shared.desk.lock(rt);
     desk.unstarted(started);
-    shared.changed.notify_all();
+    shared.bells.ring_all();
 }
 
 /// What is needed before the first thread starts: the workers, the ledger's whole share, and room for

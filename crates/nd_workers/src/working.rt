@@ -4,7 +4,8 @@ ghost use Rattle.std.specs.Prelude.{◌≡◌, ◌<◌, [], ℕ, List};
 ghost use Rattle.nd_receipts.specs.Noted.{GoesOn, track_of};
 ghost use Rattle.nd_workers.specs.Ends.{EndsWell};
 
-use crate::desk::Next;
+use crate::bells::Bells;
+use crate::desk::{Desk, Next, entries_since};
 use crate::hand::Hand;
 use crate::leasing::{Shared, give_up, serve};
 use crate::opened::Opened;
@@ -35,6 +36,20 @@ pub(crate) struct Done<L: Opened, T: Transport> {
     pub(crate) end: End,
 }
 
+/// What there is to do for the worker of this place. The bells of all places that get a lease ring.
+fn look<L: Opened>(
+    alloc: Global,
+    bells: &Bells,
+    desk: &mut Desk<L>,
+    machine: u32,
+    slot: u32,
+) -> Next {
+    let before = desk.dispatch.history().len();
+    let next = desk.next(alloc, machine, slot);
+    bells.ring_for(entries_since(&desk.dispatch, before));
+    next
+}
+
 /// Waits until there is something to do for the worker of this place.
 fn take<L: Opened, R: Wait>(
     rt: &R,
@@ -45,17 +60,17 @@ fn take<L: Opened, R: Wait>(
 ) -> Next {
     let mut desk = shared.desk.lock(rt);
     for _ in rt.forever() {
-        match desk.next(alloc, machine, slot) {
+        match look(alloc, &shared.bells, &mut *desk, machine, slot) {
             Next::Wait => {}
             Next::Finished => {
                 // Those who wait may not know yet.
-                shared.changed.notify_all();
+                shared.bells.ring_all();
                 return Next::Finished;
             }
             Next::Serve(job) => return Next::Serve(job),
             Next::Short(ticket) => return Next::Short(ticket),
         }
-        desk = shared.changed.wait(rt, desk);
+        desk = shared.bells.of(machine, slot).wait(rt, desk);
     }
     unreachable!()
 }
@@ -64,7 +79,7 @@ fn take<L: Opened, R: Wait>(
 pub(crate) fn leave<L: Opened, R: Wait>(rt: &R, shared: &Shared<L>, machine: u32, slot: u32) {
     let mut desk = shared.desk.lock(rt);
     desk.leave(machine, slot);
-    shared.changed.notify_all();
+    shared.bells.ring_all();
 }
 
 /// One lease of a worker.

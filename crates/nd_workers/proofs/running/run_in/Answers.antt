@@ -3,20 +3,23 @@ use Rattle.nd_ledger.specs.Worlds.{World}
 use Rattle.nd_receipts.specs.Made.{made}
 use Rattle.nd_workers.specs.declared.seat.Seat.{Seat}
 use Rattle.nd_workers.specs.Runs.{IsServedIn}
+use Rattle.nd_workers.specs.Steps.{RunsOn}
 use Rattle.nd_workers.specs.Served.{Seated, seat_of, places_served, IsSound}
-use Rattle.nd_workers.proofs.Compared.{served_in}
+use Rattle.nd_workers.proofs.Compared.{served_in, is_over}
 use Rattle.nd_workers.proofs.Stints.{places_kept}
 use Rattle.nd_workers.proofs.Zips.{zip_known_via}
 use Rattle.nd_workers.proofs.running.run_in.Goals as goal
 
 pub returns-clause-goes_on : goal.returns-clause-goes_on
-returns-clause-goes_on g c = rw (← c.requires.opening) c.settle.ensures.goes_on
+returns-clause-goes_on g c = λ agrees.
+    let P : World → Type 0 = λ w. RunsOn c.args.dispatch w in
+    is_over c.args.dispatch c.settle.result.dispatch (subst P (sym c.settle.ensures.dispatch) c.serve_leases-served.ensures.runs) (c.settle.ensures.finished agrees)
 
 pub returns-clause-receipted : goal.returns-clause-receipted
-returns-clause-receipted g c = rw (← c.requires.opening) c.settle.ensures.receipted
+returns-clause-receipted g c = rw (← c.requires.opened) c.settle.ensures.receipted
 
 pub returns-clause-quiet : goal.returns-clause-quiet
-returns-clause-quiet g c = rw (← c.requires.opening) c.settle.ensures.quiet
+returns-clause-quiet g c = rw (← c.requires.opened) c.settle.ensures.quiet
 
 pub returns-clause-calls : goal.returns-clause-calls
 returns-clause-calls g c = λ agrees.
