@@ -4,7 +4,7 @@ use Rattle.nd_closure.specs.Sets.{Stock, stock_of, IsDifference}
 use Rattle.nd_history.specs.Premises.{premises_of}
 use Rattle.nd_provision.specs.Stored.{Stored, IsMissingBy}
 use Rattle.nd_provision.proofs.Storing.{missing_by}
-use Rattle.nd_provision.proofs.stores.Stores.missing.Goals as goal
+use Rattle.nd_provision.proofs.stores.Stores.walk_missing.Goals as goal
 
 pub returns : goal.returns
 returns c =

@@ -4,7 +4,7 @@ use Rattle.nd_closure.specs.Closures.{HoldsAll}
 use Rattle.nd_history.specs.Premises.{premises_of}
 use Rattle.nd_provision.specs.Stored.{Stored, IsCovered, IsOutside}
 use Rattle.nd_provision.proofs.Storing.{extra_by, right_by}
-use Rattle.nd_provision.proofs.stores.Stores.check_paths.Goals as goal
+use Rattle.nd_provision.proofs.stores.Stores.walk_paths.Goals as goal
 
 pub returns-then-not-lie_in-clause-refused : goal.returns-then-not-lie_in-clause-refused
 returns-then-not-lie_in-clause-refused c =

@@ -5,7 +5,7 @@ use Rattle.nd_history.specs.Premises.{premises_of}
 use Rattle.nd_history.specs.References.{outputs_of}
 use Rattle.nd_provision.specs.Stored.{AreAllWithin, IsStray}
 use Rattle.nd_provision.proofs.Storing.{references_by}
-use Rattle.nd_provision.proofs.stores.Stores.check_references.Goals as goal
+use Rattle.nd_provision.proofs.stores.Stores.walk_references.Goals as goal
 
 pub returns : goal.returns
 returns c =
