@@ -544,12 +544,12 @@ stored_built i past d t refs old new a legal found are adds took = record {
   where
     -- with a path each machine holds what the path refers to, where the ticket's machine has what the outputs refer to
     whole : old.whole ≡ true → a.provided ≡ true → (m : ℕ) → m < length old.stocks → HoldsReferences i (Built d refs ∷ past) m
-    whole was yes zero lt = local_whole i (Built d refs ∷ past)
-    whole was yes (suc k) lt = built_whole i past d refs k legal (are.whole was (suc k) lt) (λ on p q out r.
+    whole was has zero lt = local_whole i (Built d refs ∷ past)
+    whole was has (suc k) lt = built_whole i past d refs k legal (are.whole was (suc k) lt) (λ on p q out r.
         let same : suc k ≡ t.machine = only_there i past legal.1 d (suc k) t found on in
         let refers = table_refers i (Built d refs ∷ past) new.entries (built_references i past d t.machine refs old.entries new.entries a are.references adds took.entries) p q in
         let said : Contains (refs_of (old.entries ++ a.entries.items) p) q = subst (λ (rs : List (List ℕ)). Contains rs q) (took.entries.refs p) (refers.1 r) in
-        elim ((took.provided.held yes).each p q (subst (λ (xs : List (List ℕ)). Contains xs p) (sym adds.own) out) said) [
+        elim ((took.provided.held has).each p q (subst (λ (xs : List (List ℕ)). Contains xs p) (sym adds.own) out) said) [
           | inl held ↦ inl ((are.holdings.held (suc k) lt q).0 (subst (λ (n : ℕ). Contains (stock_of old.stocks n).paths q) (adds.machine ∙ sym same) held))
           | inr own ↦ inr (subst (λ (xs : List (List ℕ)). Contains xs q) adds.own own)
         ])
