@@ -1,7 +1,8 @@
 -- What is kept beside the entries of references and holdings, so that closures and copies are found without a search of the history.
 -- The histories of these definitions stand newest first.
 -- Public clauses cite this, but `AreGivenEntries`, `AreNeeded`, `IsClosureBy`, `IsCovered`, `IsBare`, `IsOutside`,
--- `AreAllWithin`, `IsStray`, `IsUnheld`, `AddsUnheld`, `AreRefsCovered` and `AreListsCovered` serve private clauses alone and `is_quiet`, `named_outputs` and `AreSources` serve proofs alone.
+-- `AreAllWithin`, `IsStray`, `IsUnheld`, `AddsUnheld`, `AreRefsHeld`, `AreRefsCovered` and `AreListsCovered` serve private
+-- clauses alone, and `is_quiet`, `named_outputs` and `AreSources` serve proofs alone.
 use Rattle.std.specs.Prelude.{◌≡◌, ◌≢◌, ℕ, ◌<◌, ◌≤◌, ◌↔◌, ◌⊎◌, IsTrue, Bool, true, false, List, [], ◌∷◌, ◌++◌, length, map, ◌==◌, ◌&&◌, if◌then◌else◌}
 use Rattle.std.specs.List.{Contains, slice_index_or, zip}
 use Rattle.std.specs.Bool.{MatchBool}
