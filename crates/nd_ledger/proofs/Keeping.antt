@@ -261,7 +261,7 @@ kept_started d roomy book board turns mid new t paths a e is more rec was same r
     (subst P is rec) was
     (record { ranged = leased_ranged i past was.legal t.drv leased; may = record { ticket = t; live = ready.live; fresh = ready.fresh; right = ready.right } })
     (omega arith)
-    (stored_start i past t.drv t paths mid new a was.legal ready.live (stored_same i past d.stores mid same was.stores) ready.adds took)
+    (stored_start i past t.drv t paths mid new a was.legal ready.live ready.right (stored_same i past d.stores mid same was.stores) ready.adds took)
 
 pub kept_built : (d : Inside) (book : Recorded) (board : Progress) (turns : Turned) (mid new : Stored) (t : Ticket) (refs : List (List (List ℕ))) (a : Additions) (e : Entry) → e ≡ Built t.drv refs → IsRecorded d.book book d.board board d.turns turns e → IsKept d → IsSameStored d.stores mid
     → IsReadyToEnd (premises_of d.inputs) (reverse d.book.entries) t refs mid a → HasTaken mid new a → IsKept (record d { book = book; board = board; turns = turns; stores = new })

@@ -25,14 +25,15 @@ use Rattle.nd_history.specs.Premises.{Premises}
 use Rattle.nd_history.specs.History.{live, lease_of, is_built}
 use Rattle.nd_history.specs.Choices.{machines_in}
 use Rattle.nd_history.specs.Legal.{IsLegal}
-use Rattle.nd_history.specs.References.{IsAlong, outputs_of, IsGiven, reports, Refers, IsBuiltPath, is_leased_on, brought, IsHeld}
+use Rattle.nd_history.specs.References.{IsAlong, outputs_of, IsGiven, reports, Refers, IsBuiltPath, is_leased_on, brought, IsHeld, ArePathsRight}
 use Rattle.nd_history.specs.References.IsAlong.{seed, step}
 use Rattle.nd_history.specs.References.Refers.{listed, reported}
-use Rattle.nd_provision.specs.Stored.{Stored, LooksLike, IsGivenTable, AreReferences, AreStored, is_quiet, IsSameStored, AreGivenEntries, AreNeeded, AreSources, IsClosureBy, IsMissingBy, ArePathsRightBy, IsPathsFaultBy, AreReferencesRightBy, IsCovered, IsBare, IsOutside, AreAllWithin, IsStray, HasGained, HasTaken, AreStartAdditions, AreBuiltAdditions}
+use Rattle.nd_provision.specs.Stored.{Stored, LooksLike, IsGivenTable, AreReferences, AreHoldings, HoldsReferences, AreStored, is_quiet, IsSameStored, AreGivenEntries, AreNeeded, AreSources, IsClosureBy, IsUnheld, IsMissingBy, ArePathsRightBy, IsPathsFaultBy, AreReferencesRightBy, IsCovered, IsBare, IsOutside, AreAllWithin, IsStray, HasGained, HasTaken, AreStartAdditions, AreBuiltAdditions}
 use Rattle.nd_history.proofs.Slots.{lease_once, count_cons}
 use Rattle.nd_history.proofs.Reported.{rest_true, or_true, one_of, nothing_in, contains_cases, refs_first, refs_second, built_on}
-use Rattle.nd_history.proofs.Closing.{along_more, refers_alike}
+use Rattle.nd_history.proofs.Closing.{along_more, along_within, refers_alike}
 use Rattle.nd_history.proofs.Provisions.{IsKept, held_known, known_held, adding, leased_there}
+use Rattle.nd_provision.proofs.Whole.{local_whole, first_whole, start_whole, built_whole, grown_to, to_grown}
 use Rattle.nd_provision.proofs.Lookalikes.{looks_same, looks_through, looks_longer}
 
 -- ---- the table tells what each path refers to
@@ -95,6 +96,31 @@ missing_by i s d m closure paths within close lacks = record {
   };
 }
 
+-- and so is what a search finds that stops at held paths, where with a path the machine holds what it refers to
+pub unheld_by : (i : Premises) (s : Stored) (d m : ℕ) (needed paths : List (List ℕ)) → m < length s.stocks → s.whole ≡ true → AreNeeded i d needed → IsUnheld s.entries (stock_of s.stocks m).paths needed paths → IsMissingBy i s d m paths
+unheld_by i s d m needed paths within whole are found = record {
+  tells = λ past kept.
+      let refers = table_refers i past s.entries kept.references in
+      let holds = kept.whole whole m within in
+      record {
+        needed = λ p h. reached_along s.entries needed (λ q k. (are.exact q).0 k) (λ q r k. (refers q r).0 k) p (found.reached p h);
+        lacked = λ p h held. found.lacked p h ((kept.holdings.held m within p).1 held);
+        all = λ p h. along_within (λ x. Contains paths x ⊎ IsHeld i past m x)
+            (λ q k. elim (found.seeded q ((are.exact q).1 k)) [ inl there ↦ inl there | inr held ↦ inr ((kept.holdings.held m within q).0 held) ])
+            (λ q r k refs. elim k [
+              | inl there ↦ (elim (found.onward q r there ((refers q r).1 refs)) [ inl more ↦ inl more | inr held ↦ inr ((kept.holdings.held m within r).0 held) ])
+              | inr held ↦ inr (holds.each q r held refs)
+            ])
+            p h;
+      };
+}
+
+-- copied paths are right where they are what is missing
+pub exact_by : (i : Premises) (s : Stored) (d m : ℕ) (paths : List (List ℕ)) → IsMissingBy i s d m paths → ArePathsRightBy i s d m paths
+exact_by i s d m paths are = record {
+  tells = λ past kept. record { needed = (are.tells past kept).needed; covered = (are.tells past kept).all };
+}
+
 -- copied paths are right where they lie in the closure and cover it
 pub right_by : (i : Premises) (s : Stored) (d m : ℕ) (closure paths : List (List ℕ)) → m < length s.stocks → IsClosureBy i s d closure → IsCovered closure (stock_of s.stocks m).paths paths → HoldsAll closure paths → ArePathsRightBy i s d m paths
 right_by i s d m closure paths within close covers lie = record {
@@ -147,6 +173,19 @@ references_by i s d refs closure allowed false sized close same stray = record {
     | inl there ↦ stray.out (same.to stray.path (Contains-append_left closure (outputs_of i d) stray.path ((close.tells past kept stray.path).1 there)))
     | inr out ↦ stray.out (same.to stray.path (Contains-append_right closure (outputs_of i d) stray.path out.listed))
   ];
+}
+
+-- .. and where each lies in what d needs at once, with the outputs
+pub references_near : (i : Premises) (s : Stored) (d : ℕ) (refs : List (List (List ℕ))) (needed allowed : List (List ℕ)) → length refs ≡ length (outputs_of i d) → AreNeeded i d needed
+    → HasSameMembers (needed ++ outputs_of i d) allowed → AreAllWithin allowed refs → AreReferencesRightBy i s d refs true
+references_near i s d refs needed allowed sized are same within = record {
+  tells = λ past kept. record {
+    sized = sized;
+    within = λ list p h k. elim (Contains-append_cases needed (outputs_of i d) p (same.from p (within.each list p h k))) [
+      | inl there ↦ inl (seed p ((are.exact p).0 there))
+      | inr out ↦ inr (record { listed = out })
+    ];
+  };
 }
 
 -- ---- before the first entry
@@ -203,7 +242,7 @@ held_at_first i p = (λ h. known p (held_known i [] tt p h), λ g. known_held i 
 
 pub stored_at_first : (i : Premises) (given : List (List ℕ)) (entries table : List (List ℕ × List (List ℕ))) (spare : ℕ) (empty stocks : List Stock)
     → ((p : List ℕ) → Contains given p ↔ IsGiven i p) → AreGivenEntries i.info given entries → LooksLike table entries
-    → length empty ≡ machines_in i → ((m : ℕ) → (stock_of empty m).paths ≡ []) → HasGained empty stocks 0 given → AreStored i [] (record { entries = table; spare = spare; stocks = stocks })
+    → length empty ≡ machines_in i → ((m : ℕ) → (stock_of empty m).paths ≡ []) → HasGained empty stocks 0 given → AreStored i [] (record { entries = table; spare = spare; stocks = stocks; whole = true })
 stored_at_first i given entries table spare empty stocks exact are looks park none gained = record {
   references = record {
     given = entries;
@@ -214,6 +253,7 @@ stored_at_first i given entries table spare empty stocks exact are looks park no
     park = gained.size ∙ park;
     held = at;
   };
+  whole = λ _ m lt. first_whole i m;
 }
   where
     at : (m : ℕ) → m < length stocks → (p : List ℕ) → Contains (stock_of stocks m).paths p ↔ IsHeld i [] m p
@@ -243,6 +283,7 @@ stored_same i past old new same are = record {
     park = same.park ∙ are.holdings.park;
     held = λ m lt p. subst (λ (xs : List (List ℕ)). Contains xs p ↔ IsHeld i past m p) (sym (same.paths m)) (are.holdings.held m (subst (λ (n : ℕ). m < n) same.park lt) p);
   };
+  whole = λ w m lt. are.whole (sym same.whole ∙ w) m (subst (λ (n : ℕ). m < n) same.park lt);
 }
 
 -- the same reports and the same outputs built make the local machine hold the same
@@ -272,6 +313,7 @@ stored_on i past e s same held are = record {
     park = are.holdings.park;
     held = λ m lt p. (λ h. (held m p).0 ((are.holdings.held m lt p).0 h), λ h. (are.holdings.held m lt p).1 ((held m p).1 h));
   };
+  whole = λ w m lt. record { each = λ p q h r. (held m q).0 ((are.whole w m lt).each p q ((held m p).1 h) (refers_alike i (e ∷ past) past same p q r)) };
 }
 
 quiet_held : (i : Premises) (past : List Entry) (e : Entry) → is_quiet e ≡ true → (m : ℕ) (p : List ℕ) → IsHeld i past m p ↔ IsHeld i (e ∷ past) m p
@@ -399,17 +441,6 @@ part_of m paths p h =
 of_part : (k : ℕ) (paths : List (List ℕ)) (p : List ℕ) → Contains paths p → Contains (part (suc k) paths) p
 of_part k paths p h = subst (λ (b : Bool). Contains (if b then [] else paths) p) (sym (ne_eqb (suc k) 0 (λ same. omega arith))) h
 
--- a builder's paths, grown where the lease is on it
-grown_to : (b : Bool) (before paths : List (List ℕ)) (p : List ℕ) → Contains (if b then before ++ paths else before) p → Contains before p ⊎ ((b ≡ true) × Contains paths p)
-grown_to true before paths p h = elim (Contains-append_cases before paths p h) [ inl there ↦ inl there | inr new ↦ inr (refl, new) ]
-grown_to false before paths p h = inl h
-
-to_grown : (b : Bool) (before paths : List (List ℕ)) (p : List ℕ) → Contains before p ⊎ ((b ≡ true) × Contains paths p) → Contains (if b then before ++ paths else before) p
-to_grown true before paths p (inl there) = Contains-append_left before paths p there
-to_grown true before paths p (inr new) = Contains-append_right before paths p new.1
-to_grown false before paths p (inl there) = there
-to_grown false before paths p (inr new) = let never = new.0 in cc
-
 -- a builder holds what it held, and what came to it
 builder_holds : (i : Premises) (past : List Entry) → IsLegal i past → (d k : ℕ) (t : Ticket) (paths before : List (List ℕ)) (p : List ℕ) → lease_of d past ≡ Some t
     → (Contains before p ⊎ ((suc k ≡ t.machine) × Contains (part t.machine paths) p)) ↔ Contains (if is_leased_on (suc k) d past then before ++ paths else before) p
@@ -429,8 +460,8 @@ builder_holds i past legal d k t paths before p found =
 
 -- a start is taken in
 pub stored_start : (i : Premises) (past : List Entry) (d : ℕ) (t : Ticket) (paths : List (List ℕ)) (old new : Stored) (a : Additions)
-    → IsLegal i past → lease_of d past ≡ Some t → AreStored i past old → AreStartAdditions t.machine paths a → HasTaken old new a → AreStored i (Started d paths ∷ past) new
-stored_start i past d t paths old new a legal found are adds took = record {
+    → IsLegal i past → lease_of d past ≡ Some t → ArePathsRight i past d t.machine paths → AreStored i past old → AreStartAdditions t.machine paths a → HasTaken old new a → AreStored i (Started d paths ∷ past) new
+stored_start i past d t paths old new a legal found right are adds took = record {
   references = record {
     given = are.references.given;
     base = are.references.base;
@@ -442,6 +473,8 @@ stored_start i past d t paths old new a legal found are adds took = record {
     park = took.brought.size ∙ took.own.size ∙ are.holdings.park;
     held = λ m lt p. at m (subst (λ (n : ℕ). m < n) (took.brought.size ∙ took.own.size) lt) p;
   };
+  whole = λ w m lt. start_whole i past d t.machine paths m (λ on. only_there i past legal d m t found on) right
+      (are.whole (and_left old.whole a.provided (sym took.whole ∙ w)) m (subst (λ (n : ℕ). m < n) (took.brought.size ∙ took.own.size) lt));
 }
   where
     -- what is held is what was held, and on the ticket's machine what came to it
@@ -481,26 +514,46 @@ stored_start i past d t paths old new a legal found are adds took = record {
           ]),
         )
 
+-- the reports of a build are taken in
+built_references : (i : Premises) (past : List Entry) (d m : ℕ) (refs : List (List (List ℕ))) (old new : List (List ℕ × List (List ℕ))) (a : Additions)
+    → AreReferences i past old → AreBuiltAdditions i d m refs a → LooksLike new (old ++ a.entries.items) → AreReferences i (Built d refs ∷ past) new
+built_references i past d m refs old new a are adds took = record {
+  given = are.given;
+  base = are.base;
+  looks = looks_through new ((are.given ++ reports i past) ++ zip (outputs_of i d) refs) (are.given ++ (reports i past ++ zip (outputs_of i d) refs))
+      (looks_through new (old ++ zip (outputs_of i d) refs) ((are.given ++ reports i past) ++ zip (outputs_of i d) refs)
+      (looks_through new (old ++ a.entries.items) (old ++ zip (outputs_of i d) refs) took
+      (looks_same _ _ (ap (λ (x : List (List ℕ × List (List ℕ))). old ++ x) adds.entries)))
+      (looks_longer old (are.given ++ reports i past) (zip (outputs_of i d) refs) are.looks))
+      (looks_same _ _ (append_assoc are.given (reports i past) (zip (outputs_of i d) refs)));
+}
+
 -- a build is taken in
 pub stored_built : (i : Premises) (past : List Entry) (d : ℕ) (t : Ticket) (refs : List (List (List ℕ))) (old new : Stored) (a : Additions)
     → IsLegal i (Built d refs ∷ past) → lease_of d past ≡ Some t → AreStored i past old → AreBuiltAdditions i d t.machine refs a → HasTaken old new a → AreStored i (Built d refs ∷ past) new
 stored_built i past d t refs old new a legal found are adds took = record {
-  references = record {
-    given = are.references.given;
-    base = are.references.base;
-    looks = looks_through new.entries ((are.references.given ++ reports i past) ++ zip (outputs_of i d) refs) (are.references.given ++ (reports i past ++ zip (outputs_of i d) refs))
-        (looks_through new.entries (old.entries ++ zip (outputs_of i d) refs) ((are.references.given ++ reports i past) ++ zip (outputs_of i d) refs)
-        (looks_through new.entries (old.entries ++ a.entries.items) (old.entries ++ zip (outputs_of i d) refs) took.entries
-        (looks_same _ _ (ap (λ (x : List (List ℕ × List (List ℕ))). old.entries ++ x) adds.entries)))
-        (looks_longer old.entries (are.references.given ++ reports i past) (zip (outputs_of i d) refs) are.references.looks))
-        (looks_same _ _ (append_assoc are.references.given (reports i past) (zip (outputs_of i d) refs)));
-  };
+  references = built_references i past d t.machine refs old.entries new.entries a are.references adds took.entries;
   holdings = record {
     park = took.brought.size ∙ took.own.size ∙ are.holdings.park;
     held = λ m lt p. at m (subst (λ (n : ℕ). m < n) (took.brought.size ∙ took.own.size) lt) p;
   };
+  whole = λ w m lt.
+      let both : (old.whole && a.provided) ≡ true = sym took.whole ∙ w in
+      whole (and_left old.whole a.provided both) (and_right old.whole a.provided both) m (subst (λ (n : ℕ). m < n) (took.brought.size ∙ took.own.size) lt);
 }
   where
+    -- with a path each machine holds what the path refers to, where the ticket's machine has what the outputs refer to
+    whole : old.whole ≡ true → a.provided ≡ true → (m : ℕ) → m < length old.stocks → HoldsReferences i (Built d refs ∷ past) m
+    whole was has zero lt = local_whole i (Built d refs ∷ past)
+    whole was has (suc k) lt = built_whole i past d refs k legal (are.whole was (suc k) lt) (λ on p q out r.
+        let same : suc k ≡ t.machine = only_there i past legal.1 d (suc k) t found on in
+        let refers = table_refers i (Built d refs ∷ past) new.entries (built_references i past d t.machine refs old.entries new.entries a are.references adds took.entries) p q in
+        let said : Contains (refs_of (old.entries ++ a.entries.items) p) q = subst (λ (rs : List (List ℕ)). Contains rs q) (took.entries.refs p) (refers.1 r) in
+        elim ((took.provided.held has).each p q (subst (λ (xs : List (List ℕ)). Contains xs p) (sym adds.own) out) said) [
+          | inl held ↦ inl ((are.holdings.held (suc k) lt q).0 (subst (λ (n : ℕ). Contains (stock_of old.stocks n).paths q) (adds.machine ∙ sym same) held))
+          | inr own ↦ inr (subst (λ (xs : List (List ℕ)). Contains xs q) adds.own own)
+        ])
+
     -- what is held is what was held, on the local machine the outputs, and on the ticket's machine what came to it
     now : (m : ℕ) (p : List ℕ) → Contains (stock_of new.stocks m).paths p
         ↔ Contains (stock_of old.stocks m).paths p ⊎ (((m ≡ 0) × Contains (outputs_of i d) p) ⊎ ((m ≡ t.machine) × Contains (part t.machine (outputs_of i d)) p))

@@ -23,6 +23,8 @@ pub struct Additions {
     pub own: Vec<StorePath>,
     /// What the machine gets, where it isn't the local one.
     pub brought: Vec<StorePath>,
+    /// Where this is so, the machine has what the new paths of the local one refer to, or gets it.
+    pub provided: bool,
 }
 
 /// Why the paths copied for a build aren't right.
@@ -61,6 +63,14 @@ pub(crate) fn copy_all(alloc: Global, paths: &[StorePath]) -> Result<Vec<StorePa
     let mut copies = Vec::new(alloc);
     add_copies(&mut copies, paths)?;
     Ok(copies)
+}
+
+/// The set of these paths and of copies of those.
+pub(crate) fn set_with(mut paths: Vec<StorePath>, more: &[StorePath]) -> Result<PathSet, AllocError>
+    ensures { IfOk result (HasSameMembers (paths.items ++ more.now)) }
+{
+    add_copies(&mut paths, more)?;
+    PathSet::from_vec(paths)
 }
 
 /// The set of these paths.

@@ -4,6 +4,7 @@
 mod checks;
 pub mod copying;
 mod needs;
+mod searching;
 pub mod stores;
 
 pub use copying::{Additions, PathsError};
