@@ -28,7 +28,7 @@ use Rattle.nd_history.specs.Legal.{IsLegal}
 use Rattle.nd_history.specs.References.{IsAlong, outputs_of, IsGiven, reports, Refers, IsBuiltPath, is_leased_on, brought, IsHeld, ArePathsRight}
 use Rattle.nd_history.specs.References.IsAlong.{seed, step}
 use Rattle.nd_history.specs.References.Refers.{listed, reported}
-use Rattle.nd_provision.specs.Stored.{Stored, LooksLike, IsGivenTable, AreReferences, AreHoldings, HoldsReferences, AreStored, is_quiet, IsSameStored, AreGivenEntries, AreNeeded, AreSources, IsClosureBy, IsUnheld, IsMissingBy, ArePathsRightBy, IsPathsFaultBy, AreReferencesRightBy, IsCovered, IsBare, IsOutside, AreAllWithin, IsStray, HasGained, HasTaken, AreStartAdditions, AreBuiltAdditions}
+use Rattle.nd_provision.specs.Stored.{Stored, LooksLike, IsGivenTable, AreReferences, HoldsReferences, AreStored, is_quiet, IsSameStored, AreGivenEntries, AreNeeded, AreSources, IsClosureBy, IsUnheld, IsMissingBy, ArePathsRightBy, IsPathsFaultBy, AreReferencesRightBy, IsCovered, IsBare, IsOutside, AreAllWithin, IsStray, HasGained, HasTaken, AreStartAdditions, AreBuiltAdditions}
 use Rattle.nd_history.proofs.Slots.{lease_once, count_cons}
 use Rattle.nd_history.proofs.Reported.{rest_true, or_true, one_of, nothing_in, contains_cases, refs_first, refs_second, built_on}
 use Rattle.nd_history.proofs.Closing.{along_more, along_within, refers_alike}

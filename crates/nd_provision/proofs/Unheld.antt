@@ -1,12 +1,12 @@
 -- The search that stops at each held path: what it has found so far, and what it ends with.
-use Rattle.std.proofs.Common.{◌≡◌, ◌⊎◌, ℕ, ◌+◌, ◌<◌, ◌≤◌, Bool, true, false, List, [], ◌∷◌, ◌++◌, length, get_or, take, sym, ap, subst, ◌∙◌, inl, inr, arith, append_assoc, length-append}
+use Rattle.std.proofs.Common.{◌≡◌, ◌⊎◌, ℕ, ◌+◌, ◌<◌, ◌≤◌, List, [], ◌∷◌, ◌++◌, length, get_or, take, sym, ap, subst, ◌∙◌, inl, inr, arith, append_assoc, length-append}
 use Rattle.std.specs.List.{Contains, zip}
 use Rattle.std.proofs.lemmas.Bool.{cases_lt, cases_Bool}
 use Rattle.std.proofs.lemmas.List.{get_or_append_left, get_or_default, append-nil}
-use Rattle.std.proofs.lemmas.List.Elements.{Contains-append_left, Contains-append_cases, Contains-get_or, Contains-push, Contains-push_cases}
+use Rattle.std.proofs.lemmas.List.Elements.{Contains-append_left, Contains-append_cases, Contains-get_or, Contains-push_cases}
 use Rattle.nd_path.specs.PathSets.{HasSameMembers}
 use Rattle.nd_closure.specs.Tables.{is_listed, refs_of}
-use Rattle.nd_closure.specs.Closures.{IsReached, HoldsAll}
+use Rattle.nd_closure.specs.Closures.{IsReached}
 use Rattle.nd_closure.specs.Closures.IsReached.{seed, step}
 use Rattle.nd_history.proofs.Reported.{nothing_in, zip_refs, refs_first, refs_second}
 use Rattle.nd_provision.specs.Stored.{IsCovered, IsUnheld, AddsUnheld, AreRefsCovered, AreListsCovered, AreRefsHeld}

@@ -1,12 +1,12 @@
 -- Machines that hold, with a path, what the path refers to.
-use Rattle.std.proofs.Common.{◌≡◌, ◌⊎◌, ℕ, zero, suc, Bool, true, false, if◌then◌else◌, List, [], ◌∷◌, ◌++◌, refl, sym, subst, inl, inr, Some}
+use Rattle.std.proofs.Common.{◌≡◌, ◌⊎◌, ℕ, zero, suc, Bool, true, false, if◌then◌else◌, List, [], ◌∷◌, ◌++◌, refl, sym, subst, inl, inr}
 use Rattle.std.specs.List.{Contains}
 use Rattle.std.proofs.lemmas.List.Elements.{Contains-append_left, Contains-append_right, Contains-append_cases}
 use Rattle.nd_history.specs.declared.entry.Entry.{Entry}
 use Rattle.nd_history.specs.declared.entry.Entry.TheVariants.{Started, Built}
 use Rattle.nd_history.specs.Premises.{Premises}
 use Rattle.nd_history.specs.Legal.{IsLegal}
-use Rattle.nd_history.specs.References.{IsAlong, outputs_of, Refers, IsInClosure, is_leased_on, brought, IsHeld, ArePathsRight}
+use Rattle.nd_history.specs.References.{outputs_of, Refers, is_leased_on, brought, IsHeld, ArePathsRight}
 use Rattle.nd_history.specs.References.IsAlong.{step}
 use Rattle.nd_provision.specs.Stored.{HoldsReferences}
 use Rattle.nd_history.proofs.Legality.{leased_fresh}
