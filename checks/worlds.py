@@ -1,18 +1,28 @@
 #!/usr/bin/env python3
 """Random small worlds, and what the plain rules of docs/DESIGN.md make of them.
 
-    checks/worlds.py [--world N]
+    python3 checks/worlds.py [--world N | --table]
 
 A world is a bundle of one to eight derivations, up to four builders, an info text and a script, drawn from
 the world's number. The rules here keep nothing but the history, and find everything by walks over it: they
-know of no table, no queue and no kinds of needs. The digests of the tests are printed, one for 64 worlds, as
-the table of `nd_test_sims` (`worlds.rt`) has them. `--world N` shows one world with all its texts.
+know of no table, no queue and no kinds of needs. Looked at is that the table of digests in `nd_test_sims`
+(`worlds.rt`), one for 64 worlds, is that of the rules, and that the built program simulates every eighth
+world as they do: there the first line that differs is shown. `--table` prints the table, and `--world N`
+shows one world with all its texts.
 
-The drawing is written once more in that module, so the two are changed together, and the table with them.
+The drawing is written once more in that crate (`drawing.rt`), so the two are changed together, and the
+table with them.
 """
 
 import argparse
+import os
+import subprocess
+import sys
+import tempfile
 from fractions import Fraction
+
+ROOT = os.path.dirname(os.path.dirname(os.path.abspath(__file__)))
+PROGRAM = os.path.join(ROOT, "crates", "nix_dispatch", "out", "nix_dispatch")
 
 WORLDS = 2048
 BLOCK = 64
@@ -515,18 +525,66 @@ def table():
     return digests
 
 
+def table_of_tests():
+    """The table that the tests have."""
+    with open(os.path.join(ROOT, "crates", "nd_test_sims", "src", "worlds.rt"), encoding="utf-8") as file:
+        numbers = file.read().split("const DIGESTS")[1].split("= [")[1].split("]")[0]
+    return [int(word) for word in numbers.replace(",", " ").split()]
+
+
+def simulated(world, folder):
+    """The text and the status of the built program's simulation."""
+    texts = {"builders": world.builders_text, "info": world.info_text, "script": world.script}
+    for name, text in texts.items():
+        with open(os.path.join(folder, name), "w", encoding="utf-8") as file:
+            file.write(text)
+    builders, info, script = (os.path.join(folder, name) for name in texts)
+    words = ["sim", "--builders", "@" + builders, "--info", info, "--script", script]
+    words += ["--system", "x86_64-linux", "--jobs", str(world.jobs)]
+    words += ["--extra", world.extra, "--features", world.local_features]
+    words += ["--keep-going"] if world.keep_going else []
+    ended = subprocess.run([PROGRAM, *words], input=world.bundle.encode(), capture_output=True, check=False)
+    return ended.stdout.decode() + ended.stderr.decode(), ended.returncode
+
+
+def look_at(number, folder):
+    """Ends the script where the program's simulation of a world isn't that of the plain rules."""
+    world = World(number)
+    _, text, status = simulate(world)
+    found, found_status = simulated(world, folder)
+    lines = zip(text.splitlines(), found.splitlines())
+    place = next((place for place, (rule, line) in enumerate(lines, 1) if rule != line), None)
+    if place is not None:
+        sys.exit(f"world {number}, line {place}: {found.splitlines()[place - 1]}, by the rules {text.splitlines()[place - 1]}")
+    if (found, found_status) != (text, status):
+        sys.exit(f"world {number}: status {found_status} and {len(found)} bytes, by the rules {status} and {len(text)}")
+
+
+def show(world):
+    for text in (world.bundle, world.builders_text, world.info_text, world.script):
+        print(text, end="--\n")
+    _, text, status = simulate(world)
+    print(text, f"status {status}", sep="")
+
+
 def main():
     parser = argparse.ArgumentParser()
     parser.add_argument("--world", type=int)
+    parser.add_argument("--table", action="store_true")
     args = parser.parse_args()
     if args.world is not None:
-        world = World(args.world)
-        print(world.bundle, world.builders_text, world.info_text, world.script, sep="\n--\n")
-        history, text, status = simulate(world)
-        print(text, status)
+        show(World(args.world))
         return
-    for d in table():
-        print(f"    {d:_},")
+    digests = table()
+    if args.table:
+        print("".join(f"    {digest:_},\n" for digest in digests), end="")
+        return
+    if digests != table_of_tests():
+        sys.exit("the table of the tests isn't that of the rules: see --table")
+    with tempfile.TemporaryDirectory() as folder:
+        for number in range(0, WORLDS, 8):
+            look_at(number + number // 8 % 8, folder)
+    print(f"worlds: the table has the {len(digests)} digests of the rules, and {WORLDS // 8} simulations are theirs")
 
 
 if __name__ == "__main__":
