@@ -2,7 +2,7 @@
 //! the plain rules, which keep nothing but the history; `checks/worlds.py` prints the table anew.
 
 use crate::drawing::{Scribe, draw_builders, draw_bundle, draw_info, draw_script};
-use crate::running::{Setup, builders, digest_after};
+use crate::running::{builders, digest_after};
 use std::alloc::Global;
 use std::thread::Threads;
 
@@ -48,34 +48,68 @@ const DIGESTS: [u64; 32] = [
     1_519_105_548_888_903_234,
 ];
 
-/// The local machine of a world, and whether the rest goes on after a failure.
-fn local_of<'a>(alloc: Global, world: usize, park: &'a str, info: &'a str) -> Setup<'a> {
+/// The further local systems and the local features of a world.
+fn local_words(scribe: &mut Scribe) -> (&'static str, &'static str) {
+    let extra = scribe.pick(&["", "aarch64-linux"]);
+    let features = scribe.pick(&["", "k", "k,b"]);
+    (extra, features)
+}
+
+/// A digest gone on with by what is written of a world with this bundle, park, info text and script.
+fn after_texts<R: Threads + Sync>(
+    rt: &R,
+    alloc: Global,
+    world: usize,
+    texts: &Texts,
+    digest: u64,
+) -> u64 {
     let mut scribe = Scribe::new(alloc, world, 4);
     let jobs = scribe.below(3) as u16;
     let keep_going = scribe.below(8) > 0;
-    let extra = scribe.pick(&["", "aarch64-linux"]);
-    let features = scribe.pick(&["", "k", "k,b"]);
-    Setup {
-        keep_going,
-        extra,
-        features,
-        info,
-        ..builders(park, jobs)
-    }
+    let (extra, features) = local_words(&mut scribe);
+    let mut setup = builders(texts.park.text(), jobs);
+    setup.keep_going = keep_going;
+    setup.extra = extra;
+    setup.features = features;
+    setup.info = texts.info.text();
+    digest_after(
+        rt,
+        alloc,
+        texts.bundle.text(),
+        &setup,
+        texts.script.text(),
+        digest,
+    )
+}
+
+/// The texts of a world.
+#[derive(Drop)]
+struct Texts {
+    bundle: Scribe,
+    park: Scribe,
+    info: Scribe,
+    script: Scribe,
+}
+
+/// What is drawn of a world.
+fn draw(alloc: Global, world: usize) -> Texts {
+    let mut texts = Texts {
+        bundle: Scribe::new(alloc, world, 0),
+        park: Scribe::new(alloc, world, 1),
+        info: Scribe::new(alloc, world, 2),
+        script: Scribe::new(alloc, world, 3),
+    };
+    draw_bundle(world, &mut texts.bundle);
+    draw_builders(world, &mut texts.park);
+    draw_info(&mut texts.info);
+    draw_script(world, &mut texts.script);
+    texts
 }
 
 /// A digest gone on with by what is written of a world.
 fn after_world<R: Threads + Sync>(rt: &R, alloc: Global, world: usize, digest: u64) -> u64 {
-    let mut bundle = Scribe::new(alloc, world, 0);
-    draw_bundle(world, &mut bundle);
-    let mut park = Scribe::new(alloc, world, 1);
-    draw_builders(world, &mut park);
-    let mut info = Scribe::new(alloc, world, 2);
-    draw_info(&mut info);
-    let mut script = Scribe::new(alloc, world, 3);
-    draw_script(world, &mut script);
-    let setup = local_of(alloc, world, park.text(), info.text());
-    digest_after(rt, alloc, bundle.text(), &setup, script.text(), digest)
+    let texts = draw(alloc, world);
+    after_texts(rt, alloc, world, &texts, digest)
 }
 
 /// Whether a block of worlds has this digest.
