@@ -252,7 +252,7 @@ fn draw_reports(drv: usize, scribe: &mut Scribe) {
 
 /// A command that changes a machine.
 fn draw_change(world: usize, scribe: &mut Scribe) {
-    let machine = scribe.below(builders_of(world) + 1);
+    let machine = scribe.below(builders_of(world).wrapping_add(1));
     scribe.put_one(&["drain ", "enable ", "enable "]);
     scribe.put_digit(machine);
 }

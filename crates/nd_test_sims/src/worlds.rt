@@ -64,7 +64,11 @@ fn after_texts<R: Threads + Sync>(
     digest: u64,
 ) -> u64 {
     let mut scribe = Scribe::new(alloc, world, 4);
-    let jobs = scribe.below(3) as u16;
+    let jobs = match scribe.below(3) {
+        0 => 0,
+        1 => 1,
+        _ => 2,
+    };
     let keep_going = scribe.below(8) > 0;
     let (extra, features) = local_words(&mut scribe);
     let mut setup = builders(texts.park.text(), jobs);
