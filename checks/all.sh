@@ -9,6 +9,8 @@
 # runs.py          runs on threads, and the audit of their histories; needs the built program and Python 3
 # allocations.sh   each allocation refused in turn; needs the built program, a C compiler, and the tests of
 #                  `nd_test_ledger` that `rt test` leaves in its folder
+# worlds.py        2,048 random worlds by the plain rules, beside the table of the tests and the program; needs
+#                  the built program and Python 3
 # wrong-bodies.sh  the wrong bodies that the gate leaves out; needs the toolchain, and takes hours, so it is
 #                  run with --long alone
 #
@@ -30,7 +32,7 @@ fi
 needs_of() {
   case $1 in
     allocations.sh) echo program cc tests ;;
-    runs.py) echo program python3 ;;
+    runs.py|worlds.py) echo program python3 ;;
     wrong-bodies.sh) echo rt git time ;;
     *) echo program ;;
   esac

@@ -7,6 +7,8 @@ mod audits;
 #[cfg(test)]
 mod devices;
 #[cfg(test)]
+mod drawing;
+#[cfg(test)]
 mod refusals;
 #[cfg(test)]
 mod running;
@@ -14,3 +16,5 @@ mod running;
 mod simulations;
 #[cfg(test)]
 mod truncations;
+#[cfg(test)]
+mod worlds;

@@ -18,6 +18,8 @@ pub struct Setup<'a> {
     pub jobs: u16,
     /// Whether the rest goes on after a failure.
     pub keep_going: bool,
+    /// The further local systems.
+    pub extra: &'a str,
     /// The local features.
     pub features: &'a str,
     /// The info text.
@@ -36,6 +38,7 @@ pub(crate) fn builders(builders: &str, jobs: u16) -> Setup<'_> {
         builders,
         jobs,
         keep_going: false,
+        extra: "",
         features: "",
         info: "",
         reads: usize::MAX,
@@ -66,7 +69,7 @@ fn options(alloc: Global, setup: &Setup<'_>) -> Result<ParkOptions, AllocError> 
     Ok(ParkOptions {
         builders: ByteString::from_slice(alloc, setup.builders.as_bytes())?,
         system: ByteString::from_slice(alloc, b"x86_64-linux")?,
-        extra: ByteString::new(Vec::new(alloc)),
+        extra: ByteString::from_slice(alloc, setup.extra.as_bytes())?,
         features: ByteString::from_slice(alloc, setup.features.as_bytes())?,
         jobs: setup.jobs,
         keep_going: setup.keep_going,
@@ -152,6 +155,65 @@ fn audits_on<R: Threads + Sync>(
     let answer = audit_engine(rt, alloc, options, history, &mut input, &mut output);
     drop(input);
     is_answer(alloc, answer, output, want)
+}
+
+/// A digest, gone on with by what `sim` writes and its status. Want of memory leaves the beginning of one.
+pub(crate) fn digest_after<R: Threads + Sync>(
+    rt: &R,
+    alloc: Global,
+    bundle: &str,
+    setup: &Setup<'_>,
+    script: &str,
+    digest: u64,
+) -> u64 {
+    let Ok(options) = options(alloc, setup) else {
+        return digest;
+    };
+    let reader = CountedReader::new(bundle.as_bytes(), usize::MAX, setup.reads);
+    let writer = CountedWriter::new(alloc, usize::MAX, setup.writes, setup.refuses_flush);
+    let after = digest_on(rt, alloc, &options, script, reader, writer, digest);
+    drop(options);
+    after
+}
+
+/// The same on these devices, which end here.
+fn digest_on<R: Threads + Sync>(
+    rt: &R,
+    alloc: Global,
+    options: &ParkOptions,
+    script: &str,
+    reader: CountedReader<'_>,
+    writer: CountedWriter,
+    digest: u64,
+) -> u64 {
+    let mut input = Told::new(reader);
+    let mut output = Told::new(writer);
+    let answer = sim_engine(
+        rt,
+        alloc,
+        options,
+        script.as_bytes(),
+        &mut input,
+        &mut output,
+    );
+    drop(input);
+    let writer = output.into_inner();
+    let after = folded(digest, writer.bytes());
+    drop(writer);
+    match answer {
+        Ok(0) => folded(after, b"0"),
+        Ok(_) => folded(after, b"1"),
+        Err(_) => after,
+    }
+}
+
+/// A digest, gone on with by these bytes: FNV-1a of 64 bits.
+fn folded(digest: u64, text: &[u8]) -> u64 {
+    let mut after = digest;
+    for byte in text {
+        after = (after ^ u64::from(*byte)).wrapping_mul(1_099_511_628_211);
+    }
+    after
 }
 
 /// Whether this is the wanted answer, with what was written.
