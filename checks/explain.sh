@@ -86,6 +86,11 @@ awk 'BEGIN { for (i = 0; i <= 65536; i++) printf "/nix/store/%032d-n.drv Derive(
 refused 'drvs: TooMany' 3 'standard input' ask
 head -c 67108865 /dev/zero > "$folder/in"
 refused 'drvs: TooLarge' 3 'standard input' ask
+bundle "$good"
+bundle_file=$folder/bundle
+printf '%s\n' "$good" "$good" > "$bundle_file"
+refused 'drvs: Duplicate 2' 3 "--bundle, file $bundle_file, line 2" ask --bundle "$bundle_file"
+refused 'drvs: Duplicate 2' 3 "--bundle, file $bundle_file, line 2" run --bundle "$bundle_file"
 
 # The other inputs.
 bundle "$good"
@@ -114,6 +119,8 @@ refused 'derivation: BadDerivation' 3 'standard input' path hello.drv
 # The devices.
 bundle "$good"
 refused 'read failed' 5 '--script, file /nowhere' sim --script /nowhere
+refused 'read failed' 5 '--bundle, file /nowhere' ask --bundle /nowhere
+refused 'read failed' 5 '--bundle, file /' ask --bundle /
 INPUT=/
 refused 'read failed' 5 'standard input' ask
 INPUT=

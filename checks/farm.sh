@@ -1,7 +1,7 @@
 #!/bin/sh
 # Runs the built program on the example that Nix wrote: the replies are those of `examples/farm/replies`,
-# which another program worked out from the rules, each line's path is the one that `path` prints for its
-# name and text, and `--check-paths` takes the whole bundle.
+# which another program worked out from the rules, from standard input and by `--bundle`; each line's path
+# is the one that `path` prints for its name and text; and `--check-paths` takes the whole bundle.
 set -eu
 cd "$(dirname "$0")/.."
 program=crates/nix_dispatch/out/nix_dispatch
@@ -9,6 +9,7 @@ farm=examples/farm
 
 "$program" ask --builders "@$farm/builders" < "$farm/bundle" | cmp - "$farm/replies"
 "$program" ask --check-paths --builders "@$farm/builders" < "$farm/bundle" | cmp - "$farm/replies"
+"$program" ask --bundle "$farm/bundle" --builders "@$farm/builders" < /dev/null | cmp - "$farm/replies"
 lines=0
 while read -r path text; do
   name=$(printf '%s' "$path" | cut -c45-)

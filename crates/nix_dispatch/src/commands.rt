@@ -4,6 +4,7 @@ ghost use Rattle.std.specs.Prelude.{◌≡◌, IfOk, codes};
 ghost use Rattle.clap.specs.Matches.{found_of, one_text};
 ghost use Rattle.nix_dispatch.specs.Options.{AreOptionsIn, IsNumberIn, IsFlagIn, text_in};
 
+use crate::bundles::bundle_of;
 use crate::failing::{Given, failure, heard, path_failure};
 use crate::files::{file_or_nothing, read_file, text_or_file};
 use crate::stand_ins::run_stand_ins;
@@ -126,12 +127,20 @@ fn ask<'a, R: Files + Input + Print + AllocGlobal + Threads + Sync>(
         Ok(park) => park,
         Err(failure) => return Err(failure),
     };
+    let bundle = match bundle_of(rt, options) {
+        Ok(bundle) => bundle,
+        Err(failure) => {
+            drop(park);
+            return Err(failure);
+        }
+    };
     let Ok(buffered) = BufWriter::new(alloc, io::writer(rt)) else {
+        drop(bundle);
         drop(park);
         return Err(Failure::of(CliFault::Memory));
     };
     let mut output = Told::new(Heard::new(buffered));
-    let mut input = Told::new(heard(alloc, options, rt.reader()));
+    let mut input = Told::new(heard(alloc, options, bundle));
     let answer = ask_engine(rt, alloc, &park, &mut input, &mut output);
     let given = Given {
         options,
@@ -166,13 +175,22 @@ fn sim<'a, R: Files + Input + Print + AllocGlobal + Threads + Sync>(
             return Err(failure);
         }
     };
+    let bundle = match bundle_of(rt, options) {
+        Ok(bundle) => bundle,
+        Err(failure) => {
+            drop(script);
+            drop(park);
+            return Err(failure);
+        }
+    };
     let Ok(buffered) = BufWriter::new(alloc, io::writer(rt)) else {
+        drop(bundle);
         drop(script);
         drop(park);
         return Err(Failure::of(CliFault::Memory));
     };
     let mut output = Told::new(Heard::new(buffered));
-    let mut input = Told::new(heard(alloc, options, rt.reader()));
+    let mut input = Told::new(heard(alloc, options, bundle));
     let answer = sim_engine(rt, alloc, &park, script.as_slice(), &mut input, &mut output);
     let given = Given {
         options,
@@ -208,8 +226,16 @@ fn audit<'a, R: Files + Input + Print + AllocGlobal + Threads + Sync>(
             return Err(failure);
         }
     };
+    let bundle = match bundle_of(rt, options) {
+        Ok(bundle) => bundle,
+        Err(failure) => {
+            drop(history);
+            drop(park);
+            return Err(failure);
+        }
+    };
     let mut output = Told::new(Heard::new(io::writer(rt)));
-    let mut input = Told::new(heard(alloc, options, rt.reader()));
+    let mut input = Told::new(heard(alloc, options, bundle));
     let verdict = audit_engine(
         rt,
         alloc,

@@ -1,5 +1,6 @@
 //! What is known of a fault once a command ends with it.
 
+use crate::bundles::bundle_source;
 use clap::ArgMatches;
 use nd_cli::{CliFault, DerivationError, ParkOptions, Place};
 use nd_explain::{Failure, Heard, Source, place_of};
@@ -17,7 +18,7 @@ pub(crate) struct Given<'a, 'b> {
     pub other: &'b [u8],
 }
 
-/// Standard input for a command with these options: a copy is kept where `--explain` is one of them.
+/// The input of a command with these options: a copy is kept where `--explain` is one of them.
 pub(crate) fn heard<R: Read>(alloc: Global, options: &ArgMatches, reader: R) -> Heard<R> {
     if options.get_flag("explain") {
         Heard::with_copy(alloc, reader)
@@ -35,7 +36,7 @@ pub(crate) fn failure<'a, R: Read>(
 ) -> Failure<'a> {
     let Some(place) = place_of(&fault) else {
         return match fault {
-            CliFault::Read => Failure::at(fault, Source::Input, input.refusal()),
+            CliFault::Read => Failure::at(fault, bundle_source(given.options), input.refusal()),
             _ => Failure::of(fault),
         };
     };
@@ -84,7 +85,7 @@ pub(crate) fn placed<'a>(options: &ArgMatches<'a>, fault: CliFault) -> Failure<'
 /// What a place of the inputs is on the command line.
 fn source_of<'a>(options: &ArgMatches<'a>, place: Place) -> Source<'a> {
     match place {
-        Place::Derivation | Place::Drvs => Source::Input,
+        Place::Derivation | Place::Drvs => bundle_source(options),
         Place::Builders => value_or_file("builders", options.get_str("builders").unwrap_or("")),
         Place::Info => file_of(options, "info"),
         Place::Script => file_of(options, "script"),

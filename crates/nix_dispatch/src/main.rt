@@ -5,6 +5,7 @@
 //! the engines of `nd_cli`, `nd_commands` and `nd_run_command`.
 #![tactic(auto)]
 
+mod bundles;
 mod commands;
 mod failing;
 mod files;

@@ -3,6 +3,7 @@
 ghost use Rattle.std.specs.Prelude.{map};
 ghost use Rattle.nd_workers.specs.Runs.{AreManned};
 
+use crate::bundles::bundle_of;
 use crate::commands::{park_options, write_failure};
 use crate::failing::{Given, failure, heard, placed};
 use crate::files::file_or_nothing;
@@ -58,7 +59,15 @@ fn inputs<'a, R: Files + Input + Threads + Sync>(
             return Err(failure);
         }
     };
-    let mut input = Told::new(heard(alloc, options, rt.reader()));
+    let bundle = match bundle_of(rt, options) {
+        Ok(bundle) => bundle,
+        Err(failure) => {
+            drop(stand);
+            drop(park);
+            return Err(failure);
+        }
+    };
+    let mut input = Told::new(heard(alloc, options, bundle));
     let inputs = run_inputs(rt, alloc, &park, stand.as_slice(), &mut input);
     let given = Given {
         options,

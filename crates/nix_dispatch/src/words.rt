@@ -46,14 +46,14 @@ fn path_command<'a>(alloc: Global) -> Result<Command<'a>, AllocError> {
 
 fn ask_command<'a>(alloc: Global) -> Result<Command<'a>, AllocError> {
     let command = Command::new(alloc, "ask").about(
-        "Writes, per derivation of the bundle on standard input, the hook's reply on an idle park",
+        "Writes, per derivation of the bundle, the hook's reply on an idle park",
     );
     with_park_options(alloc, command)
 }
 
 fn sim_command<'a>(alloc: Global) -> Result<Command<'a>, AllocError> {
     let command = Command::new(alloc, "sim").about(
-        "Does what a script says over the bundle on standard input, and writes each step and a report",
+        "Does what a script says over the bundle, and writes each step and a report",
     );
     let command = with_park_options(alloc, command)?;
     let script = text_option(alloc, "script", "FILE").required(true).help(
@@ -64,7 +64,7 @@ fn sim_command<'a>(alloc: Global) -> Result<Command<'a>, AllocError> {
 
 fn audit_command<'a>(alloc: Global) -> Result<Command<'a>, AllocError> {
     let command = Command::new(alloc, "audit").about(
-        "Says whether a history is a legal one over the bundle on standard input, and else why not",
+        "Says whether a history is a legal one over the bundle, and else why not",
     );
     let command = with_park_options(alloc, command)?;
     let history = text_option(alloc, "history", "FILE")
@@ -75,7 +75,7 @@ fn audit_command<'a>(alloc: Global) -> Result<Command<'a>, AllocError> {
 
 fn run_command<'a>(alloc: Global) -> Result<Command<'a>, AllocError> {
     let command = Command::new(alloc, "run").about(
-        "Builds the bundle on standard input with stand-ins for the machines, and writes the history",
+        "Builds the bundle with stand-ins for the machines, and writes the history",
     );
     let command = with_park_options(alloc, command)?;
     let stand = text_option(alloc, "stand", "FILE").help(
@@ -91,6 +91,9 @@ fn run_command<'a>(alloc: Global) -> Result<Command<'a>, AllocError> {
 
 /// The options of the commands over a bundle.
 fn with_park_options<'a>(alloc: Global, command: Command<'a>) -> Result<Command<'a>, AllocError> {
+    let bundle = text_option(alloc, "bundle", "FILE").help(
+        "The file that holds the bundle, which else is read from standard input",
+    );
     let builders = text_option(alloc, "builders", "TEXT")
         .default_value("")
         .help("The builders list, or @FILE to read it from a file");
@@ -119,6 +122,7 @@ fn with_park_options<'a>(alloc: Global, command: Command<'a>) -> Result<Command<
         "The references of paths: a line for each path, with the paths that it refers to",
     );
     command
+        .arg(bundle)?
         .arg(builders)?
         .arg(system)?
         .arg(extra)?
