@@ -59,8 +59,8 @@ fn add_all(found: &mut IndexSet<StorePath>, paths: &[StorePath]) -> Result<(), A
     Ok(())
 }
 
-/// The set of these paths in rising order.
-pub(crate) fn sorted(alloc: Global, found: IndexSet<StorePath>) -> Result<PathSet, AllocError>
+/// The paths of an index as a set, in rising order. Refuses only where an allocation is refused.
+pub fn sorted(alloc: Global, found: IndexSet<StorePath>) -> Result<PathSet, AllocError>
     ensures members { IfOk result (HasSameMembers found.keys) }
     ensures small { length found.keys < 2 ^ 63 }
 {

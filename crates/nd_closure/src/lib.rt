@@ -8,7 +8,7 @@ pub mod machine_sets;
 pub mod output_refs;
 pub mod ref_table;
 
-pub use closures::{missing, reach};
+pub use closures::{missing, reach, sorted};
 pub use info_error::InfoError;
 pub use info_text::parse_info;
 pub use machine_sets::{Held, Holdings};

@@ -77,11 +77,12 @@ impl Page {
 
     /// Hands what is held to the writer. The page is empty then.
     ///
-    /// `Fault`: the writer refused. Its mark is then set.
+    /// `Fault`: the writer refused. Its mark is then set, and the page holds what it held.
     pub fn send<W: io::Write>(&mut self, out: &mut Told<W>) -> Result<(), Fault>
         ensures written { OnOk result (Appends (W.contents out.old.device) (W.contents out.new.device) self.old) }
         ensures partly { OnErr result (WritesPart (W.contents out.old.device) (W.contents out.new.device) self.old) }
         ensures empty { OnOk result (self.new ≡ []) }
+        ensures kept { OnErr result (self.new ≡ self.old) }
         ensures mark { out.new.is_marked ≡ (out.old.is_marked || is_err result) }
     {
         let (held, _) = self.bytes.split_at(self.used);

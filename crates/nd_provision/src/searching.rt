@@ -5,7 +5,7 @@ ghost use Rattle.nd_path.specs.PathSets.{HasSameMembers};
 ghost use Rattle.nd_provision.specs.Stored.{IsCovered, IsUnheld, AddsUnheld};
 
 use indexmap::IndexSet;
-use nd_closure::{Held, RefTable};
+use nd_closure::{Held, RefTable, sorted};
 use nd_path::{PathSet, StorePath};
 use std::alloc::{AllocError, Global};
 
@@ -30,7 +30,7 @@ pub(crate) fn reach_unheld(
         let refs = table.refs(path);
         add_unheld(&mut found, refs, held)?;
     }
-    in_order(alloc, found)
+    sorted(alloc, found)
 }
 
 /// Adds a copy of each path that is neither held nor in the set, behind those that it holds.
@@ -52,13 +52,4 @@ fn add_unheld(
         found.insert(path.try_clone()?)?;
     }
     Ok(())
-}
-
-/// The set of these paths.
-fn in_order(alloc: Global, found: IndexSet<StorePath>) -> Result<PathSet, AllocError>
-    ensures members { IfOk result (HasSameMembers found.keys) }
-    ensures small { length found.keys < 2 ^ 63 }
-{
-    let paths: Vec<StorePath> = found.into_iter().collect(alloc)?;
-    PathSet::from_vec(paths)
 }

@@ -26,9 +26,9 @@ loop-next-preserved c =
     (subst (λ (rs : List (List ℕ)). AddsUnheld c.args.held.now.paths c.loop-next.found.keys c.add_unheld-in-loop-next.new.found.keys rs) refs c.in_ok-add_unheld-2.ensures.only)
     (subst (λ (rs : List (List ℕ)). IsCovered rs c.args.held.now.paths c.add_unheld-in-loop-next.new.found.keys) refs c.in_ok-add_unheld-2.ensures.all)
 
-all_seen : (c : goal.After-in_order) → length c.loop-next.found.keys ≤ c.loop-next.next
+all_seen : (c : goal.After-sorted) → length c.loop-next.found.keys ≤ c.loop-next.next
 all_seen c = elim c.loop-next-test.branch [
-  | else-loop-next-test w ↦ omega (arith, c.in_order.ensures.small)
+  | else-loop-next-test w ↦ omega (arith, c.sorted.ensures.small)
   | then-loop-next-test+in_default w ↦ (elim (cases_lt c.loop-next.next (length c.loop-next.found.keys)) [
     | inl lt ↦ absurd (true≢false (sym (w.in_default.ensures.found.1 lt)))
     | inr le ↦ le
@@ -37,6 +37,6 @@ all_seen c = elim c.loop-next-test.branch [
 
 pub returns : goal.returns
 returns c =
-    IfOk-weaker c.in_order.result (HasSameMembers c.loop-next.found.keys) (IsUnheld c.args.table.now.entries c.args.held.now.paths c.args.seeds.now)
+    IfOk-weaker c.sorted.result (HasSameMembers c.loop-next.found.keys) (IsUnheld c.args.table.now.entries c.args.held.now.paths c.args.seeds.now)
     (λ s same. ended c.args.table.now.entries c.args.held.now.paths c.args.seeds.now c.loop-next.found.keys s c.loop-next.next c.loop-next.invariant (all_seen c) same)
-    c.in_order.ensures.members
+    c.sorted.ensures.members
