@@ -5,3 +5,4 @@ pub mod DerivationsOnce
 pub mod Refusals
 pub mod Sections
 pub mod Texts
+pub mod Leaves

@@ -52,6 +52,14 @@ impl Derivation {
         if !is_in_order(&parts) {
             return Err(AtermError::Order);
         }
+        Ok(Derivation::of_ordered(parts))
+    }
+
+    /// The derivation of these parts, whose lists rise.
+    pub(crate) fn of_ordered(parts: Parts) -> Derivation
+        requires { in_order parts ≡ true }
+        ensures { parts_of result ≡ parts }
+    {
         let Parts {
             outputs,
             input_drvs,
@@ -61,7 +69,7 @@ impl Derivation {
             args,
             env,
         } = parts;
-        Ok(Derivation {
+        Derivation {
             outputs,
             input_drvs,
             input_srcs,
@@ -69,6 +77,6 @@ impl Derivation {
             builder,
             args,
             env,
-        })
+        }
     }
 }

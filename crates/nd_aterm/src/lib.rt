@@ -1,13 +1,14 @@
 //! The texts of store derivations.
 //!
 //! A derivation text is the ATerm form in which Nix stores a derivation (Nix Reference Manual,
-//! Derivation "ATerm" file format). [`parse`] reads exactly these texts, [`write`] gives the one text of
-//! a derivation, and [`laws`] says that no text begins another.
+//! Derivation "ATerm" file format). [`parse`] reads exactly these texts, [`parse_view`] too,
+//! without copying them, [`write`] gives the one text of a derivation, and [`laws`] says that no text begins another.
 #![tactic(auto)]
 
 mod derivations;
 mod fault;
 pub mod laws;
+mod leaf;
 mod lists;
 mod orders;
 mod part;
@@ -15,8 +16,11 @@ mod record_texts;
 mod records;
 mod strings;
 mod texts;
+mod views;
 
 pub use derivations::Derivation;
 pub use fault::AtermError;
+pub use leaf::Leaf;
 pub use records::{EnvEntry, InputDrv, Output, Parts};
-pub use texts::{parse, write};
+pub use texts::{parse, parse_view, write};
+pub use views::{EnvEntryView, InputDrvView, OutputView, PartsView};

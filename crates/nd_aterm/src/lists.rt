@@ -6,13 +6,17 @@ ghost use Rattle.nd_aterm.specs.Spelling.{right_bracket, others, listed, list};
 ghost use Rattle.nd_aterm.specs.SpellingOnce.{list_once, list_opens};
 
 use crate::fault::AtermError;
-use crate::part::{Part, expect, strip};
+use crate::part::{Part, Written, expect, strip};
 use nd_bytes::Items;
 use std::alloc::{AllocError, Global};
 
 /// The items of a list that begins with `first`, up to the closing bracket, and what stands behind
 /// that. The bytes are those behind the first item.
-fn listed_at<T: Part>(alloc: Global, first: T, bytes: &[u8]) -> Result<(Vec<T>, &[u8]), AtermError>
+fn listed_at<'t, T: Part<'t>>(
+    alloc: Global,
+    first: T,
+    bytes: &'t [u8],
+) -> Result<(Vec<T>, &'t [u8]), AtermError>
     ensures found { IfOk result (λ x.
         T.text first bytes.now ≡ listed T.text x.0.items (right_bracket ∷ x.1.now)) }
     ensures shorter { IfOk result (λ x. length x.1.now ≤ length bytes.now) }
@@ -32,7 +36,7 @@ fn listed_at<T: Part>(alloc: Global, first: T, bytes: &[u8]) -> Result<(Vec<T>, 
 }
 
 /// Writes items, each with a comma before it.
-fn put_others<T: Part>(items: &[T], out: &mut Vec<u8>) -> Result<(), AllocError>
+fn put_others<T: Written>(items: &[T], out: &mut Vec<u8>) -> Result<(), AllocError>
     ensures { OnOk result ((rest : List ℕ)
         → out.new.items ++ rest ≡ out.old.items ++ others T.text items.now rest) }
 {
@@ -44,7 +48,7 @@ fn put_others<T: Part>(items: &[T], out: &mut Vec<u8>) -> Result<(), AllocError>
 }
 
 /// Writes items with commas between them.
-fn put_listed<T: Part>(items: &[T], out: &mut Vec<u8>) -> Result<(), AllocError>
+fn put_listed<T: Written>(items: &[T], out: &mut Vec<u8>) -> Result<(), AllocError>
     ensures { OnOk result ((rest : List ℕ)
         → out.new.items ++ rest ≡ out.old.items ++ listed T.text items.now rest) }
 {
@@ -55,11 +59,11 @@ fn put_listed<T: Part>(items: &[T], out: &mut Vec<u8>) -> Result<(), AllocError>
     Ok(())
 }
 
-impl<T: Part> Part for Items<T> {
+impl<'t, T: Part<'t>> Part<'t> for Items<T> {
     ghost text = { list T.text };
 
     #[tactic(auto, unfolding(crate::specs::Spelling::list))]
-    fn read(alloc: Global, bytes: &[u8]) -> Result<(Self, &[u8]), AtermError> {
+    fn read(alloc: Global, bytes: &'t [u8]) -> Result<(Self, &'t [u8]), AtermError> {
         let bytes = expect(bytes, b'[')?;
         if let Some(rest) = strip(bytes, b']') {
             return Ok((Items::new(Vec::new(alloc)), rest));
@@ -69,6 +73,14 @@ impl<T: Part> Part for Items<T> {
         Ok((Items::new(items), rest))
     }
 
+    ghost once = { list_once T.text T.once T.opens };
+
+    ghost opens = { list_opens T.text };
+}
+
+impl<T: Written> Written for Items<T> {
+    ghost text = { list T.text };
+
     #[tactic(auto, unfolding(crate::specs::Spelling::list))]
     fn write(&self, out: &mut Vec<u8>) -> Result<(), AllocError> {
         out.push(b'[')?;
@@ -76,8 +88,4 @@ impl<T: Part> Part for Items<T> {
         out.push(b']')?;
         Ok(())
     }
-
-    ghost once = { list_once T.text T.once T.opens };
-
-    ghost opens = { list_opens T.text };
 }

@@ -1,10 +1,12 @@
 //! The orders in which a derivation's lists stand.
 
-ghost use Rattle.std.specs.Prelude.{◌≡◌, ℕ, List};
+ghost use Rattle.std.specs.Prelude.{◌≡◌, ◌&&◌, ℕ, List};
 ghost use Rattle.std.specs.List.{list_all};
 ghost use Rattle.nd_aterm.specs.Derivations.{rises, in_order};
 
+use crate::leaf::Leaf;
 use crate::records::{EnvEntry, InputDrv, Output, Parts};
+use crate::views::{EnvEntryView, InputDrvView, OutputView, PartsView};
 use nd_bytes::ByteString;
 
 /// What stands in a list in the order of its key.
@@ -24,7 +26,23 @@ impl Keyed for ByteString {
     }
 }
 
+impl<'t> Keyed for Leaf<'t> {
+    ghost key = { λ s. s };
+
+    fn key(&self) -> &[u8] {
+        self.as_slice()
+    }
+}
+
 impl Keyed for Output {
+    ghost key = { λ o. o.name };
+
+    fn key(&self) -> &[u8] {
+        self.name.as_slice()
+    }
+}
+
+impl<'t> Keyed for OutputView<'t> {
     ghost key = { λ o. o.name };
 
     fn key(&self) -> &[u8] {
@@ -40,7 +58,23 @@ impl Keyed for InputDrv {
     }
 }
 
+impl<'t> Keyed for InputDrvView<'t> {
+    ghost key = { λ d. d.path };
+
+    fn key(&self) -> &[u8] {
+        self.path.as_slice()
+    }
+}
+
 impl Keyed for EnvEntry {
+    ghost key = { λ v. v.key };
+
+    fn key(&self) -> &[u8] {
+        self.key.as_slice()
+    }
+}
+
+impl<'t> Keyed for EnvEntryView<'t> {
     ghost key = { λ v. v.key };
 
     fn key(&self) -> &[u8] {
@@ -66,30 +100,83 @@ fn is_rising<T: Keyed>(items: &[T]) -> bool
     true
 }
 
+/// An input derivation, whose output names have an order too.
+trait Named: Keyed {
+    ghost names: { Self → List (List ℕ) };
+
+    /// Whether the output names rise.
+    fn has_rising_names(&self) -> bool
+        ensures { result ≡ rises (λ name. name) (names self.now) };
+}
+
+impl Named for InputDrv {
+    ghost names = { λ d. d.outputs };
+
+    fn has_rising_names(&self) -> bool {
+        is_rising(self.outputs.as_slice())
+    }
+}
+
+impl<'t> Named for InputDrvView<'t> {
+    ghost names = { λ d. d.outputs };
+
+    fn has_rising_names(&self) -> bool {
+        is_rising(self.outputs.as_slice())
+    }
+}
+
 /// Whether the output names of each input derivation rise.
-fn have_rising_outputs(input_drvs: &[InputDrv]) -> bool
-    ensures { result ≡ list_all (λ d. rises (λ name. name) d.outputs) input_drvs.now }
+fn have_rising_names<D: Named>(input_drvs: &[D]) -> bool
+    ensures { result ≡ list_all (λ d. rises (λ name. name) (D.names d)) input_drvs.now }
 {
-    input_drvs
-        .iter()
-        .all(|input| is_rising(input.outputs.as_slice()))
+    input_drvs.iter().all(|input| input.has_rising_names())
 }
 
 /// Whether all five kinds of list strictly rise.
+fn are_in_order<O: Keyed, D: Named, S: Keyed, E: Keyed>(
+    outputs: &[O],
+    input_drvs: &[D],
+    input_srcs: &[S],
+    env: &[E],
+) -> bool
+    ensures { result ≡ (rises O.key outputs.now && rises D.key input_drvs.now && list_all (λ d. rises (λ name. name) (D.names d)) input_drvs.now
+        && rises S.key input_srcs.now && rises E.key env.now) }
+{
+    if !is_rising(outputs) {
+        return false;
+    }
+    if !is_rising(input_drvs) {
+        return false;
+    }
+    if !have_rising_names(input_drvs) {
+        return false;
+    }
+    if !is_rising(input_srcs) {
+        return false;
+    }
+    is_rising(env)
+}
+
+/// Whether all five kinds of list of these parts strictly rise.
 pub(crate) fn is_in_order(parts: &Parts) -> bool
     ensures { result ≡ in_order parts.now }
 {
-    if !is_rising(parts.outputs.as_slice()) {
-        return false;
-    }
-    if !is_rising(parts.input_drvs.as_slice()) {
-        return false;
-    }
-    if !have_rising_outputs(parts.input_drvs.as_slice()) {
-        return false;
-    }
-    if !is_rising(parts.input_srcs.as_slice()) {
-        return false;
-    }
-    is_rising(parts.env.as_slice())
+    are_in_order(
+        parts.outputs.as_slice(),
+        parts.input_drvs.as_slice(),
+        parts.input_srcs.as_slice(),
+        parts.env.as_slice(),
+    )
+}
+
+/// The same of borrowed parts.
+pub(crate) fn is_view_in_order(parts: &PartsView<'_>) -> bool
+    ensures { result ≡ in_order parts.now }
+{
+    are_in_order(
+        parts.outputs.as_slice(),
+        parts.input_drvs.as_slice(),
+        parts.input_srcs.as_slice(),
+        parts.env.as_slice(),
+    )
 }

@@ -6,28 +6,33 @@ ghost use Rattle.nd_aterm.specs.Refusals.{Refuses};
 use crate::fault::AtermError;
 use std::alloc::{AllocError, Global};
 
-/// A part of a derivation text: its text, with the bytes of a rest behind it.
-pub trait Part: Drop {
+/// A part that is read of a derivation text `'t`: its text, with the bytes of a rest behind it.
+pub trait Part<'t>: Drop {
     ghost text: { Self → List ℕ → List ℕ };
-
-    /// Reads a part from the front, and gives it with what stands behind it. It is refused as
-    /// `NotDerivation` where the bytes don't begin with the text of such a part.
-    fn read(alloc: Global, bytes: &[u8]) -> Result<(Self, &[u8]), AtermError>
-        ensures found { IfOk result (λ x. bytes.now ≡ text x.0 x.1.now) }
-        ensures shorter { IfOk result (λ x. length x.1.now ≤ length bytes.now) }
-        ensures none { IfErr result (λ e. Refuses e
-            ((x : Self) (rest : List ℕ) → bytes.now ≡ text x rest → ⊥)) };
-
-    /// Writes the part's text at the end.
-    fn write(&self, out: &mut Vec<u8>) -> Result<(), AllocError>
-        ensures { OnOk result ((rest : List ℕ)
-            → out.new.items ++ rest ≡ out.old.items ++ text self.now rest) };
 
     // Two parts whose texts begin a text are one part, and leave the same rest.
     ghost once: { (x y : Self) (r s : List ℕ) → text x r ≡ text y s → (x ≡ y) × (r ≡ s) };
 
     // No part begins as the end of a list does, with `]`.
     ghost opens: { (x : Self) (r s : List ℕ) → text x r ≡ 93 ∷ s → ⊥ };
+
+    /// Reads a part from the front, and gives it with what stands behind it. It is refused as
+    /// `NotDerivation` where the bytes don't begin with the text of such a part.
+    fn read(alloc: Global, bytes: &'t [u8]) -> Result<(Self, &'t [u8]), AtermError>
+        ensures found { IfOk result (λ x. bytes.now ≡ text x.0 x.1.now) }
+        ensures shorter { IfOk result (λ x. length x.1.now ≤ length bytes.now) }
+        ensures none { IfErr result (λ e. Refuses e
+            ((x : Self) (rest : List ℕ) → bytes.now ≡ text x rest → ⊥)) };
+}
+
+/// A part that is written into a derivation text.
+pub trait Written {
+    ghost text: { Self → List ℕ → List ℕ };
+
+    /// Writes the part's text at the end.
+    fn write(&self, out: &mut Vec<u8>) -> Result<(), AllocError>
+        ensures { OnOk result ((rest : List ℕ)
+            → out.new.items ++ rest ≡ out.old.items ++ text self.now rest) };
 }
 
 /// What stands behind this byte, where the bytes begin with it.
@@ -52,7 +57,11 @@ pub(crate) fn expect(bytes: &[u8], first: u8) -> Result<&[u8], AtermError>
 }
 
 /// Reads a part, and the byte that has to stand behind it.
-pub fn field<T: Part>(alloc: Global, bytes: &[u8], end: u8) -> Result<(T, &[u8]), AtermError>
+pub fn field<'t, T: Part<'t>>(
+    alloc: Global,
+    bytes: &'t [u8],
+    end: u8,
+) -> Result<(T, &'t [u8]), AtermError>
     ensures found { IfOk result (λ x. bytes.now ≡ T.text x.0 (end ∷ x.1.now)) }
     ensures shorter { IfOk result (λ x. length x.1.now < length bytes.now) }
     ensures none { IfErr result (λ e. Refuses e
@@ -64,11 +73,11 @@ pub fn field<T: Part>(alloc: Global, bytes: &[u8], end: u8) -> Result<(T, &[u8])
 }
 
 /// Reads two parts with a comma between them, and the byte that has to stand behind the second.
-pub(crate) fn two_fields<T: Part, U: Part>(
+pub(crate) fn two_fields<'t, T: Part<'t>, U: Part<'t>>(
     alloc: Global,
-    bytes: &[u8],
+    bytes: &'t [u8],
     end: u8,
-) -> Result<(T, U, &[u8]), AtermError>
+) -> Result<(T, U, &'t [u8]), AtermError>
     ensures found { IfOk result (λ x. bytes.now ≡ T.text x.0 (44 ∷ U.text x.1 (end ∷ x.2.now))) }
     ensures shorter { IfOk result (λ x. length x.2.now < length bytes.now) }
     ensures none { IfErr result (λ e. Refuses e
@@ -80,7 +89,7 @@ pub(crate) fn two_fields<T: Part, U: Part>(
 }
 
 /// Writes a part at the end, and this byte behind it.
-pub(crate) fn put_field<T: Part>(part: &T, end: u8, out: &mut Vec<u8>) -> Result<(), AllocError>
+pub(crate) fn put_field<T: Written>(part: &T, end: u8, out: &mut Vec<u8>) -> Result<(), AllocError>
     ensures { OnOk result ((rest : List ℕ)
         → out.new.items ++ rest ≡ out.old.items ++ T.text part.now (end ∷ rest)) }
 {

@@ -5,19 +5,20 @@ ghost use Rattle.nd_aterm.specs.Derivations.{output, input_drv, env_entry};
 ghost use Rattle.nd_aterm.specs.DerivationsOnce.{output_once, output_opens, input_drv_once, input_drv_opens, env_entry_once, env_entry_opens};
 
 use crate::fault::AtermError;
-use crate::part::{Part, expect, put_field, two_fields};
+use crate::part::{Part, Written, expect, put_field, two_fields};
 use crate::records::{EnvEntry, InputDrv, Output};
+use crate::views::{EnvEntryView, InputDrvView, OutputView};
 use std::alloc::{AllocError, Global};
 
-impl Part for Output {
+impl<'t> Part<'t> for OutputView<'t> {
     ghost text = { output };
 
     #[tactic(auto, using(crate::specs::SpellingOnce::string_once), unfolding(crate::specs::Derivations::output))]
-    fn read(alloc: Global, bytes: &[u8]) -> Result<(Self, &[u8]), AtermError> {
+    fn read(alloc: Global, bytes: &'t [u8]) -> Result<(Self, &'t [u8]), AtermError> {
         let rest = expect(bytes, b'(')?;
         let (name, path, rest) = two_fields(alloc, rest, b',')?;
         let (hash_algo, hash, rest) = two_fields(alloc, rest, b')')?;
-        let output = Output {
+        let output = OutputView {
             name,
             path,
             hash_algo,
@@ -25,6 +26,14 @@ impl Part for Output {
         };
         Ok((output, rest))
     }
+
+    ghost once = { output_once };
+
+    ghost opens = { output_opens };
+}
+
+impl Written for Output {
+    ghost text = { output };
 
     #[tactic(auto, unfolding(crate::specs::Derivations::output))]
     fn write(&self, out: &mut Vec<u8>) -> Result<(), AllocError> {
@@ -35,21 +44,25 @@ impl Part for Output {
         put_field(&self.hash, b')', out)?;
         Ok(())
     }
-
-    ghost once = { output_once };
-
-    ghost opens = { output_opens };
 }
 
-impl Part for InputDrv {
+impl<'t> Part<'t> for InputDrvView<'t> {
     ghost text = { input_drv };
 
     #[tactic(auto, unfolding(crate::specs::Derivations::input_drv))]
-    fn read(alloc: Global, bytes: &[u8]) -> Result<(Self, &[u8]), AtermError> {
+    fn read(alloc: Global, bytes: &'t [u8]) -> Result<(Self, &'t [u8]), AtermError> {
         let rest = expect(bytes, b'(')?;
         let (path, outputs, rest) = two_fields(alloc, rest, b')')?;
-        Ok((InputDrv { path, outputs }, rest))
+        Ok((InputDrvView { path, outputs }, rest))
     }
+
+    ghost once = { input_drv_once };
+
+    ghost opens = { input_drv_opens };
+}
+
+impl Written for InputDrv {
+    ghost text = { input_drv };
 
     #[tactic(auto, unfolding(crate::specs::Derivations::input_drv))]
     fn write(&self, out: &mut Vec<u8>) -> Result<(), AllocError> {
@@ -58,21 +71,25 @@ impl Part for InputDrv {
         put_field(&self.outputs, b')', out)?;
         Ok(())
     }
-
-    ghost once = { input_drv_once };
-
-    ghost opens = { input_drv_opens };
 }
 
-impl Part for EnvEntry {
+impl<'t> Part<'t> for EnvEntryView<'t> {
     ghost text = { env_entry };
 
     #[tactic(auto, unfolding(crate::specs::Derivations::env_entry))]
-    fn read(alloc: Global, bytes: &[u8]) -> Result<(Self, &[u8]), AtermError> {
+    fn read(alloc: Global, bytes: &'t [u8]) -> Result<(Self, &'t [u8]), AtermError> {
         let rest = expect(bytes, b'(')?;
         let (key, value, rest) = two_fields(alloc, rest, b')')?;
-        Ok((EnvEntry { key, value }, rest))
+        Ok((EnvEntryView { key, value }, rest))
     }
+
+    ghost once = { env_entry_once };
+
+    ghost opens = { env_entry_opens };
+}
+
+impl Written for EnvEntry {
+    ghost text = { env_entry };
 
     #[tactic(auto, unfolding(crate::specs::Derivations::env_entry))]
     fn write(&self, out: &mut Vec<u8>) -> Result<(), AllocError> {
@@ -81,8 +98,4 @@ impl Part for EnvEntry {
         put_field(&self.value, b')', out)?;
         Ok(())
     }
-
-    ghost once = { env_entry_once };
-
-    ghost opens = { env_entry_opens };
 }

@@ -1,12 +1,15 @@
 //! Quoted strings.
 
 ghost use Rattle.std.specs.Prelude.{◌≡◌, ℕ, ◌≤◌, ◌<◌, List, ◌∷◌, ◌++◌, length, IfOk, IfErr, OnOk, IfSome, MatchOption};
+ghost use Rattle.memchr.specs.Find.{Nowhere, Passes, is_byte2, is_byte3};
 ghost use Rattle.nd_aterm.specs.Refusals.{Refuses};
 ghost use Rattle.nd_aterm.specs.Spelling.{quote, letter_of, character, characters, IsPlain, string};
 ghost use Rattle.nd_aterm.specs.SpellingOnce.{string_once, string_opens};
 
 use crate::fault::AtermError;
-use crate::part::{Part, expect};
+use crate::leaf::Leaf;
+use crate::part::{Part, Written, expect, strip};
+use memchr::{memchr2, memchr3};
 use nd_bytes::ByteString;
 use std::alloc::{AllocError, Global};
 
@@ -50,18 +53,36 @@ fn character_at(bytes: &[u8]) -> Option<(u8, &[u8])>
     }
 }
 
-/// The bytes in front that a string spells as they are, and what stands behind them.
-#[tactic(auto, unfolding(crate::specs::Spelling::character))]
+/// How many bytes in front are no quote, no backslash and no newline.
+fn before_three(bytes: &[u8]) -> usize
+    ensures within { result ≤ length bytes.now }
+    ensures none { Nowhere (Passes (is_byte3 34 92 10) bytes.now) 0 result }
+{
+    match memchr3(b'"', b'\\', b'\n', bytes) {
+        Some(place) => place,
+        None => bytes.len(),
+    }
+}
+
+/// How many bytes in front are no return and no tab.
+fn before_two(bytes: &[u8]) -> usize
+    ensures within { result ≤ length bytes.now }
+    ensures none { Nowhere (Passes (is_byte2 13 9) bytes.now) 0 result }
+{
+    match memchr2(b'\r', b'\t', bytes) {
+        Some(place) => place,
+        None => bytes.len(),
+    }
+}
+
+/// The bytes in front that a string spells as they are, and what stands behind them. They are found
+/// by two searches, which look at many bytes at once.
 fn plain_at(bytes: &[u8]) -> (&[u8], &[u8])
     ensures split { bytes.now ≡ result.0.now ++ result.1.now }
     ensures plain { IsPlain result.0.now }
 {
-    for (i, byte) in bytes.iter().enumerate() {
-        if letter(*byte).is_some() {
-            return bytes.split_at(i);
-        }
-    }
-    bytes.split_at(bytes.len())
+    let (front, _) = bytes.split_at(before_three(bytes));
+    bytes.split_at(before_two(front))
 }
 
 /// The bytes of a string up to its closing quote, and what stands behind that.
@@ -115,15 +136,37 @@ fn put_characters(bytes: &[u8], out: &mut Vec<u8>) -> Result<(), AllocError>
     Ok(())
 }
 
-impl Part for ByteString {
+/// The same, borrowed where nothing is escaped.
+fn leaf_at(alloc: Global, bytes: &[u8]) -> Result<(Leaf<'_>, &[u8]), AtermError>
+    ensures found { IfOk result (λ x. bytes.now ≡ characters x.0 (quote ∷ x.1.now)) }
+    ensures shorter { IfOk result (λ x. length x.1.now ≤ length bytes.now) }
+    ensures none { IfErr result (λ e. Refuses e
+        ((cs : List ℕ) (rest : List ℕ) → bytes.now ≡ characters cs (quote ∷ rest) → ⊥)) }
+{
+    let (plain, rest) = plain_at(bytes);
+    if let Some(rest) = strip(rest, b'"') {
+        return Ok((Leaf::new(plain), rest));
+    }
+    let (read, rest) = characters_at(alloc, bytes)?;
+    Ok((Leaf::from_vec(read), rest))
+}
+
+impl<'t> Part<'t> for Leaf<'t> {
     ghost text = { string };
 
     #[tactic(auto, unfolding(crate::specs::Spelling::string))]
-    fn read(alloc: Global, bytes: &[u8]) -> Result<(Self, &[u8]), AtermError> {
+    fn read(alloc: Global, bytes: &'t [u8]) -> Result<(Self, &'t [u8]), AtermError> {
         let rest = expect(bytes, b'"')?;
-        let (read, rest) = characters_at(alloc, rest)?;
-        Ok((ByteString::new(read), rest))
+        leaf_at(alloc, rest)
     }
+
+    ghost once = { string_once };
+
+    ghost opens = { string_opens };
+}
+
+impl Written for ByteString {
+    ghost text = { string };
 
     #[tactic(auto, unfolding(crate::specs::Spelling::string))]
     fn write(&self, out: &mut Vec<u8>) -> Result<(), AllocError> {
@@ -132,8 +175,4 @@ impl Part for ByteString {
         out.push(b'"')?;
         Ok(())
     }
-
-    ghost once = { string_once };
-
-    ghost opens = { string_opens };
 }

@@ -9,9 +9,11 @@ ghost use Rattle.nd_aterm.specs.Texts.{parts_of, text_limit, IsRefused, IsUnwrit
 
 use crate::derivations::Derivation;
 use crate::fault::AtermError;
+use crate::leaf::Leaf;
+use crate::orders::is_view_in_order;
 use crate::part::{field, put_field, two_fields};
-use crate::records::{EnvEntry, InputDrv, Output, Parts};
-use nd_bytes::{ByteString, Items};
+use crate::views::{EnvEntryView, InputDrvView, OutputView, PartsView};
+use nd_bytes::Items;
 use std::alloc::{AllocError, Global};
 
 /// The most bytes that a derivation text may have.
@@ -31,24 +33,24 @@ fn behind_word(bytes: &[u8]) -> Option<&[u8]>
 
 /// What a derivation makes, and the store paths that it needs.
 #[derive(Drop)]
-struct Paths {
-    outputs: Items<Output>,
-    input_drvs: Items<InputDrv>,
-    input_srcs: Items<ByteString>,
+struct Paths<'t> {
+    outputs: Items<OutputView<'t>>,
+    input_drvs: Items<InputDrvView<'t>>,
+    input_srcs: Items<Leaf<'t>>,
 }
 
 /// How a derivation is built.
 #[derive(Drop)]
-struct Command {
-    platform: ByteString,
-    builder: ByteString,
-    args: Items<ByteString>,
-    env: Items<EnvEntry>,
+struct Command<'t> {
+    platform: Leaf<'t>,
+    builder: Leaf<'t>,
+    args: Items<Leaf<'t>>,
+    env: Items<EnvEntryView<'t>>,
 }
 
 /// Reads the first section of a derivation text, up to the sources and their comma.
 #[tactic(auto, using(crate::specs::DerivationsOnce::outputs_once, crate::specs::DerivationsOnce::input_drvs_once), unfolding(crate::specs::Sections::paths))]
-fn paths_at(alloc: Global, bytes: &[u8]) -> Result<(Paths, &[u8]), AtermError>
+fn paths_at(alloc: Global, bytes: &[u8]) -> Result<(Paths<'_>, &[u8]), AtermError>
     ensures found { IfOk result (λ x. bytes.now ≡ paths x.0 x.1.now) }
     ensures none { IfErr result (λ e. Refuses e
         ((p : Paths) (rest : List ℕ) → bytes.now ≡ paths p rest → ⊥)) }
@@ -65,7 +67,7 @@ fn paths_at(alloc: Global, bytes: &[u8]) -> Result<(Paths, &[u8]), AtermError>
 
 /// Reads the second section of a derivation text, from the platform on.
 #[tactic(auto, using(crate::specs::SpellingOnce::string_once), unfolding(crate::specs::Sections::command))]
-fn command_at(alloc: Global, bytes: &[u8]) -> Result<(Command, &[u8]), AtermError>
+fn command_at(alloc: Global, bytes: &[u8]) -> Result<(Command<'_>, &[u8]), AtermError>
     ensures found { IfOk result (λ x. bytes.now ≡ command x.0 x.1.now) }
     ensures none { IfErr result (λ e. Refuses e
         ((c : Command) (rest : List ℕ) → bytes.now ≡ command c rest → ⊥)) }
@@ -82,8 +84,8 @@ fn command_at(alloc: Global, bytes: &[u8]) -> Result<(Command, &[u8]), AtermErro
 }
 
 /// The parts of a derivation with these two sections.
-fn join(paths: Paths, command: Command) -> Parts
-    ensures { result ≡ joined paths command }
+fn join<'t>(paths: Paths<'t>, command: Command<'t>) -> PartsView<'t>
+    ensures { result ≡ joined paths.entry command.entry }
 {
     let Paths {
         outputs,
@@ -96,7 +98,7 @@ fn join(paths: Paths, command: Command) -> Parts
         args,
         env,
     } = command;
-    Parts {
+    PartsView {
         outputs,
         input_drvs,
         input_srcs,
@@ -109,7 +111,7 @@ fn join(paths: Paths, command: Command) -> Parts
 
 /// Reads the parts of a derivation, its lists in any order, and gives them with what stands behind
 /// the text.
-fn parts_at(alloc: Global, bytes: &[u8]) -> Result<(Parts, &[u8]), AtermError>
+fn parts_at(alloc: Global, bytes: &[u8]) -> Result<(PartsView<'_>, &[u8]), AtermError>
     ensures found { IfOk result (λ x. bytes.now ≡ derivation x.0 x.1.now) }
     ensures none { IfErr result (λ e. Refuses e
         ((p : Parts) (rest : List ℕ) → bytes.now ≡ derivation p rest → ⊥)) }
@@ -128,6 +130,32 @@ fn parts_at(alloc: Global, bytes: &[u8]) -> Result<(Parts, &[u8]), AtermError>
             Err(fault)
         }
     }
+}
+
+/// Reads a derivation text as [`parse`] does, and copies nothing but the strings that have an escape.
+/// The answer is that of `parse`: the same parts, and each refusal where it comes there.
+#[tactic(auto, using(crate::specs::DerivationsOnce::derivation_once))]
+pub fn parse_view(alloc: Global, bytes: &[u8]) -> Result<PartsView<'_>, AtermError>
+    // What is read has this text.
+    ensures found { IfOk result (λ p. (length bytes.now ≤ text_limit) × Text p bytes.now) }
+    // What has this text is read, unless memory runs out.
+    ensures exactly { (p : Parts) → length bytes.now ≤ text_limit → Text p bytes.now
+        → OkUnlessMemory result (λ q. q ≡ p) }
+    // When each refusal comes.
+    ensures refused { IfErr result (IsRefused bytes.now) }
+    ensures too_long { text_limit < length bytes.now → result ≡ Err AtermError.TooLong }
+{
+    if bytes.len() > TEXT_LIMIT {
+        return Err(AtermError::TooLong);
+    }
+    let (parts, rest) = parts_at(alloc, bytes)?;
+    if !rest.is_empty() {
+        return Err(AtermError::NotDerivation);
+    }
+    if !is_view_in_order(&parts) {
+        return Err(AtermError::Order);
+    }
+    Ok(parts)
 }
 
 /// Reads a derivation text, in one pass, and gives the derivation whose text the bytes are. Refusals,
@@ -152,14 +180,11 @@ pub fn parse(alloc: Global, bytes: &[u8]) -> Result<Derivation, AtermError>
     ensures refused { IfErr result (IsRefused bytes.now) }
     ensures too_long { text_limit < length bytes.now → result ≡ Err AtermError.TooLong }
 {
-    if bytes.len() > TEXT_LIMIT {
-        return Err(AtermError::TooLong);
-    }
-    let (parts, rest) = parts_at(alloc, bytes)?;
-    if !rest.is_empty() {
-        return Err(AtermError::NotDerivation);
-    }
-    Derivation::new(parts)
+    let view = match parse_view(alloc, bytes) {
+        Ok(view) => view,
+        Err(fault) => return Err(fault),
+    };
+    Ok(Derivation::of_ordered(view.into_parts(alloc)?))
 }
 
 /// Writes a derivation's text at the end.

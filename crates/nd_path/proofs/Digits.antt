@@ -1,12 +1,12 @@
 -- The digits of base 32 as ranges of bytes, and the places that are folded into one.
 use Rattle.std.proofs.Common.{◌≡◌, ℕ, ◌+◌, ◌%◌, ◌<◌, ◌≤◌, Bool, true, false, zero, suc, List, [], ◌∷◌, length, map, filter, get_or, refl, ap, subst, ◌∙◌, inl, inr, arith}
-use Rattle.std.specs.Prelude.{◌==◌, ◌&&◌, ◌||◌, nat_le, nat_lt, nat_eq, fold, slice_index, bit_xor, if◌then◌else◌}
+use Rattle.std.specs.Prelude.{◌==◌, not, codes, ◌&&◌, ◌||◌, nat_le, nat_lt, nat_eq, fold, slice_index, bit_xor, if◌then◌else◌}
 use Rattle.std.specs.Int.Bits.{xor_zero_l}
 use Rattle.std.specs.List.{range_with_len}
 use Rattle.std.specs.Cmp.{first_so, second_so}
 use Rattle.std.specs.Cmp.Lexicographic.{pointwise}
 use Rattle.std.proofs.lemmas.Bool.{cases_lt, lt-ltb, le-ltb}
-use Rattle.nd_path.specs.StorePath.{is_digest_byte}
+use Rattle.nd_path.specs.StorePath.{is_digest_byte, is_name_byte}
 use Rattle.nd_path.specs.SamePaths.{paths_same}
 use Rattle.nd_path.specs.Encoding.{folded_byte_of}
 
@@ -25,12 +25,6 @@ below_passes p (suc n) b h lt = elim (cases_lt b n) [
 
 -- ---- the digits
 
--- `0` to `9`, and `a` to `z` without `e`, `o`, `t` and `u`
-abbrev pub in_ranges : ℕ → Bool
-in_ranges b =
-    (nat_le 48 b && nat_le b 57) || (nat_le 97 b && nat_le b 100) || (nat_le 102 b && nat_le b 110)
-    || (nat_le 112 b && nat_le b 115) || (nat_le 118 b && nat_le b 122)
-
 same_test : Bool → Bool → Bool
 same_test true b = b
 same_test false true = false
@@ -43,12 +37,25 @@ same_tests true false h = cc
 same_tests false true h = cc
 same_tests false false h = refl
 
-tested : all_below (λ b. same_test (is_digest_byte b) (in_ranges b)) 256 ≡ true
-unfolding all_below same_test is_digest_byte
-tested = refl
+-- ---- what each byte is in a store path
 
-pub digits_in_ranges : (b : ℕ) → b < 256 → is_digest_byte b ≡ in_ranges b
-digits_in_ranges b lt = same_tests (is_digest_byte b) (in_ranges b) (below_passes (λ b. same_test (is_digest_byte b) (in_ranges b)) 256 b tested lt)
+-- the table of the reader: 2 for a character of a digest, 1 for one of a name alone, 0 for another
+abbrev pub kinds : List ℕ
+kinds = codes "0000000000000000000000000000000000000000000101102222222222000101011111111111111111111111111000010222212222222221222211222220000000000000000000000000000000000000000000000000000000000000000000000000000000000000000000000000000000000000000000000000000000000000"
+
+named_kinds : all_below (λ b. same_test (is_name_byte b) (not (get_or kinds b 0 == 48))) 256 ≡ true
+unfolding all_below same_test
+named_kinds = refl
+
+digit_kinds : all_below (λ b. same_test (is_digest_byte b) (get_or kinds b 0 == 50)) 256 ≡ true
+unfolding all_below same_test is_digest_byte
+digit_kinds = refl
+
+pub name_kind : (b : ℕ) → b < 256 → is_name_byte b ≡ not (get_or kinds b 0 == 48)
+name_kind b lt = same_tests (is_name_byte b) (not (get_or kinds b 0 == 48)) (below_passes (λ b. same_test (is_name_byte b) (not (get_or kinds b 0 == 48))) 256 b named_kinds lt)
+
+pub digit_kind : (b : ℕ) → b < 256 → is_digest_byte b ≡ (get_or kinds b 0 == 50)
+digit_kind b lt = same_tests (is_digest_byte b) (get_or kinds b 0 == 50) (below_passes (λ b. same_test (is_digest_byte b) (get_or kinds b 0 == 50)) 256 b digit_kinds lt)
 
 -- ---- the places of 32 that leave j when they are divided by 20
 

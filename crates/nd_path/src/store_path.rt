@@ -1,6 +1,6 @@
 //! A store path.
 
-ghost use Rattle.std.specs.Prelude.{true, ◌∷◌, ◌++◌, ◌≡◌, ℕ, List, Option, None, IfOk, IfErr};
+ghost use Rattle.std.specs.Prelude.{true, ◌&&◌, ◌∷◌, ◌++◌, ◌≡◌, ℕ, List, Option, None, IfOk, IfErr, is_none};
 ghost use Rattle.std.proofs.Common.{rules};
 ghost use Rattle.std.specs.Cmp as Cmp;
 ghost use Rattle.std.specs.Cmp.Lexicographic.{nat_list_eq_equiv, nat_list_cmp_total, texts_ties, texts_po};
@@ -25,6 +25,18 @@ const NAME_START: usize = 44;
 
 /// The greatest number of bytes of a name.
 const NAME_LIMIT: usize = 211;
+
+/// What each byte is in a store path, 32 to a row: `2` is a character of a digest and of a name, `1`
+/// one of a name alone, and `0` none of both.
+const KINDS: &[u8; 256] = b"\
+    00000000000000000000000000000000\
+    00000000000101102222222222000101\
+    01111111111111111111111111100001\
+    02222122222222212222112222200000\
+    00000000000000000000000000000000\
+    00000000000000000000000000000000\
+    00000000000000000000000000000000\
+    00000000000000000000000000000000";
 
 /// A store path: `/nix/store/`, a digest of 32 characters, `-` and a name (Nix Reference Manual,
 /// "Store Path"). Contracts see the list of its bytes, which is a store path. Two are equal where
@@ -61,6 +73,16 @@ impl StorePath {
         if let Some(fault) = fault(bytes) {
             return Err(fault);
         }
+        Ok(StorePath {
+            bytes: Vec::from_slice(alloc, bytes)?,
+        })
+    }
+
+    /// The store path with these bytes, which are one ([`is_store_path`]).
+    pub fn from_path(alloc: Global, bytes: &[u8]) -> Result<StorePath, AllocError>
+        requires { IsPath bytes.now }
+        ensures { IfOk result (λ p. p ≡ bytes.now) }
+    {
         Ok(StorePath {
             bytes: Vec::from_slice(alloc, bytes)?,
         })
@@ -178,6 +200,26 @@ impl Hash for StorePath {
     }
 }
 
+/// Whether the bytes are a store path. It takes no memory.
+pub fn is_store_path(bytes: &[u8]) -> bool
+    ensures { result ≡ is_none (fault_of bytes.now) }
+{
+    fault(bytes).is_none()
+}
+
+/// Whether the bytes are the store path of a derivation: a store path whose name ends in `.drv`. It
+/// takes no memory.
+#[tactic(auto, using(crate::specs::Lengths::path_long))]
+pub fn is_drv_store_path(bytes: &[u8]) -> bool
+    ensures { result ≡ (is_none (fault_of bytes.now) && is_drv_path bytes.now) }
+{
+    if fault(bytes).is_some() {
+        return false;
+    }
+    let (_, name) = bytes.split_at(NAME_START);
+    name.ends_with(b".drv")
+}
+
 /// The first fault of the bytes, from left to right.
 fn fault(bytes: &[u8]) -> Option<PathError>
     ensures { result ≡ fault_of bytes.now }
@@ -212,13 +254,12 @@ fn are_digest_bytes(bytes: &[u8]) -> bool
     bytes.iter().all(|b| is_digit(*b))
 }
 
-/// Whether the byte is of Nix's base-32 alphabet: `0` to `9`, or `a` to `z` without `e`, `o`, `t`
-/// and `u`.
-#[tactic(auto, using(crate::proofs::Digits::digits_in_ranges))]
+/// Whether the byte is of Nix's base-32 alphabet.
+#[tactic(auto, using(crate::proofs::Digits::digit_kind))]
 fn is_digit(b: u8) -> bool
     ensures { result ≡ is_digest_byte b }
 {
-    matches!(b, b'0'..=b'9' | b'a'..=b'd' | b'f'..=b'n' | b'p'..=b's' | b'v'..=b'z')
+    KINDS[usize::from(b)] == b'2'
 }
 
 /// Whether the bytes are a dash and a name.
@@ -248,7 +289,13 @@ pub(crate) fn is_path_name(name: &[u8]) -> bool
 fn are_name_bytes(bytes: &[u8]) -> bool
     ensures { result ≡ list_all is_name_byte bytes.now }
 {
-    bytes.iter().all(|b| {
-        matches!(*b, b'0'..=b'9' | b'A'..=b'Z' | b'a'..=b'z' | b'+' | b'-' | b'.' | b'_' | b'?' | b'=')
-    })
+    bytes.iter().all(|b| is_name_character(*b))
+}
+
+/// Whether a name may have the byte.
+#[tactic(auto, using(crate::proofs::Digits::name_kind))]
+fn is_name_character(b: u8) -> bool
+    ensures { result ≡ is_name_byte b }
+{
+    KINDS[usize::from(b)] != b'0'
 }

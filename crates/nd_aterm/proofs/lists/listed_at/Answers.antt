@@ -9,7 +9,7 @@ pub returns-in_err-item-clause-none : goal.returns-in_err-item-clause-none
 returns-in_err-item-clause-none g c =
     let p = err_from_is_err_and c.from_residual-in_err-item.result c.from_residual-in_err-item.ensures.1 in
     rw (p.1, p.2) (
-    listed_refused g.T.Part.text g.met.T.Part.once g.met.T.Part.opens _ _ _ _ _
+    listed_refused g.T.Part.text g.T.Part.once g.T.Part.opens _ _ _ _ _
     c.loop-after.invariant.spelled c.loop-after.invariant.some c.in-Some.ensures c.in_err-item.ensures.none
     )
 
@@ -25,4 +25,4 @@ loop-after-preserved g c = record {
 
 pub returns-in_err-rest-clause-none : goal.returns-in_err-rest-clause-none
 returns-in_err-rest-clause-none g c =
-    grind (arith, common_steps, listed_end g.T.Part.text g.met.T.Part.once g.met.T.Part.opens)
+    grind (arith, common_steps, listed_end g.T.Part.text g.T.Part.once g.T.Part.opens)

@@ -5,4 +5,4 @@ use Rattle.nd_aterm.proofs.lists.put_others.Given as goal
 -- what is written so far goes on to all of it
 abbrev pub invariant-loop-item : goal.invariant-loop-item
 invariant-loop-item g l =
-    (rest : List ℕ) → l.out.items ++ others g.T.Part.text (drop l.item-index l.items) rest ≡ l.fn.out.items ++ others g.T.Part.text l.items rest
+    (rest : List ℕ) → l.out.items ++ others g.T.Written.text (drop l.item-index l.items) rest ≡ l.fn.out.items ++ others g.T.Written.text l.items rest

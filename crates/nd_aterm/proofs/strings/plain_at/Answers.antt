@@ -1,11 +1,12 @@
-use Rattle.std.proofs.Common.{◌≡◌, None, get_or, arith}
+use Rattle.std.proofs.Common.{◌≤◌, subst, List, ℕ, arith}
 use Rattle.std.proofs.lemmas.Grind.{common_steps}
-use Rattle.std.proofs.lemmas.List.{take_more}
-use Rattle.nd_aterm.specs.Spelling.{letter_of}
-use Rattle.nd_aterm.proofs.StringLemmas.{IsPlain-push}
+use Rattle.memchr.specs.Find.{Nowhere, Passes, is_byte2}
+use Rattle.nd_aterm.proofs.StringLemmas.{plain_to}
 use Rattle.nd_aterm.proofs.strings.plain_at.Goals as goal
 
-pub loop-i-preserved : goal.loop-i-preserved
-loop-i-preserved c =
-    let none : letter_of (get_or c.args.bytes.now c.loop-i.i 0) ≡ None = grind (arith, common_steps) in
-    rw (take_more c.args.bytes.now c.loop-i.i 0 c.loop-i-test.true) (IsPlain-push _ _ c.loop-i.invariant none)
+pub returns-clause-plain : goal.returns-clause-plain
+returns-clause-plain c =
+    let low : c.before_two.result ≤ c.before_three.result = grind (arith, common_steps) in
+    rw c.split_at-2.ensures.front
+    (plain_to c.args.bytes.now c.before_three.result c.before_three.ensures.within c.before_three.ensures.none c.before_two.result low
+    (subst (λ (front : List ℕ). Nowhere (Passes (is_byte2 13 9) front) 0 c.before_two.result) c.split_at.ensures.front c.before_two.ensures.none))
