@@ -1,5 +1,5 @@
 -- When words say nothing.
--- Public clauses cite `refusal_text`; the rest serves private clauses alone.
+-- Public clauses cite `refusal_text`, `RulesOut` and `IsNoNumber`; the rest serves private clauses alone.
 use Rattle.std.specs.Prelude.{ℕ, List, [], ◌++◌, codes}
 use Rattle.std.specs.Fmt.{decimal}
 use Rattle.nd_path.specs.Refusals.{IsPath}

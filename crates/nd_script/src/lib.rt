@@ -16,7 +16,10 @@ mod verb;
 mod words;
 
 pub use command::Command;
+pub use line_error::LineError;
+pub use lines::read_line;
 pub use rule::Rule;
 pub use script_error::ScriptError;
 pub use script_text::parse_script;
 pub use stand_text::parse_stand;
+pub use words::only_operand;

@@ -21,8 +21,12 @@ impl Said for Command {
     }
 }
 
-/// The command of a line, for a graph of `drvs` derivations and a park of `machines` machines.
-fn read_line(alloc: Global, line: &[u8], drvs: usize, machines: usize) -> Result<Command, LineError>
+/// The command of one line of a script, without its newline, for a graph of `drvs` derivations and a park
+/// of `machines` machines, the local one among them.
+///
+/// `Bad`: the line is none of those that [`parse_script`](crate::parse_script) lists. `Memory`: an
+/// allocation was refused.
+pub fn read_line(alloc: Global, line: &[u8], drvs: usize, machines: usize) -> Result<Command, LineError>
     ensures found { IfOk result (IsLine drvs machines line.now) }
     ensures refused { IfErr result (RulesOut (IsLine drvs machines line.now)) }
 {

@@ -40,9 +40,10 @@ pub(crate) fn operand(words: Option<&[u8]>, bound: usize) -> Option<(u32, Option
     Some((number, rest))
 }
 
-/// The number below `bound` that is the only word.
+/// The number below `bound` that is the only word. `None` where the words aren't one such number, written
+/// without needless zeros.
 #[tactic(auto, using(crate::proofs::Operands::never_alone))]
-pub(crate) fn only_operand(words: Option<&[u8]>, bound: usize) -> Option<u32>
+pub fn only_operand(words: Option<&[u8]>, bound: usize) -> Option<u32>
     ensures { MatchOption result (IsNoNumber bound (words_left words.entry)) (λ n. Begins bound (words_left words.entry) n []) }
 {
     match operand(words, bound) {

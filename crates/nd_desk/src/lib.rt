@@ -1,0 +1,13 @@
+//! The desk of a session: its input, its output and its journal as one device, which notes what was done to
+//! each in one list, so that a contract can say what came before what.
+#![tactic(auto)]
+
+pub mod desk;
+pub mod event;
+pub mod fault;
+pub mod handing;
+
+pub use desk::Desk;
+pub use event::Event;
+pub use fault::{DeskFault, SessionFault};
+pub use handing::hand_over;
