@@ -6,7 +6,7 @@ ghost use Rattle.nd_graph.specs.Refused.{Attribute};
 
 use crate::refusal::LineError;
 use crate::structured::{Wishes, read_structured};
-use nd_aterm::EnvEntry;
+use nd_aterm::EnvEntryView;
 use nd_bytes::ByteString;
 use nd_eligible::{Need, words};
 use std::alloc::{AllocError, Global};
@@ -16,7 +16,7 @@ pub(crate) fn need_of(
     alloc: Global,
     platform: ByteString,
     builder: &[u8],
-    env: &[EnvEntry],
+    env: &[EnvEntryView<'_>],
 ) -> Result<Need, LineError>
     ensures ok { IfOk result (λ need. Needs platform builder.now env.now need) }
     ensures err { IfErr result (λ fault. Attribute fault (AsksNothing env.now)) }
@@ -34,7 +34,7 @@ pub(crate) fn need_of(
 }
 
 /// What the environment asks for.
-fn wishes_of(alloc: Global, env: &[EnvEntry]) -> Result<Wishes, LineError>
+fn wishes_of(alloc: Global, env: &[EnvEntryView<'_>]) -> Result<Wishes, LineError>
     ensures ok { IfOk result (λ wishes. Asks (structured env.now) env.now wishes) }
     ensures err { IfErr result (λ fault. Attribute fault (AsksNothing env.now)) }
 {
@@ -45,7 +45,7 @@ fn wishes_of(alloc: Global, env: &[EnvEntry]) -> Result<Wishes, LineError>
 }
 
 /// What the two variables ask for.
-fn variables_of(alloc: Global, env: &[EnvEntry]) -> Result<Wishes, AllocError>
+fn variables_of(alloc: Global, env: &[EnvEntryView<'_>]) -> Result<Wishes, AllocError>
     ensures { IfOk result (λ wishes. AreVariables env.now wishes) }
 {
     let features = match value_of(env, b"requiredSystemFeatures") {
@@ -63,7 +63,7 @@ fn variables_of(alloc: Global, env: &[EnvEntry]) -> Result<Wishes, AllocError>
 }
 
 /// The value of the variable with this name, or `None` where there is none.
-fn value_of<'e>(env: &'e [EnvEntry], name: &[u8]) -> Option<&'e [u8]>
+fn value_of<'e>(env: &'e [EnvEntryView<'_>], name: &[u8]) -> Option<&'e [u8]>
     ensures { option_map (λ value. value.now) result ≡ variable name.now env.now }
 {
     for entry in env {

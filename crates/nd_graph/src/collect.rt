@@ -5,7 +5,7 @@ ghost use Rattle.std.specs.List.{AllZip};
 ghost use Rattle.nd_graph.specs.Lines.{lines};
 ghost use Rattle.nd_graph.specs.Reads.{Reads};
 
-use crate::line::LineNode;
+use crate::line::LineView;
 use crate::reading::read_line;
 use crate::refusal::LineError;
 use nd_bytes::cut;
@@ -15,11 +15,11 @@ use std::thread::Threads;
 
 /// What each line of the text says, in order, read by this thread. With `check` each line's path has
 /// to be the text path of its derivation.
-pub(crate) fn read_lines(
+pub(crate) fn read_lines<'t>(
     alloc: Global,
-    text: &[u8],
+    text: &'t [u8],
     check: bool,
-) -> Result<Vec<Result<LineNode, LineError>>, AllocError>
+) -> Result<Vec<Result<LineView<'t>, LineError>>, AllocError>
     ensures { IfOk result (λ read. AllZip (Reads check) (lines text.now) read.items) }
 {
     let lines = cut_lines(alloc, text)?;
@@ -31,12 +31,12 @@ pub(crate) fn read_lines(
 }
 
 /// The same, read by as many threads as there are processors.
-pub(crate) fn read_lines_in_parallel(
+pub(crate) fn read_lines_in_parallel<'t>(
     rt: &(impl Threads + Sync),
     alloc: Global,
-    text: &[u8],
+    text: &'t [u8],
     check: bool,
-) -> Result<Vec<Result<LineNode, LineError>>, AllocError>
+) -> Result<Vec<Result<LineView<'t>, LineError>>, AllocError>
     ensures { IfOk result (λ read. AllZip (Reads check) (lines text.now) read.items) }
 {
     let lines = cut_lines(alloc, text)?;
@@ -44,7 +44,7 @@ pub(crate) fn read_lines_in_parallel(
         .as_slice()
         .par_iter()
         .map(
-            |line: &&[u8]| -> Result<LineNode, LineError>
+            |line: &&[u8]| -> Result<LineView<'_>, LineError>
                 ensures { Reads check line.now.now result }
             { read_line(alloc, line, check) },
         )

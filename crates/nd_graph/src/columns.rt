@@ -3,26 +3,30 @@
 ghost use Rattle.std.specs.Prelude.{IfOk};
 ghost use Rattle.nd_graph.specs.Columned.{HasColumns};
 
-use crate::line::{LineNode, NamedInput};
-use nd_bytes::{ByteString, Items};
+use crate::line::{InputView, LineView};
+use nd_aterm::Leaf;
+use nd_bytes::Items;
 use nd_eligible::Need;
 use nd_path::StorePath;
 use std::alloc::{AllocError, Global};
 
 /// The parts of a bundle's nodes, as lists with one item per node.
 #[derive(Drop)]
-pub(crate) struct Columns {
+pub(crate) struct Columns<'t> {
     pub paths: Vec<StorePath>,
     pub needs: Vec<Need>,
-    pub wants: Vec<Items<NamedInput>>,
+    pub wants: Vec<Items<InputView<'t>>>,
     pub sources: Vec<Items<StorePath>>,
-    pub names: Vec<Items<ByteString>>,
+    pub names: Vec<Items<Leaf<'t>>>,
     pub outputs: Vec<Items<StorePath>>,
 }
 
 /// The parts of the nodes.
-pub(crate) fn split_nodes(alloc: Global, nodes: Vec<LineNode>) -> Result<Columns, AllocError>
-    ensures { IfOk result (λ columns. HasColumns nodes.items columns) }
+pub(crate) fn split_nodes<'t>(
+    alloc: Global,
+    nodes: Vec<LineView<'t>>,
+) -> Result<Columns<'t>, AllocError>
+    ensures { IfOk result (λ columns. HasColumns nodes.entry.items columns) }
 {
     let count = nodes.len();
     let mut paths = Vec::with_capacity(alloc, count)?;
@@ -32,7 +36,7 @@ pub(crate) fn split_nodes(alloc: Global, nodes: Vec<LineNode>) -> Result<Columns
     let mut names = Vec::with_capacity(alloc, count)?;
     let mut outputs = Vec::with_capacity(alloc, count)?;
     for node in nodes {
-        let LineNode {
+        let LineView {
             path,
             need,
             inputs,

@@ -2,7 +2,6 @@
 
 ghost use Rattle.std.specs.Prelude.{◌≡◌, ℕ, List, ◌++◌, map, true, IfOk, IfErr};
 ghost use Rattle.nd_aterm.specs.declared.records.Parts.{Parts};
-ghost use Rattle.nd_aterm.specs.Texts.{parts_of};
 ghost use Rattle.nd_path.specs.StorePath.{is_name};
 ghost use Rattle.nd_path.specs.PathSets.{IsRising, HasSameMembers};
 ghost use Rattle.nd_graph.specs.Derived.{Spells, Derives, IsOwnPath};
@@ -10,36 +9,36 @@ ghost use Rattle.nd_graph.specs.Found.{HasContents, path_of};
 ghost use Rattle.nd_graph.specs.Refused.{NotPaths, WantsMemory};
 
 use crate::kinds::{Outputs, inputs_of, outputs_of, sources_of};
-use crate::line::NamedInput;
+use crate::line::InputView;
 use crate::refusal::LineError;
-use nd_aterm::{AtermError, Derivation, EnvEntry, parse};
-use nd_bytes::{ByteString, Items};
+use nd_aterm::{AtermError, EnvEntryView, Leaf, PartsView, parse_view};
+use nd_bytes::Items;
 use nd_path::{PathError, PathSet, StorePath, text_path};
 use std::alloc::{AllocError, Global};
 
 /// What a derivation text says.
 #[derive(Drop)]
-pub(crate) struct Contents {
+pub(crate) struct Contents<'t> {
     /// The input derivations.
-    pub(crate) inputs: Items<NamedInput>,
+    pub(crate) inputs: Items<InputView<'t>>,
     /// The input sources.
     pub(crate) sources: Items<StorePath>,
     /// The outputs.
-    pub(crate) outputs: Outputs,
+    pub(crate) outputs: Outputs<'t>,
     /// The platform.
-    pub(crate) platform: ByteString,
+    pub(crate) platform: Leaf<'t>,
     /// The builder.
-    pub(crate) builder: ByteString,
+    pub(crate) builder: Leaf<'t>,
     /// The environment.
-    pub(crate) env: Items<EnvEntry>,
+    pub(crate) env: Items<EnvEntryView<'t>>,
 }
 
 /// What the text of a derivation says, whose paths are of their kinds.
-pub(crate) fn contents_of(alloc: Global, text: &[u8]) -> Result<Contents, LineError>
+pub(crate) fn contents_of(alloc: Global, text: &[u8]) -> Result<Contents<'_>, LineError>
     ensures found { IfOk result (λ contents. (parts : Parts) × Derives text.now parts × HasContents parts contents) }
     ensures err { IfErr result (λ fault. NotPaths fault ((parts : Parts) → Derives text.now parts → ⊥)) }
 {
-    let Derivation {
+    let PartsView {
         outputs,
         input_drvs,
         input_srcs,
@@ -62,13 +61,12 @@ pub(crate) fn contents_of(alloc: Global, text: &[u8]) -> Result<Contents, LineEr
 }
 
 /// The derivation of a text.
-fn derivation_of(alloc: Global, text: &[u8]) -> Result<Derivation, LineError>
-    ensures found { IfOk result (λ derivation. Spells text.now (parts_of derivation)) }
-    ensures once { (parts : Parts) → Spells text.now parts
-        → IfOk result (λ derivation. parts_of derivation ≡ parts) }
+fn derivation_of(alloc: Global, text: &[u8]) -> Result<PartsView<'_>, LineError>
+    ensures found { IfOk result (Spells text.now) }
+    ensures once { (parts : Parts) → Spells text.now parts → IfOk result (λ found. found ≡ parts) }
     ensures err { IfErr result (λ fault. NotPaths fault ((parts : Parts) → Spells text.now parts → ⊥)) }
 {
-    match parse(alloc, text) {
+    match parse_view(alloc, text) {
         Ok(derivation) => Ok(derivation),
         Err(AtermError::Memory) => Err(LineError::Memory),
         Err(_) => Err(LineError::BadDerivation),
@@ -79,7 +77,7 @@ fn derivation_of(alloc: Global, text: &[u8]) -> Result<Derivation, LineError>
 pub(crate) fn own_path(
     alloc: Global,
     name: &[u8],
-    inputs: &[NamedInput],
+    inputs: &[InputView<'_>],
     sources: &[StorePath],
     text: &[u8],
 ) -> Result<StorePath, LineError>
@@ -98,7 +96,7 @@ pub(crate) fn own_path(
 /// The sources and the paths of the inputs as a set.
 fn references_of(
     alloc: Global,
-    inputs: &[NamedInput],
+    inputs: &[InputView<'_>],
     sources: &[StorePath],
 ) -> Result<PathSet, AllocError>
     ensures members { IfOk result (HasSameMembers (sources.now ++ map path_of inputs.now)) }

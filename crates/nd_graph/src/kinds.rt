@@ -6,11 +6,11 @@ ghost use Rattle.nd_graph.specs.Reads.{named};
 ghost use Rattle.nd_graph.specs.Refused.{WantsMemory, NotPaths};
 ghost use Rattle.nd_graph.specs.Found.{TellsOutputs};
 
-use crate::line::NamedInput;
+use crate::line::InputView;
 use crate::refusal::LineError;
-use nd_aterm::{InputDrv, Output};
-use nd_bytes::{ByteString, Items};
-use nd_path::{PathError, StorePath};
+use nd_aterm::{InputDrvView, Leaf, OutputView};
+use nd_bytes::Items;
+use nd_path::{StorePath, is_drv_store_path, is_store_path};
 use std::alloc::Global;
 
 /// The store path with these bytes, or `None` where they are no store path.
@@ -19,11 +19,10 @@ pub(crate) fn store_path(alloc: Global, bytes: &[u8]) -> Result<Option<StorePath
         (λ path. (path ≡ bytes.now) × (is_path bytes.now ≡ true))) }
     ensures err { IfErr result WantsMemory }
 {
-    match StorePath::parse(alloc, bytes) {
-        Ok(path) => Ok(Some(path)),
-        Err(PathError::Memory) => Err(LineError::Memory),
-        Err(_) => Ok(None),
+    if !is_store_path(bytes) {
+        return Ok(None);
     }
+    Ok(Some(StorePath::from_path(alloc, bytes)?))
 }
 
 /// The store path of a derivation with these bytes, or `None` where they are none.
@@ -32,32 +31,28 @@ pub(crate) fn drv_store_path(alloc: Global, bytes: &[u8]) -> Result<Option<Store
         (λ path. (path ≡ bytes.now) × (is_drv bytes.now ≡ true))) }
     ensures err { IfErr result WantsMemory }
 {
-    let Some(path) = store_path(alloc, bytes)? else {
+    if !is_drv_store_path(bytes) {
         return Ok(None);
-    };
-    if path.is_drv() {
-        Ok(Some(path))
-    } else {
-        Ok(None)
     }
+    Ok(Some(StorePath::from_path(alloc, bytes)?))
 }
 
 /// The input derivations with their store paths.
-pub(crate) fn inputs_of(
+pub(crate) fn inputs_of<'t>(
     alloc: Global,
-    drvs: Items<InputDrv>,
-) -> Result<Items<NamedInput>, LineError>
-    ensures same { IfOk result (λ inputs. inputs ≡ map named drvs) }
-    ensures paths { IfOk result (λ _. are_drvs drvs ≡ true) }
-    ensures err { IfErr result (λ fault. NotPaths fault (are_drvs drvs ≡ false)) }
+    drvs: Items<InputDrvView<'t>>,
+) -> Result<Items<InputView<'t>>, LineError>
+    ensures same { IfOk result (λ inputs. inputs ≡ map named drvs.entry) }
+    ensures paths { IfOk result (λ _. are_drvs drvs.entry ≡ true) }
+    ensures err { IfErr result (λ fault. NotPaths fault (are_drvs drvs.entry ≡ false)) }
 {
     let mut inputs = Vec::with_capacity(alloc, drvs.len())?;
     for drv in drvs.into_vec() {
-        let InputDrv { path, outputs } = drv;
+        let InputDrvView { path, outputs } = drv;
         let Some(path) = drv_store_path(alloc, path.as_slice())? else {
             return Err(LineError::BadDerivation);
         };
-        inputs.push(NamedInput {
+        inputs.push(InputView {
             path,
             names: outputs,
         })?;
@@ -66,10 +61,7 @@ pub(crate) fn inputs_of(
 }
 
 /// The sources as store paths.
-pub(crate) fn sources_of(
-    alloc: Global,
-    sources: &[ByteString],
-) -> Result<Items<StorePath>, LineError>
+pub(crate) fn sources_of(alloc: Global, sources: &[Leaf<'_>]) -> Result<Items<StorePath>, LineError>
     ensures same { IfOk result (λ paths. paths ≡ sources.now) }
     ensures paths { IfOk result (λ _. are_paths sources.now ≡ true) }
     ensures err { IfErr result (λ fault. NotPaths fault (are_paths sources.now ≡ false)) }
@@ -86,9 +78,9 @@ pub(crate) fn sources_of(
 
 /// The outputs of a derivation.
 #[derive(Drop)]
-pub(crate) struct Outputs {
+pub(crate) struct Outputs<'t> {
     /// The names.
-    pub(crate) names: Items<ByteString>,
+    pub(crate) names: Items<Leaf<'t>>,
     /// The paths that are known before the build.
     pub(crate) paths: Items<StorePath>,
     /// Whether all are known.
@@ -96,16 +88,19 @@ pub(crate) struct Outputs {
 }
 
 /// The outputs' names and paths.
-pub(crate) fn outputs_of(alloc: Global, outputs: Items<Output>) -> Result<Outputs, LineError>
-    ensures found { IfOk result (TellsOutputs outputs) }
-    ensures paths { IfOk result (λ _. are_outputs outputs ≡ true) }
-    ensures err { IfErr result (λ fault. NotPaths fault (are_outputs outputs ≡ false)) }
+pub(crate) fn outputs_of<'t>(
+    alloc: Global,
+    outputs: Items<OutputView<'t>>,
+) -> Result<Outputs<'t>, LineError>
+    ensures found { IfOk result (TellsOutputs outputs.entry) }
+    ensures paths { IfOk result (λ _. are_outputs outputs.entry ≡ true) }
+    ensures err { IfErr result (λ fault. NotPaths fault (are_outputs outputs.entry ≡ false)) }
 {
     let mut names = Vec::with_capacity(alloc, outputs.len())?;
     let mut paths = Vec::with_capacity(alloc, outputs.len())?;
     let mut known = true;
     for output in outputs.into_vec() {
-        let Output {
+        let OutputView {
             name,
             path,
             hash_algo: _,

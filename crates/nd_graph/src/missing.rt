@@ -3,7 +3,7 @@
 ghost use Rattle.std.specs.Prelude.{MatchBool, MatchOption};
 ghost use Rattle.nd_graph.specs.Whole.{AreInputsThere, HasInputs, IsMissingInput, LacksInput};
 
-use crate::line::NamedInput;
+use crate::line::InputView;
 use indexmap::IndexSet;
 use nd_bytes::Items;
 use nd_path::StorePath;
@@ -12,7 +12,7 @@ use nd_path::StorePath;
 #[tactic(auto, using(crate::proofs::Linked::missing_here, crate::proofs::Linked::inputs_there))]
 pub(crate) fn missing_input(
     paths: &IndexSet<StorePath>,
-    wants: &[Items<NamedInput>],
+    wants: &[Items<InputView<'_>>],
 ) -> Option<usize>
     ensures { MatchOption result (AreInputsThere paths.now.keys wants.now) (λ line. IsMissingInput paths.now.keys wants.now line) }
 {
@@ -26,7 +26,7 @@ pub(crate) fn missing_input(
 
 /// Whether each input derivation is one of `paths`.
 #[tactic(auto, using(crate::proofs::Linked::inputs_none, crate::proofs::Linked::inputs_more, crate::proofs::Linked::inputs_all, crate::proofs::Linked::input_lacking))]
-fn has_inputs(paths: &IndexSet<StorePath>, wants: &[NamedInput]) -> bool
+fn has_inputs(paths: &IndexSet<StorePath>, wants: &[InputView<'_>]) -> bool
     ensures { MatchBool result (HasInputs paths.now.keys wants.now) (LacksInput paths.now.keys wants.now) }
 {
     for want in wants {

@@ -8,7 +8,7 @@ ghost use Rattle.nd_graph.specs.Reads.{Tells, IsNode, IsBad, Reads};
 use crate::attributes::need_of;
 use crate::derived::{Contents, contents_of, own_path};
 use crate::kinds::{Outputs, drv_store_path};
-use crate::line::LineNode;
+use crate::line::LineView;
 use crate::refusal::LineError;
 use nd_bytes::cut;
 use nd_path::StorePath;
@@ -20,7 +20,7 @@ use std::alloc::Global;
 /// and, with `check`, `WrongPath` that the line gives cause for, and with `Memory` where an
 /// allocation is refused.
 #[tactic(auto, using(crate::proofs::Sayings::lines))]
-pub(crate) fn read_line(alloc: Global, line: &[u8], check: bool) -> Result<LineNode, LineError>
+pub(crate) fn read_line(alloc: Global, line: &[u8], check: bool) -> Result<LineView<'_>, LineError>
     ensures { Reads check line.now result }
 {
     let (front, back) = cut(line, b' ');
@@ -41,7 +41,7 @@ fn read_text(
     path: StorePath,
     text: &[u8],
     check: bool,
-) -> Result<LineNode, LineError>
+) -> Result<LineView<'_>, LineError>
     ensures ok { IfOk result (IsNode check path text.now) }
     ensures err { IfErr result (IsBad check path text.now) }
 {
@@ -53,7 +53,7 @@ fn read_text(
 }
 
 /// Whether the node's path is the one that its text has.
-fn check_path(alloc: Global, node: &LineNode, text: &[u8]) -> Result<(), LineError>
+fn check_path(alloc: Global, node: &LineView<'_>, text: &[u8]) -> Result<(), LineError>
     ensures ok { OnOk result (IsOwnPathOf node.now text.now node.now.path) }
     ensures err { IfErr result (IsAnother node.now text.now) }
 {
@@ -72,7 +72,7 @@ fn check_path(alloc: Global, node: &LineNode, text: &[u8]) -> Result<(), LineErr
 }
 
 /// The node of the derivation with this path and this text.
-fn node_of(alloc: Global, path: StorePath, text: &[u8]) -> Result<LineNode, LineError>
+fn node_of(alloc: Global, path: StorePath, text: &[u8]) -> Result<LineView<'_>, LineError>
     ensures path { IfOk result (λ node. node.path ≡ path) }
     ensures tells { IfOk result (λ node. (parts : Parts) × Tells text.now parts node) }
     ensures err { IfErr result (IsBad false path text.now) }
@@ -93,8 +93,9 @@ fn node_of(alloc: Global, path: StorePath, text: &[u8]) -> Result<LineNode, Line
     if !known {
         return Err(LineError::UnknownOutput);
     }
+    let platform = platform.into_byte_string(alloc)?;
     let need = need_of(alloc, platform, builder.as_slice(), env.as_slice())?;
-    Ok(LineNode {
+    Ok(LineView {
         path,
         need,
         inputs,

@@ -9,21 +9,22 @@ ghost use Rattle.nd_graph.specs.Whole.{AllNumbered, AreInputsThere, AreNumbered,
 
 use crate::fault::GraphError;
 use crate::graph::Input;
-use crate::line::NamedInput;
+use crate::line::InputView;
 use crate::number::find_path;
 use indexmap::IndexSet;
-use nd_bytes::{ByteString, Items};
+use nd_aterm::Leaf;
+use nd_bytes::Items;
 use nd_path::StorePath;
 use std::alloc::{AllocError, Global};
 
 /// The inputs of all nodes by number; `MissingOutput` with the first line that names an output that
 /// its input derivation doesn't have.
 #[tactic(auto, using(crate::proofs::Linked::rows_none, crate::proofs::Linked::rows_more, crate::proofs::Linked::rows_all, crate::proofs::Linked::output_missing))]
-pub(crate) fn number_inputs(
+pub(crate) fn number_inputs<'t>(
     alloc: Global,
     paths: &IndexSet<StorePath>,
-    names: &[Items<ByteString>],
-    wants: &[Items<NamedInput>],
+    names: &[Items<Leaf<'t>>],
+    wants: &[Items<InputView<'t>>],
 ) -> Result<Vec<Items<Input>>, GraphError>
     requires there { AreInputsThere paths.now.keys wants.now }
     requires sized { length names.now ≡ length paths.now.keys }
@@ -43,11 +44,11 @@ pub(crate) fn number_inputs(
 
 /// The inputs of a node by number, or none where an output is missing.
 #[tactic(auto, using(crate::proofs::Linked::row_none, crate::proofs::Linked::row_more, crate::proofs::Linked::row_all, crate::proofs::Linked::row_lacks, crate::proofs::Linked::want_there))]
-fn number_row(
+fn number_row<'t>(
     alloc: Global,
     paths: &IndexSet<StorePath>,
-    names: &[Items<ByteString>],
-    wants: &[NamedInput],
+    names: &[Items<Leaf<'t>>],
+    wants: &[InputView<'t>],
 ) -> Result<Option<Items<Input>>, AllocError>
     requires there { HasInputs paths.now.keys wants.now }
     requires sized { length names.now ≡ length paths.now.keys }
@@ -66,11 +67,11 @@ fn number_row(
 
 /// An input by number, or none where an output is missing.
 #[tactic(auto, using(crate::proofs::Linked::input_lacks, crate::proofs::Linked::input_numbered))]
-fn number_input(
+fn number_input<'t>(
     alloc: Global,
     paths: &IndexSet<StorePath>,
-    names: &[Items<ByteString>],
-    want: &NamedInput,
+    names: &[Items<Leaf<'t>>],
+    want: &InputView<'t>,
 ) -> Result<Option<Input>, AllocError>
     requires there { Contains paths.now.keys want.now.path }
     requires sized { length names.now ≡ length paths.now.keys }
@@ -97,7 +98,7 @@ fn node_of(paths: &IndexSet<StorePath>, path: &StorePath) -> usize
 
 /// The names of the outputs of a node, which rise.
 #[tactic(auto, using(crate::proofs::Linked::names_rise_at))]
-fn names_of(names: &[Items<ByteString>], node: usize) -> &[ByteString]
+fn names_of<'n, 't>(names: &'n [Items<Leaf<'t>>], node: usize) -> &'n [Leaf<'t>]
     requires within { node < length names.now }
     requires rising { AllNamesRise names.now }
     ensures names { result.now ≡ slice_index_or names.now node [] }
@@ -108,10 +109,10 @@ fn names_of(names: &[Items<ByteString>], node: usize) -> &[ByteString]
 
 /// The places of the wanted names in a rising list, or none where one is missing.
 #[tactic(auto, using(crate::proofs::Linked::places_none, crate::proofs::Linked::places_more, crate::proofs::Linked::places_all, crate::proofs::Linked::item_lacks))]
-fn places_of(
+fn places_of<'t>(
     alloc: Global,
-    names: &[ByteString],
-    wanted: &[ByteString],
+    names: &[Leaf<'t>],
+    wanted: &[Leaf<'t>],
 ) -> Result<Option<Items<usize>>, AllocError>
     requires { NamesRise names.now }
     ensures { IfOk result (λ r. MatchOption r (LacksItem names.now wanted.now) (λ places. ArePlaces names.now wanted.now places)) }
@@ -127,7 +128,7 @@ fn places_of(
 }
 
 /// The place of a name in a rising list, found by a binary search.
-fn place_of(names: &[ByteString], name: &ByteString) -> Option<usize>
+fn place_of<'t>(names: &[Leaf<'t>], name: &Leaf<'t>) -> Option<usize>
     requires { NamesRise names.now }
     ensures { IsNumber names.now name.now result }
 {

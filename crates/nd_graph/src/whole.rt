@@ -9,14 +9,15 @@ ghost use Rattle.nd_graph.specs.Whole.{links_of, IsGraphOf, IsWholeFault};
 use crate::columns::{Columns, split_nodes};
 use crate::fault::GraphError;
 use crate::graph::{Graph, Input};
-use crate::line::{LineNode, NamedInput};
+use crate::line::{InputView, LineView};
 use crate::missing::missing_input;
 use crate::number::number_all;
 use crate::order::find_order;
 use crate::refusal::LineError;
 use crate::resolve::number_inputs;
 use indexmap::IndexSet;
-use nd_bytes::{ByteString, Items};
+use nd_aterm::Leaf;
+use nd_bytes::Items;
 use nd_path::StorePath;
 use std::alloc::Global;
 
@@ -28,11 +29,11 @@ const NODE_LIMIT: usize = 65_536;
 #[tactic(auto, using(crate::proofs::Assembled::read_paired, crate::proofs::Assembled::graph_read, crate::proofs::Assembled::fault_read))]
 pub(crate) fn graph_of(
     alloc: Global,
-    read: Vec<Result<LineNode, LineError>>,
+    read: Vec<Result<LineView<'_>, LineError>>,
 ) -> Result<Graph, GraphError>
     requires { ReadsFit read.items }
-    ensures ok { IfOk result (λ graph. IsGraphRead read.items graph) }
-    ensures err { IfErr result (λ error. IsReadFault read.items error) }
+    ensures ok { IfOk result (λ graph. IsGraphRead read.entry.items graph) }
+    ensures err { IfErr result (λ error. IsReadFault read.entry.items error) }
 {
     let nodes = settle(alloc, read)?;
     assemble(alloc, nodes)
@@ -40,12 +41,12 @@ pub(crate) fn graph_of(
 
 /// The nodes that the lines say, or the refusal of the first line that has one.
 #[tactic(auto, using(crate::proofs::Assembled::line_refused))]
-fn settle(
+fn settle<'t>(
     alloc: Global,
-    read: Vec<Result<LineNode, LineError>>,
-) -> Result<Vec<LineNode>, GraphError>
-    ensures ok { IfOk result (λ nodes. IsRead read.items nodes.items) }
-    ensures err { IfErr result (λ error. IsReadFault read.items error) }
+    read: Vec<Result<LineView<'t>, LineError>>,
+) -> Result<Vec<LineView<'t>>, GraphError>
+    ensures ok { IfOk result (λ nodes. IsRead read.entry.items nodes.items) }
+    ensures err { IfErr result (λ error. IsReadFault read.entry.items error) }
 {
     let mut nodes = Vec::with_capacity(alloc, read.len())?;
     for line in read {
@@ -59,26 +60,26 @@ fn settle(
 
 /// The graph of the nodes, or the first refusal over the whole.
 #[tactic(auto, using(crate::proofs::Assembled::columns_sized, crate::proofs::Assembled::columns_paired, crate::proofs::Assembled::columns_rising))]
-fn assemble(alloc: Global, nodes: Vec<LineNode>) -> Result<Graph, GraphError>
+fn assemble(alloc: Global, nodes: Vec<LineView<'_>>) -> Result<Graph, GraphError>
     requires { AreFit nodes.items }
-    ensures ok { IfOk result (λ graph. IsGraphOf nodes.items graph) }
+    ensures ok { IfOk result (λ graph. IsGraphOf nodes.entry.items graph) }
     ensures sound { IfOk result IsSound }
     ensures acyclic { IfOk result (λ graph. IsAcyclic (rows_of graph)) }
-    ensures err { IfErr result (λ fault. IsWholeFault (links_of nodes.items) fault) }
+    ensures err { IfErr result (λ fault. IsWholeFault (links_of nodes.entry.items) fault) }
 {
     let columns = split_nodes(alloc, nodes)?;
     link(alloc, columns)
 }
 
 /// The graph of the nodes' parts, or the first refusal over the whole.
-fn link(alloc: Global, columns: Columns) -> Result<Graph, GraphError>
+fn link(alloc: Global, columns: Columns<'_>) -> Result<Graph, GraphError>
     requires sized { AreSized columns }
     requires paired { ArePaired columns.names.items columns.outputs.items }
     requires rising { AllNamesRise columns.names.items }
-    ensures ok { IfOk result (λ graph. IsGraphOfColumns columns graph) }
+    ensures ok { IfOk result (λ graph. IsGraphOfColumns columns.entry graph) }
     ensures sound { IfOk result IsSound }
     ensures acyclic { IfOk result (λ graph. IsAcyclic (rows_of graph)) }
-    ensures err { IfErr result (λ fault. IsWholeFault (record { paths = columns.paths.items; wants = columns.wants.items; names = columns.names.items }) fault) }
+    ensures err { IfErr result (λ fault. IsWholeFault (record { paths = columns.entry.paths.items; wants = columns.entry.wants.items; names = columns.entry.names.items }) fault) }
 {
     let Columns {
         paths,
@@ -98,11 +99,11 @@ fn link(alloc: Global, columns: Columns) -> Result<Graph, GraphError>
 }
 
 /// The inputs of all nodes by number; `MissingInput` or `MissingOutput` with the first such line.
-fn resolve(
+fn resolve<'t>(
     alloc: Global,
     paths: &IndexSet<StorePath>,
-    names: &[Items<ByteString>],
-    wants: &[Items<NamedInput>],
+    names: &[Items<Leaf<'t>>],
+    wants: &[Items<InputView<'t>>],
 ) -> Result<Vec<Items<Input>>, GraphError>
     requires sized { length names.now ≡ length paths.now.keys }
     requires rising { AllNamesRise names.now }

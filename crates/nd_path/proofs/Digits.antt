@@ -1,6 +1,6 @@
 -- The digits of base 32 as ranges of bytes, and the places that are folded into one.
 use Rattle.std.proofs.Common.{◌≡◌, ℕ, ◌+◌, ◌%◌, ◌<◌, ◌≤◌, Bool, true, false, zero, suc, List, [], ◌∷◌, length, map, filter, get_or, refl, ap, subst, ◌∙◌, inl, inr, arith}
-use Rattle.std.specs.Prelude.{◌==◌, not, codes, ◌&&◌, ◌||◌, nat_le, nat_lt, nat_eq, fold, slice_index, bit_xor, if◌then◌else◌}
+use Rattle.std.specs.Prelude.{◌==◌, not, codes, ◌&&◌, nat_lt, nat_eq, fold, slice_index, bit_xor, if◌then◌else◌}
 use Rattle.std.specs.Int.Bits.{xor_zero_l}
 use Rattle.std.specs.List.{range_with_len}
 use Rattle.std.specs.Cmp.{first_so, second_so}
