@@ -4,3 +4,4 @@ pub mod Simulating
 pub mod OneStep
 pub mod OneAnswer
 pub mod OneRun
+pub mod Named

@@ -29,7 +29,7 @@ turn_once i old new other command text said one also =
     let same : one.said ++ one.steps ≡ also.said ++ also.steps = λ j. first.1 j ++ later.1 j in
     (later.0, one.is ∙ same ∙ sym also.is)
 
-turn_legal : (i : Premises) (old new : List Entry) (command : Command) (text : List ℕ) → IsTurn i old new command text → IsLegal i (reverse old) → IsLegal i (reverse new)
+pub turn_legal : (i : Premises) (old new : List Entry) (command : Command) (text : List ℕ) → IsTurn i old new command text → IsLegal i (reverse old) → IsLegal i (reverse new)
 turn_legal i old new command text turn legal =
     pumping_legal i turn.middle new turn.steps turn.pumped.pumping (obeyed_legal i old turn.middle command turn.said turn.obeyed legal)
 

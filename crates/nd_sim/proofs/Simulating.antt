@@ -34,11 +34,11 @@ use Rattle.nd_sim.specs.Written.{WritesObeyed, WritesPumped, WritesPumpedPart, W
 -- ---- entries that are new
 
 -- behind the old entries stand the new ones
-new_entries : (old new added : List Entry) (n : ℕ) → n ≡ length old → new ≡ old ++ added → drop n new ≡ added
+pub new_entries : (old new added : List Entry) (n : ℕ) → n ≡ length old → new ≡ old ++ added → drop n new ≡ added
 new_entries old new added n is grown = ap (λ (k : ℕ). drop k new) is ∙ ap (drop (length old)) grown ∙ drop-append_seam old added
 
 -- .. and no fewer
-behind : (old new added : List Entry) (n : ℕ) → n ≡ length old → new ≡ old ++ added → n ≤ length new
+pub behind : (old new added : List Entry) (n : ℕ) → n ≡ length old → new ≡ old ++ added → n ≤ length new
 behind old new added n is grown =
     let sizes : length new ≡ length old + length added = ap length grown ∙ length-append old added in
     omega (arith, is, sizes)

@@ -1,6 +1,6 @@
 -- What the commands of a script do to a dispatch. Histories called `past` stand newest first, the others oldest first.
 -- The commands are this project's own.
--- The public clauses cite `IsNamed`, and the rest by way of `ComesTo` and of what a simulation writes.
+-- The public clauses cite `IsNamed` and `HasNoLease`, and the rest by way of `ComesTo` and of what a simulation writes.
 use Rattle.std.specs.Prelude.{◌≡◌, ◌⊎◌, ℕ, ◌<◌, List, [], ◌∷◌, ◌++◌, length, reverse, replicate, Some, None}
 use Rattle.nd_path.specs.PathSets.{IsRising}
 use Rattle.nd_history.specs.declared.entry.Entry.{Entry}

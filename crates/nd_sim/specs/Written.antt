@@ -1,6 +1,5 @@
 -- What a writer has of a simulation.
--- The public clauses cite `WritesRun`, `WritesSimulation`, `WritesSimulationPart` and `is_write_failure`; the rest serves the clauses of
--- private functions alone.
+-- The public clauses cite this, but `WritesObeyed` serves the clauses of private functions alone.
 use Rattle.std.specs.Prelude.{ℕ, Bool, true, false, List, Option, Result, Ok, Err}
 use Rattle.std.specs.Io.KnownBytes.{Appends}
 use Rattle.nd_devices.specs.Written.{WritesPart}

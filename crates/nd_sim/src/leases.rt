@@ -14,9 +14,9 @@ use std::alloc::{AllocError, Global};
 
 /// The ticket of the derivation's live lease.
 ///
-/// Refuses with `NotLive` where it has none.
+/// Refuses with `NotLive` (1) where it has none.
 #[tactic(auto, using(crate::proofs::Tickets::own_ticket, crate::proofs::Tickets::live_lease))]
-pub(crate) fn live_ticket(dispatch: &Dispatch, drv: u32) -> Result<Ticket, Refusal>
+pub fn live_ticket(dispatch: &Dispatch, drv: u32) -> Result<Ticket, Refusal>
     ensures found { IfOk result (λ t. lease_of drv (reverse dispatch.now.history) ≡ Some t) }
     ensures own { IfOk result (λ t. t.drv ≡ drv) }
     ensures live { IfOk result (IsLive (reverse dispatch.now.history)) }

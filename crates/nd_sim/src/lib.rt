@@ -13,4 +13,6 @@ pub mod turns;
 pub use answer::Answer;
 pub use commands::obey;
 pub use fault::SimFault;
-pub use turns::take_turns;
+pub use leases::live_ticket;
+pub use lines::{write_added, write_refused};
+pub use turns::{pump, take_turns, turn};

@@ -15,8 +15,12 @@ use nd_ledger::{Dispatch, Refusal};
 use nd_report::write_lines;
 use std::io;
 
-/// Writes the lines of the entries from the one with number `before` on.
-pub(crate) fn write_added<W: io::Write>(
+/// Writes the lines of the entries from the one with number `before` on, each with its newline. There are
+/// no fewer entries than `before`.
+///
+/// Refusal 1 `Write`: the device refused a write. Its mark is then set, and a part of the lines, from
+/// their beginning, may be out.
+pub fn write_added<W: io::Write>(
     dispatch: &Dispatch,
     before: usize,
     out: &mut Told<W>,
@@ -44,8 +48,11 @@ pub(crate) fn write_replied<W: io::Write>(
     write_reply(reply, dispatch.machines(), out)
 }
 
-/// Writes `refused` and the refusal's name.
-pub(crate) fn write_refused<W: io::Write>(
+/// Writes `refused` and the refusal's name, as a line.
+///
+/// Refusal 1 `Write`: the device refused a write. Its mark is then set, and a part of the line, from its
+/// beginning, may be out.
+pub fn write_refused<W: io::Write>(
     refusal: Refusal,
     out: &mut Told<W>,
 ) -> Result<(), WriteError>

@@ -49,9 +49,12 @@ pub fn take_turns<W: io::Write>(
     Ok(())
 }
 
-/// Does what a command asks for, and pumps.
+/// Does what a command asks for, and pumps: one turn of [`take_turns`], with its lines.
+///
+/// Refuses with `Write` (1) and `Memory` (2) as [`take_turns`] does. The beginning of the turn's text is
+/// out then, and the dispatch may have gone on.
 #[tactic(auto, using(crate::proofs::Simulating::turns))]
-fn turn<W: io::Write>(
+pub fn turn<W: io::Write>(
     alloc: Global,
     dispatch: &mut Dispatch,
     command: Command,
@@ -108,8 +111,11 @@ fn act<W: io::Write>(
 
 /// Takes the steps that are due until there is none, and writes their lines; those of the steps that
 /// were taken before want of memory, too.
+///
+/// Refuses with `Write` (1) and `Memory` (2) as [`take_turns`] does. The beginning of the lines is out
+/// then, and the dispatch may have gone on.
 #[tactic(auto, using(crate::proofs::Simulating::pumps))]
-fn pump<W: io::Write>(dispatch: &mut Dispatch, out: &mut Told<W>) -> Result<(), SimFault>
+pub fn pump<W: io::Write>(dispatch: &mut Dispatch, out: &mut Told<W>) -> Result<(), SimFault>
     ensures inputs { dispatch.new.inputs ≡ dispatch.old.inputs }
     ensures written { OnOk result (PumpedBetween dispatch.old dispatch.new (W.contents out.old.device) (W.contents out.new.device)) }
     ensures partly { OnErr result (WritesPumpedPart dispatch.old.inputs dispatch.old.history (W.contents out.old.device) (W.contents out.new.device)) }

@@ -1,0 +1,5 @@
+pub mod JobLines
+pub mod JobRows
+pub mod Prepares
+pub mod Serving
+pub mod SessionRuns

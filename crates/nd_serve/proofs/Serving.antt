@@ -1,0 +1,201 @@
+-- What the turns of a session make together.
+use Rattle.std.proofs.Common.{◌≡◌, ◌∙◌, ℕ, ◌≤◌, List, [], ◌∷◌, ◌++◌, length, length-append, ◌+◌, Option, refl, sym, ap, subst, append-nil, inl, inr}
+use Rattle.nd_desk.specs.declared.event.Event.{Event}
+use Rattle.nd_desk.specs.declared.event.Event.TheVariants.{Heard, Ended, Unheard}
+use Rattle.nd_desk.specs.declared.fault.SessionFault.{SessionFault}
+use Rattle.nd_desk.specs.declared.fault.SessionFault.TheVariants.{Read, Memory}
+use Rattle.nd_desk.specs.Handing.{handed, IsHandedPart, HandsPart}
+use Rattle.nd_desk.specs.Notes.{Notes}
+use Rattle.nd_desk.proofs.Noting.{notes_on, notes_nothing}
+use Rattle.nd_history.specs.declared.entry.Entry.{Entry}
+use Rattle.nd_history.specs.Premises.{Premises}
+use Rattle.nd_serve.specs.Turns.{Turn, IsTaken, kept_text, answer_text, ready_line}
+use Rattle.nd_serve.specs.Sessions.{Opening, IsSession, IsCut, Serves, ServesPart, first_text, turn_events, most_turns}
+use Rattle.nd_serve.specs.Steps.{IsPrepared, IsOpeningPrepared, Opens, OpensPart, Takes, TakesPart, TakesTurn, Ends, CutsTurn}
+
+same_handed : (lines answer kept said : List ℕ) → kept ≡ lines → said ≡ answer → handed kept said ≡ handed lines answer
+same_handed lines answer kept said one other = ap (λ (l : List ℕ). handed l said) one ∙ ap (handed lines) other
+
+same_part : (lines answer kept said : List ℕ) (fault : SessionFault) (events : List Event) → kept ≡ lines → said ≡ answer → IsHandedPart kept said fault events
+    → IsHandedPart lines answer fault events
+same_part lines answer kept said fault events one other part =
+    subst (λ (a : List ℕ). IsHandedPart lines a fault events) other (subst (λ (l : List ℕ). IsHandedPart l said fault events) one part)
+
+-- ---- the opening
+
+pub opening_handed : (i : Premises) (old new : List Entry) (first answer lines kept said : List ℕ) (before after : Option (List Event)) → IsOpeningPrepared i old new first answer lines
+    → kept ≡ lines → said ≡ answer → Notes before after (handed kept said) → Opens i old new first before after
+opening_handed i old new first answer lines kept said before after h one other noted = record {
+  opening = h.opening;
+  opens = h.opens;
+  noted =
+      subst (Notes before after)
+      (same_handed (first_text first h.opening) (h.opening.text ++ ready_line) kept said (one ∙ h.keeps) (other ∙ h.says)) noted;
+}
+
+pub opening_handed_in_part : (i : Premises) (old new : List Entry) (first answer lines kept said : List ℕ) (before after : Option (List Event)) (fault : SessionFault)
+    → IsOpeningPrepared i old new first answer lines → kept ≡ lines → said ≡ answer → HandsPart before after kept said fault → OpensPart i old first before after fault
+opening_handed_in_part i old new first answer lines kept said before after fault h one other hands = record {
+  events = hands.events;
+  part = inr (record {
+    new = new;
+    opening = h.opening;
+    opens = h.opens;
+    part =
+        same_part (first_text first h.opening) (h.opening.text ++ ready_line) kept said fault hands.events (one ∙ h.keeps) (other ∙ h.says)
+        hands.part;
+  });
+  noted = hands.noted;
+}
+
+pub opening_wanting : (i : Premises) (old : List Entry) (first : List ℕ) (before : Option (List Event)) → OpensPart i old first before before Memory
+opening_wanting i old first before = record { events = []; part = inl (refl, refl); noted = notes_nothing before }
+
+pub ruleset openings = (opening_handed, opening_handed_in_part, opening_wanting)
+
+-- ---- a turn behind its line
+
+pub turn_handed : (i : Premises) (old new : List Entry) (line answer lines kept said : List ℕ) (before after : Option (List Event)) → IsPrepared i old new line answer lines
+    → kept ≡ lines → said ≡ answer → Notes before after (handed kept said) → Takes i old new line before after
+turn_handed i old new line answer lines kept said before after h one other noted = record {
+  turn = h.turn;
+  taken = h.taken;
+  heard = h.heard;
+  noted = subst (Notes before after) (same_handed (kept_text h.turn) (answer_text h.turn) kept said (one ∙ h.keeps) (other ∙ h.says)) noted;
+}
+
+pub turn_handed_in_part : (i : Premises) (old new : List Entry) (line answer lines kept said : List ℕ) (before after : Option (List Event)) (fault : SessionFault)
+    → IsPrepared i old new line answer lines → kept ≡ lines → said ≡ answer → HandsPart before after kept said fault → TakesPart i old line before after fault
+turn_handed_in_part i old new line answer lines kept said before after fault h one other hands = record {
+  events = hands.events;
+  part = inr (record {
+    new = new;
+    turn = h.turn;
+    taken = h.taken;
+    heard = h.heard;
+    part = same_part (kept_text h.turn) (answer_text h.turn) kept said fault hands.events (one ∙ h.keeps) (other ∙ h.says) hands.part;
+  });
+  noted = hands.noted;
+}
+
+pub turn_wanting : (i : Premises) (old : List Entry) (line : List ℕ) (before : Option (List Event)) → TakesPart i old line before before Memory
+turn_wanting i old line before = record { events = []; part = inl (refl, refl); noted = notes_nothing before }
+
+pub ruleset takings = (turn_handed, turn_handed_in_part, turn_wanting)
+
+-- ---- a turn
+
+pub turn_taken : (i : Premises) (old new : List Entry) (line heard : List ℕ) (before between after : Option (List Event)) → Notes before between (Heard heard ∷ []) → line ≡ heard
+    → Takes i old new line between after → TakesTurn i old new before after
+turn_taken i old new line heard before between after noted same takes =
+    let line_is : heard ≡ takes.turn.line = sym (takes.heard ∙ same) in
+    record {
+      turn = takes.turn;
+      taken = takes.taken;
+      noted =
+          subst (λ (l : List ℕ). Notes before after (Heard l ∷ handed (kept_text takes.turn) (answer_text takes.turn))) line_is
+          (notes_on before between after (Heard heard ∷ []) (handed (kept_text takes.turn) (answer_text takes.turn)) noted takes.noted);
+    }
+
+pub input_ended : (history : List Entry) (before after : Option (List Event)) → Notes before after (Ended ∷ []) → Ends history history before after
+input_ended history before after noted = record { kept = refl; noted = noted }
+
+pub read_refused : (i : Premises) (old : List Entry) (before after : Option (List Event)) → Notes before after (Unheard ∷ []) → CutsTurn i old before after Read
+read_refused i old before after noted = record { events = Unheard ∷ []; cut = IsCut.unread (refl, refl); noted = noted }
+
+pub read_wanting : (i : Premises) (old : List Entry) (before after : Option (List Event)) → Notes before after [] → CutsTurn i old before after Memory
+read_wanting i old before after noted = record { events = []; cut = IsCut.unbegun (refl, refl); noted = noted }
+
+pub turn_cut : (i : Premises) (old : List Entry) (line heard : List ℕ) (before between after : Option (List Event)) (fault : SessionFault) → Notes before between (Heard heard ∷ [])
+    → line ≡ heard → TakesPart i old line between after fault → CutsTurn i old before after fault
+turn_cut i old line heard before between after fault noted same takes = record {
+  events = Heard line ∷ takes.events;
+  cut = IsCut.heard (record { line = line; later = takes.events; part = takes.part; is = refl });
+  noted =
+      subst (λ (l : List ℕ). Notes before after (Heard l ∷ takes.events)) (sym same)
+      (notes_on before between after (Heard heard ∷ []) takes.events noted takes.noted);
+}
+
+pub ruleset hearings = (turn_taken, input_ended, read_refused, read_wanting, turn_cut)
+
+-- ---- a session
+
+-- what was done so far
+pub record HasServed (i : Premises) (start history : List Entry) (first : List ℕ) (old new : Option (List Event)) (n : ℕ) : Type 0 where
+  pub opening : Opening
+  pub turns : List Turn
+  pub events : List Event
+  pub session : IsSession i start first opening turns history events
+  pub noted : Notes old new events
+  pub count : length turns ≡ n
+
+pub session_begun : (i : Premises) (start history : List Entry) (first : List ℕ) (old new : Option (List Event)) → Opens i start history first old new
+    → HasServed i start history first old new 0
+session_begun i start history first old new h = record {
+  opening = h.opening;
+  turns = [];
+  events = _;
+  session = IsSession.opened history h.opens;
+  noted = h.noted;
+  count = refl;
+}
+
+pub session_goes_on : (i later : Premises) (start history new : List Entry) (first : List ℕ) (old between after : Option (List Event)) (n : ℕ)
+    → HasServed i start history first old between n → later ≡ i → TakesTurn later history new between after → HasServed i start new first old after (n + 1)
+session_goes_on i later start history new first old between after n h same takes = record {
+  opening = h.opening;
+  turns = h.turns ++ takes.turn ∷ [];
+  events = h.events ++ turn_events takes.turn;
+  session =
+      IsSession.turned h.turns history new takes.turn h.events h.session
+      (subst (λ (j : Premises). IsTaken j history new takes.turn) same takes.taken);
+  noted = notes_on old between after h.events (turn_events takes.turn) h.noted takes.noted;
+  count = length-append h.turns (takes.turn ∷ []) ∙ ap (λ (k : ℕ). k + 1) h.count;
+}
+
+pub session_ends : (i : Premises) (start history new : List Entry) (first : List ℕ) (old between after : Option (List Event)) (n : ℕ) → HasServed i start history first old between n
+    → Ends history new between after → Serves i start new first old after
+session_ends i start history new first old between after n h ends = record {
+  opening = h.opening;
+  turns = h.turns;
+  events = h.events;
+  session = subst (λ (l : List Entry). IsSession i start first h.opening h.turns l h.events) (sym ends.kept) h.session;
+  last = Ended ∷ [];
+  whole = record { end = inl refl };
+  noted = notes_on old between after h.events (Ended ∷ []) h.noted ends.noted;
+}
+
+pub session_full : (i : Premises) (start history : List Entry) (first : List ℕ) (old new : Option (List Event)) (n : ℕ) → HasServed i start history first old new n → most_turns ≤ n
+    → Serves i start history first old new
+session_full i start history first old new n h many = record {
+  opening = h.opening;
+  turns = h.turns;
+  events = h.events;
+  session = h.session;
+  last = [];
+  whole = record { end = inr (refl, subst (λ (k : ℕ). most_turns ≤ k) (sym h.count) many) };
+  noted = subst (Notes old new) (sym (append-nil h.events)) h.noted;
+}
+
+pub session_unopened : (i : Premises) (start : List Entry) (first : List ℕ) (old new : Option (List Event)) (fault : SessionFault) → OpensPart i start first old new fault
+    → ServesPart i start first old new fault
+session_unopened i start first old new fault h = record { events = h.events; part = inl h.part; noted = h.noted }
+
+pub session_cut : (i later : Premises) (start history : List Entry) (first : List ℕ) (old between after : Option (List Event)) (n : ℕ) (fault : SessionFault)
+    → HasServed i start history first old between n → later ≡ i → CutsTurn later history between after fault → ServesPart i start first old after fault
+session_cut i later start history first old between after n fault h same cuts = record {
+  events = h.events ++ cuts.events;
+  part = inr (record {
+    opening = h.opening;
+    turns = h.turns;
+    history = history;
+    whole = h.events;
+    session = h.session;
+    last = cuts.events;
+    cut = subst (λ (j : Premises). IsCut j history fault cuts.events) same cuts.cut;
+    is = refl;
+  });
+  noted = notes_on old between after h.events cuts.events h.noted cuts.noted;
+}
+
+pub ruleset sessions = (session_begun, session_goes_on, session_ends, session_full, session_unopened, session_cut)

@@ -1,0 +1,5 @@
+use Rattle.nd_serve.proofs.SessionRuns.{sessions_are_legal}
+use Rattle.nd_serve.proofs.laws.sessions_are_legal.Goals as goal
+
+pub returns : goal.returns
+returns c = sessions_are_legal

@@ -1,0 +1,5 @@
+pub mod Asked
+pub mod Turns
+pub mod Sessions
+pub mod Steps
+pub mod SessionLaws

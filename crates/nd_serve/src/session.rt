@@ -1,0 +1,117 @@
+//! A session over a desk.
+
+ghost use Rattle.std.specs.Prelude.{◌≡◌, IfOk, IfErr, OnOk};
+ghost use Rattle.nd_serve.specs.Sessions.{first_of, Serves, ServesPart};
+ghost use Rattle.nd_serve.specs.Steps.{Opens, OpensPart, Takes, TakesPart, GoesOn, CutsTurn};
+
+use crate::preparing::{prepare, prepare_opening};
+use nd_desk::{Desk, DeskFault, SessionFault, hand_over};
+use nd_ledger::Dispatch;
+use std::alloc::{AllocError, Global};
+
+/// Takes the steps of the pump that are due and answers them; then reads one line after another, does what
+/// each asks for with the steps of the pump behind it, and answers, until the input ends. An answer ends
+/// with the line `ready`.
+///
+/// Before an answer is written, the lines of the entries that it tells of are appended to the journal and
+/// made durable; and before the next line is read, the answer is passed on. A journal that is `fresh` has
+/// nothing yet and gets the first line of a history text of the second version. One that isn't holds the
+/// text of the dispatch's history in that version.
+///
+/// A line that asks for nothing that is known is answered `refused BadLine`, a refused command `refused`
+/// and the refusal's name, and the session goes on.
+///
+/// Refuses with `Read` (1), `Journal` (2), `Write` (3) and `Memory` (4), as [`SessionFault`] says. Of the
+/// turn that it ends in nothing is answered, but for a part of the answer at `Write`; its entries may stand
+/// in the journal.
+#[tactic(auto, using(crate::proofs::Serving::sessions))]
+pub fn serve<D: Desk>(
+    alloc: Global,
+    dispatch: &mut Dispatch,
+    fresh: bool,
+    desk: &mut D,
+) -> Result<(), SessionFault>
+    ensures inputs { dispatch.new.inputs ≡ dispatch.old.inputs }
+    ensures served { OnOk result (Serves dispatch.old.inputs dispatch.old.history dispatch.new.history (first_of fresh) (D.log desk.old) (D.log desk.new)) }
+    ensures partly { IfErr result (ServesPart dispatch.old.inputs dispatch.old.history (first_of fresh) (D.log desk.old) (D.log desk.new)) }
+{
+    match open(alloc, dispatch, fresh, desk) {
+        Ok(()) => {}
+        Err(fault) => return Err(fault),
+    }
+    for _turn in 0..u64::MAX {
+        match take_turn(alloc, dispatch, desk) {
+            Ok(true) => {}
+            Ok(false) => return Ok(()),
+            Err(fault) => return Err(fault),
+        }
+    }
+    Ok(())
+}
+
+/// Takes the steps of the pump that are due, and hands them over.
+#[tactic(auto, using(crate::proofs::Serving::openings))]
+fn open<D: Desk>(
+    alloc: Global,
+    dispatch: &mut Dispatch,
+    fresh: bool,
+    desk: &mut D,
+) -> Result<(), SessionFault>
+    ensures inputs { dispatch.new.inputs ≡ dispatch.old.inputs }
+    ensures opened { OnOk result (Opens dispatch.old.inputs dispatch.old.history dispatch.new.history (first_of fresh) (D.log desk.old) (D.log desk.new)) }
+    ensures partly { IfErr result (OpensPart dispatch.old.inputs dispatch.old.history (first_of fresh) (D.log desk.old) (D.log desk.new)) }
+{
+    let prepared = match prepare_opening(alloc, dispatch, fresh) {
+        Ok(prepared) => prepared,
+        Err(AllocError) => return Err(SessionFault::Memory),
+    };
+    match hand_over(prepared.lines.as_slice(), prepared.answer.as_slice(), desk) {
+        Ok(()) => Ok(()),
+        Err(fault) => Err(fault),
+    }
+}
+
+/// Reads a line, does what it asks for and hands that over. It answers whether there was a line.
+#[tactic(auto, using(crate::proofs::Serving::hearings))]
+fn take_turn<D: Desk>(
+    alloc: Global,
+    dispatch: &mut Dispatch,
+    desk: &mut D,
+) -> Result<bool, SessionFault>
+    ensures inputs { dispatch.new.inputs ≡ dispatch.old.inputs }
+    ensures goes_on { IfOk result (GoesOn dispatch.old.inputs dispatch.old.history dispatch.new.history (D.log desk.old) (D.log desk.new)) }
+    ensures cut { IfErr result (CutsTurn dispatch.old.inputs dispatch.old.history (D.log desk.old) (D.log desk.new)) }
+{
+    let line = match desk.hear(alloc) {
+        Ok(Some(line)) => line,
+        Ok(None) => return Ok(false),
+        Err(DeskFault::Refused) => return Err(SessionFault::Read),
+        Err(DeskFault::Memory) => return Err(SessionFault::Memory),
+    };
+    match take_line(alloc, dispatch, line.as_slice(), desk) {
+        Ok(()) => Ok(true),
+        Err(fault) => Err(fault),
+    }
+}
+
+/// Does what a line asks for, and hands that over.
+#[tactic(auto, using(crate::proofs::Serving::takings))]
+fn take_line<D: Desk>(
+    alloc: Global,
+    dispatch: &mut Dispatch,
+    line: &[u8],
+    desk: &mut D,
+) -> Result<(), SessionFault>
+    ensures inputs { dispatch.new.inputs ≡ dispatch.old.inputs }
+    ensures taken { OnOk result (Takes dispatch.old.inputs dispatch.old.history dispatch.new.history line.now (D.log desk.old) (D.log desk.new)) }
+    ensures partly { IfErr result (TakesPart dispatch.old.inputs dispatch.old.history line.now (D.log desk.old) (D.log desk.new)) }
+{
+    let prepared = match prepare(alloc, dispatch, line) {
+        Ok(prepared) => prepared,
+        Err(AllocError) => return Err(SessionFault::Memory),
+    };
+    match hand_over(prepared.lines.as_slice(), prepared.answer.as_slice(), desk) {
+        Ok(()) => Ok(()),
+        Err(fault) => Err(fault),
+    }
+}
