@@ -1,6 +1,5 @@
-use Rattle.std.proofs.Common.{sym, subst, ◌∙◌}
+use Rattle.std.proofs.Common.{sym, ◌∙◌}
 use Rattle.nd_commands.specs.Opened.{inputs_of}
-use Rattle.nd_commands.specs.Audited.{HasHistory}
 use Rattle.nd_commands.proofs.Answering.{audit_answered, audit_begun, verdict_fault, read_no_write, audit_read_no_write, verdict_ends}
 use Rattle.nd_commands.proofs.audit.audit_engine.Goals as goal
 
@@ -12,8 +11,8 @@ returns-in-Ok-write_verdict-clause-answer g c =
     let park = c.in-Ok.given.park in
     audit_answered c.args.options.now c.args.history.now c.in-Ok-write_verdict.status g.R.Read.remaining c.args.input.now c.read_audit_inputs.new.input
     g.W.Write.contents c.args.output.now c.write_verdict.new.output
-    (inputs_of c.args.options.now park.graph park.machines.items park.local park.info.entries) c.deref.result.now
-    c.in-Ok.ensures.read (subst (HasHistory c.args.history.now) (sym c.deref.ensures.value) c.in-Ok.ensures.entries) c.in-Ok-write_verdict.ensures.written
+    (inputs_of c.args.options.now park.graph park.machines.items park.local park.info.entries) c.in-Ok.given.entries.items
+    c.in-Ok.ensures.read c.in-Ok.ensures.entries c.in-Ok-write_verdict.ensures.written
 
 pub returns-clause-fault : goal.returns-clause-fault
 returns-clause-fault g c =
@@ -25,8 +24,8 @@ returns-clause-partly g c = λ write_failed.
     let park = c.in-Ok.given.park in
     audit_begun c.args.options.now c.args.history.now g.R.Read.remaining c.args.input.now c.read_audit_inputs.new.input
     g.W.Write.contents c.args.output.now c.write_verdict.new.output
-    (inputs_of c.args.options.now park.graph park.machines.items park.local park.info.entries) c.deref.result.now
-    c.in-Ok.ensures.read (subst (HasHistory c.args.history.now) (sym c.deref.ensures.value) c.in-Ok.ensures.entries) (c.in-Err-write_verdict.ensures.partly write_failed)
+    (inputs_of c.args.options.now park.graph park.machines.items park.local park.info.entries) c.in-Ok.given.entries.items
+    c.in-Ok.ensures.read c.in-Ok.ensures.entries (c.in-Err-write_verdict.ensures.partly write_failed)
 
 pub returns-in-Err-clause-partly : goal.returns-in-Err-clause-partly
 returns-in-Err-clause-partly g c = λ is_write.
