@@ -26,7 +26,12 @@ impl Said for Command {
 ///
 /// `Bad`: the line is none of those that [`parse_script`](crate::parse_script) lists. `Memory`: an
 /// allocation was refused.
-pub fn read_line(alloc: Global, line: &[u8], drvs: usize, machines: usize) -> Result<Command, LineError>
+pub fn read_line(
+    alloc: Global,
+    line: &[u8],
+    drvs: usize,
+    machines: usize,
+) -> Result<Command, LineError>
     ensures found { IfOk result (IsLine drvs machines line.now) }
     ensures refused { IfErr result (RulesOut (IsLine drvs machines line.now)) }
 {

@@ -52,10 +52,7 @@ pub(crate) fn write_replied<W: io::Write>(
 ///
 /// Refusal 1 `Write`: the device refused a write. Its mark is then set, and a part of the line, from its
 /// beginning, may be out.
-pub fn write_refused<W: io::Write>(
-    refusal: Refusal,
-    out: &mut Told<W>,
-) -> Result<(), WriteError>
+pub fn write_refused<W: io::Write>(refusal: Refusal, out: &mut Told<W>) -> Result<(), WriteError>
     ensures written { OnOk result (Appends (W.contents out.old.device) (W.contents out.new.device) (refused_line refusal)) }
     ensures partly { OnErr result (WritesPart (W.contents out.old.device) (W.contents out.new.device) (refused_line refusal)) }
     ensures mark { out.new.is_marked ≡ (out.old.is_marked || is_err result) }
