@@ -1,5 +1,5 @@
 -- The commands of a script name derivations and machines that are there.
-use Rattle.std.proofs.Common.{◌≡◌, ℕ, ◌≤◌, List, [], ◌∷◌, length, sym, subst, inl, inr}
+use Rattle.std.proofs.Common.{◌≡◌, ℕ, ◌≤◌, List, [], ◌∷◌, length, sym, subst}
 use Rattle.std.specs.List.{All, AllZip}
 use Rattle.std.proofs.lemmas.List.Elements.{All-nil, All-cons}
 use Rattle.nd_bytes.specs.Lines.{lines_of}
@@ -7,35 +7,18 @@ use Rattle.nd_history.specs.Premises.{Premises}
 use Rattle.nd_history.specs.Choices.{machines_in}
 use Rattle.nd_script.specs.declared.command.Command.{Command}
 use Rattle.nd_script.specs.declared.script_error.ScriptError.{ScriptError}
-use Rattle.nd_script.specs.declared.verb.Verb.{Verb}
-use Rattle.nd_script.specs.declared.verb.Verb.TheVariants.{Start, StartWith, Built, Fail, Lose, Down, Stop, Drain, Enable, Ask}
-use Rattle.nd_script.specs.Script.{IsSaid, IsLine, AreCommands, IsRefused}
+use Rattle.nd_script.specs.Script.{IsLine, AreCommands, IsRefused}
 use Rattle.nd_sim.specs.Answers.{IsNamed}
+use Rattle.nd_sim.proofs.Named.{line_named}
 use Rattle.nd_cli.specs.Inputs.{limit}
 use Rattle.nd_commands.specs.Scripts.{HasScript}
-
--- a command that words ask for names what is there
-said_named : (i : Premises) (verb : Verb) (words : List (List ℕ)) (command : Command) → IsSaid (length i.graph.paths) (machines_in i) verb words command → IsNamed i command
-said_named i Start words command said = subst (IsNamed i) (sym said.is) said.operand.below
-said_named i StartWith words command said = subst (IsNamed i) (sym said.is) said.operand.below
-said_named i Built words command said = elim said [
-  | inl bare ↦ subst (IsNamed i) (sym bare.is) bare.operand.below
-  | inr listed ↦ subst (IsNamed i) (sym listed.is) listed.operand.below
-]
-said_named i Fail words command said = subst (IsNamed i) (sym said.is) said.operand.below
-said_named i Lose words command said = subst (IsNamed i) (sym said.is) said.operand.below
-said_named i Down words command said = subst (IsNamed i) (sym said.is) said.operand.below
-said_named i Stop words command said = subst (IsNamed i) (sym said.1) tt
-said_named i Drain words command said = subst (IsNamed i) (sym said.is) said.operand.below
-said_named i Enable words command said = subst (IsNamed i) (sym said.is) said.operand.below
-said_named i Ask words command said = subst (IsNamed i) (sym said.is) said.operand.below
 
 all_named : (i : Premises) (lines : List (List ℕ)) (commands : List Command) → AllZip (IsLine (length i.graph.paths) (machines_in i)) lines commands → All (IsNamed i) commands
 all_named i [] [] each = All-nil (IsNamed i)
 all_named i [] (command ∷ commands) each = absurd each
 all_named i (line ∷ lines) [] each = absurd each
 all_named i (line ∷ lines) (command ∷ commands) each =
-    All-cons (IsNamed i) command commands (said_named i each.0.verb each.0.others command each.0.said) (all_named i lines commands each.1)
+    All-cons (IsNamed i) command commands (line_named i line command each.0) (all_named i lines commands each.1)
 
 -- ---- for the numbers of derivations and machines that the reader was given
 
