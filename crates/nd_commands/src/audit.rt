@@ -54,13 +54,7 @@ pub fn audit_engine<R: Read, W: Write>(
         Ok(given) => given,
         Err(fault) => return Err(fault),
     };
-    match write_verdict(
-        alloc,
-        &given.park,
-        options.keep_going,
-        &given.entries,
-        output,
-    ) {
+    match write_verdict(alloc, given.park, options.keep_going, given.entries, output) {
         Ok(status) => Ok(status),
         Err(fault) => Err(fault),
     }
@@ -69,28 +63,29 @@ pub fn audit_engine<R: Read, W: Write>(
 /// Writes whether these entries are a legal history, and answers the status.
 fn write_verdict<W: Write>(
     alloc: Global,
-    park: &Park,
+    park: Park,
     keep_going: bool,
-    entries: &[Entry],
+    entries: Vec<Entry>,
     output: &mut Told<W>,
 ) -> Result<u8, CliFault>
-    requires few { length park.now.machines.items ≤ 1024 }
-    ensures written { IfOk result (λ status. WritesVerdict (park_inputs park.now keep_going) entries.now status W.contents output.old output.new) }
-    ensures partly { IfErr result (LeavesVerdict (park_inputs park.now keep_going) entries.now W.contents output.old output.new) }
+    requires few { length park.machines.items ≤ 1024 }
+    ensures written { IfOk result (λ status. WritesVerdict (park_inputs park keep_going) entries.items status W.contents output.old output.new) }
+    ensures partly { IfErr result (LeavesVerdict (park_inputs park keep_going) entries.items W.contents output.old output.new) }
     ensures fault { IfErr result (IsVerdictFault output.new.is_marked) }
     ensures mark { output.new.is_marked ≡ (output.old.is_marked || is_write_failure result) }
     ensures untouched { IfErr result (λ e. is_write_fault e ≡ false → output.new ≡ output.old) }
 {
+    let count = entries.len();
     match audit(
         alloc,
-        &park.graph,
-        &park.machines,
-        &park.local,
-        &park.info,
+        park.graph,
+        park.machines,
+        park.local,
+        park.info,
         keep_going,
         entries,
     ) {
-        Ok(()) => say_legal(entries.len(), output),
+        Ok(()) => say_legal(count, output),
         Err(AuditError::Illegal { index, rule }) => say_illegal(index, rule, output),
         Err(AuditError::Memory) => Err(CliFault::Memory),
     }

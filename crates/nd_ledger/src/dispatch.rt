@@ -334,14 +334,14 @@ impl Dispatch {
     /// Refuses with `Illegal` (1) where it isn't, naming the first rule that refuses it, and with
     /// `Memory` (2) where an allocation is refused; that comes only where every rule passes but perhaps
     /// those over paths and references.
-    pub fn admit(&mut self, alloc: Global, entry: &Entry) -> Result<(), AdmitError>
-        ensures ok { OnOk result (self.new ≡ record self.old { history = self.old.history ++ entry.now ∷ [] }) }
-        ensures allowed { OnOk result (IsAllowed self.old.inputs entry.now (reverse self.old.history)) }
-        ensures refused { IfErr result (IsAdmitRefused self.old.inputs (reverse self.old.history) entry.now) }
+    pub fn admit(&mut self, alloc: Global, entry: Entry) -> Result<(), AdmitError>
+        ensures ok { OnOk result (self.new ≡ record self.old { history = self.old.history ++ entry ∷ [] }) }
+        ensures allowed { OnOk result (IsAllowed self.old.inputs entry (reverse self.old.history)) }
+        ensures refused { IfErr result (IsAdmitRefused self.old.inputs (reverse self.old.history) entry) }
         ensures err { OnErr result (self.new ≡ self.old) }
-        ensures legal { IsAllowed self.old.inputs entry.now (reverse self.old.history) → IsOkUnless result AdmitError.Memory }
+        ensures legal { IsAllowed self.old.inputs entry (reverse self.old.history) → IsOkUnless result AdmitError.Memory }
     {
-        if !is_in_range(&self.inputs, entry) {
+        if !is_in_range(&self.inputs, &entry) {
             return Err(AdmitError::Illegal(Rule::Range));
         }
         match self.admit_in_range(alloc, entry) {
@@ -355,22 +355,22 @@ impl Dispatch {
     }
 
     /// Appends an entry if it is legal there, all that it names being there.
-    fn admit_in_range(&mut self, alloc: Global, entry: &Entry) -> Result<(), AdmitError>
-        requires { IsInRange self.old.inputs entry.now }
-        ensures ok { OnOk result (self.new ≡ record self.old { history = self.old.history ++ entry.now ∷ [] }) }
-        ensures refused { IfErr result (IsAdmitRefused self.old.inputs (reverse self.old.history) entry.now) }
+    fn admit_in_range(&mut self, alloc: Global, entry: Entry) -> Result<(), AdmitError>
+        requires { IsInRange self.old.inputs entry }
+        ensures ok { OnOk result (self.new ≡ record self.old { history = self.old.history ++ entry ∷ [] }) }
+        ensures refused { IfErr result (IsAdmitRefused self.old.inputs (reverse self.old.history) entry) }
         ensures err { OnErr result (self.new ≡ self.old) }
     {
         match entry {
-            Entry::Chosen { drv, machine, slot } => self.admit_choice(*drv, *machine, *slot),
-            Entry::NoBuilder { drv } => self.admit_no_builder(*drv),
-            Entry::Started { drv, paths } => self.admit_start(alloc, *drv, paths),
-            Entry::Down { drv } => self.admit_down(*drv),
-            Entry::Built { drv, refs } => self.admit_end(alloc, *drv, refs),
-            Entry::Failed { drv, why } => self.admit_failure(*drv, *why),
+            Entry::Chosen { drv, machine, slot } => self.admit_choice(drv, machine, slot),
+            Entry::NoBuilder { drv } => self.admit_no_builder(drv),
+            Entry::Started { drv, paths } => self.admit_start(alloc, drv, paths),
+            Entry::Down { drv } => self.admit_down(drv),
+            Entry::Built { drv, refs } => self.admit_end(alloc, drv, refs),
+            Entry::Failed { drv, why } => self.admit_failure(drv, why),
             Entry::Stop => self.admit_stop(),
-            Entry::Drain { machine } => Ok(self.drain(*machine)?),
-            Entry::Enable { machine } => Ok(self.enable(*machine)?),
+            Entry::Drain { machine } => Ok(self.drain(machine)?),
+            Entry::Enable { machine } => Ok(self.enable(machine)?),
         }
     }
 
@@ -420,10 +420,10 @@ impl Dispatch {
     }
 
     /// Records a start if it is legal.
-    fn admit_start(&mut self, alloc: Global, drv: u32, paths: &PathSet) -> Result<(), AdmitError>
+    fn admit_start(&mut self, alloc: Global, drv: u32, paths: PathSet) -> Result<(), AdmitError>
         requires { drv < drvs_in self.old.inputs }
-        ensures ok { OnOk result (self.new ≡ record self.old { history = self.old.history ++ Entry.Started drv paths.now ∷ [] }) }
-        ensures refused { IfErr result (IsAdmitRefused self.old.inputs (reverse self.old.history) (Entry.Started drv paths.now)) }
+        ensures ok { OnOk result (self.new ≡ record self.old { history = self.old.history ++ Entry.Started drv paths ∷ [] }) }
+        ensures refused { IfErr result (IsAdmitRefused self.old.inputs (reverse self.old.history) (Entry.Started drv paths)) }
         ensures err { OnErr result (self.new ≡ self.old) }
     {
         let Some(ticket) = self.live_ticket(drv) else {
@@ -432,10 +432,7 @@ impl Dispatch {
         if self.book.is_started(drv as usize) {
             return Err(AdmitError::Illegal(Rule::Started));
         }
-        let Ok(copied) = paths.try_clone() else {
-            return Err(AdmitError::Memory);
-        };
-        match self.started(alloc, ticket, copied) {
+        match self.started(alloc, ticket, paths) {
             Ok(()) => Ok(()),
             Err(refused) => Err(admit_error(refused.why)),
         }
@@ -458,10 +455,10 @@ impl Dispatch {
     }
 
     /// Records the end of a build if it is legal.
-    fn admit_end(&mut self, alloc: Global, drv: u32, refs: &Refs) -> Result<(), AdmitError>
+    fn admit_end(&mut self, alloc: Global, drv: u32, refs: Refs) -> Result<(), AdmitError>
         requires { drv < drvs_in self.old.inputs }
-        ensures ok { OnOk result (self.new ≡ record self.old { history = self.old.history ++ Entry.Built drv refs.now ∷ [] }) }
-        ensures refused { IfErr result (IsAdmitRefused self.old.inputs (reverse self.old.history) (Entry.Built drv refs.now)) }
+        ensures ok { OnOk result (self.new ≡ record self.old { history = self.old.history ++ Entry.Built drv refs ∷ [] }) }
+        ensures refused { IfErr result (IsAdmitRefused self.old.inputs (reverse self.old.history) (Entry.Built drv refs)) }
         ensures err { OnErr result (self.new ≡ self.old) }
     {
         let Some(ticket) = self.live_ticket(drv) else {
@@ -470,10 +467,7 @@ impl Dispatch {
         if !self.book.is_started(drv as usize) {
             return Err(AdmitError::Illegal(Rule::Started));
         }
-        let Ok(reported) = refs.try_clone() else {
-            return Err(AdmitError::Memory);
-        };
-        match self.built(alloc, ticket, reported) {
+        match self.built(alloc, ticket, refs) {
             Ok(()) => Ok(()),
             Err(refused) => Err(admit_error(refused.why)),
         }

@@ -7,7 +7,7 @@ use nd_test_fixtures::parks::{Park, close, dispatch_of};
 use std::alloc::Global;
 
 /// Whether a dispatch admits all of these entries.
-fn admits_all(alloc: Global, dispatch: &mut Dispatch, entries: &[Entry]) -> bool {
+fn admits_all(alloc: Global, dispatch: &mut Dispatch, entries: Vec<Entry>) -> bool {
     for entry in entries {
         if dispatch.admit(alloc, entry).is_err() {
             return false;
@@ -19,11 +19,7 @@ fn admits_all(alloc: Global, dispatch: &mut Dispatch, entries: &[Entry]) -> bool
 /// Whether a dispatch admits the history of this text.
 fn admits_text(alloc: Global, dispatch: &mut Dispatch, text: &[u8]) -> bool {
     match read_history(alloc, text) {
-        Ok(entries) => {
-            let admits = admits_all(alloc, dispatch, entries.as_slice());
-            drop(entries);
-            admits
-        }
+        Ok(entries) => admits_all(alloc, dispatch, entries),
         Err(_) => false,
     }
 }
