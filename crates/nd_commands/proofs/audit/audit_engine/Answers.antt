@@ -14,13 +14,13 @@ returns-in-Ok-write_verdict-clause-answer g c =
     (inputs_of c.args.options.now park.graph park.machines.items park.local park.info.entries) c.in-Ok.given.entries.items
     c.in-Ok.ensures.read c.in-Ok.ensures.entries c.in-Ok-write_verdict.ensures.written
 
-pub returns-clause-fault : goal.returns-clause-fault
-returns-clause-fault g c =
+pub returns-in-Err-write_verdict-clause-fault : goal.returns-in-Err-write_verdict-clause-fault
+returns-in-Err-write_verdict-clause-fault g c =
     verdict_fault c.args.options.now c.args.history.now g.R.Read.remaining c.args.input.now c.read_audit_inputs.new.input
     c.write_verdict.new.output.is_marked c.in-Err-write_verdict.fault c.in-Err-write_verdict.ensures.fault
 
-pub returns-clause-partly : goal.returns-clause-partly
-returns-clause-partly g c = λ write_failed.
+pub returns-in-Err-write_verdict-clause-partly : goal.returns-in-Err-write_verdict-clause-partly
+returns-in-Err-write_verdict-clause-partly g c = λ write_failed.
     let park = c.in-Ok.given.park in
     audit_begun c.args.options.now c.args.history.now g.R.Read.remaining c.args.input.now c.read_audit_inputs.new.input
     g.W.Write.contents c.args.output.now c.write_verdict.new.output
@@ -37,5 +37,5 @@ returns-in-Err-clause-writer_mark g c =
     c.requires.writer ∙ sym (audit_read_no_write c.args.options.now c.args.history.now g.R.Read.remaining c.args.input.now c.read_audit_inputs.new.input
     c.in-Err.fault c.in-Err.ensures.fault)
 
-pub returns-clause-exactly : goal.returns-clause-exactly
-returns-clause-exactly g c = λ text known accepted. verdict_ends c.write_verdict.new.output.is_marked c.in-Err-write_verdict.fault c.in-Err-write_verdict.ensures.fault
+pub returns-in-Err-write_verdict-clause-exactly : goal.returns-in-Err-write_verdict-clause-exactly
+returns-in-Err-write_verdict-clause-exactly g c = λ text known accepted. verdict_ends c.write_verdict.new.output.is_marked c.in-Err-write_verdict.fault c.in-Err-write_verdict.ensures.fault
