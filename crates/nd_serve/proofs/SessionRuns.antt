@@ -14,7 +14,7 @@ use Rattle.nd_sim.proofs.OneStep.{pumping_legal}
 use Rattle.nd_sim.proofs.OneRun.{turn_legal}
 use Rattle.nd_serve.specs.declared.request.Request.{Request}
 use Rattle.nd_serve.specs.declared.request.Request.TheVariants.{Call, Job, Report, Unknown}
-use Rattle.nd_serve.specs.Turns.{Turn, IsReply, kept_text, answer_text, ready_line}
+use Rattle.nd_serve.specs.Turns.{Turn, IsTaken, IsReply, kept_text, answer_text, ready_line}
 use Rattle.nd_serve.specs.Sessions.{Opening, IsSession, first_text, turn_events}
 use Rattle.nd_serve.specs.SessionLaws.{command_of, commands_of, simulated_of, simulated_text, answered_by, answered, session_text, IsSimulated, SessionsAreRuns, SessionsAreLegal}
 
@@ -86,7 +86,10 @@ reply_legal i old new (Job d) text reply legal = subst (λ (l : List Entry). IsL
 reply_legal i old new Report text reply legal = subst (λ (l : List Entry). IsLegal i (reverse l)) (sym reply.kept) legal
 reply_legal i old new Unknown text reply legal = subst (λ (l : List Entry). IsLegal i (reverse l)) (sym reply.kept) legal
 
+pub taken_legal : (i : Premises) (old new : List Entry) (turn : Turn) → IsTaken i old new turn → IsLegal i (reverse old) → IsLegal i (reverse new)
+taken_legal i old new turn taken legal = reply_legal i old new turn.request turn.text taken.replies legal
+
 pub sessions_are_legal : SessionsAreLegal
 sessions_are_legal i start first opening turns history events legal (IsSession.opened new opens) = pumping_legal i start new opening.text opens.pumped.pumping legal
 sessions_are_legal i start first opening turns history events legal (IsSession.turned done old new turn before session taken) =
-    reply_legal i old new turn.request turn.text taken.replies (sessions_are_legal i start first opening done old before legal session)
+    taken_legal i old new turn taken (sessions_are_legal i start first opening done old before legal session)

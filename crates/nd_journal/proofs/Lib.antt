@@ -1,0 +1,2 @@
+pub mod LinesKept
+pub mod Reading

@@ -1,0 +1,6 @@
+use Rattle.nd_journal.proofs.LinesKept.{AreWholeTo}
+use Rattle.nd_journal.proofs.cutting.whole_lines.Given as goal
+
+-- the whole lines of what was gone through
+abbrev pub invariant-loop-at : goal.invariant-loop-at
+invariant-loop-at l = AreWholeTo l.text l.at l.end

@@ -1,0 +1,8 @@
+//! The journal of a session as a file: its whole lines, and the history that they tell.
+#![tactic(auto)]
+
+pub mod cutting;
+pub mod journal;
+
+pub use cutting::whole_lines;
+pub use journal::{Journal, JournalError, read_journal};
