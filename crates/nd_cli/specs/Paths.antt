@@ -2,8 +2,8 @@
 -- cite this.
 use Rattle.std.specs.Prelude.{◌≡◌, ℕ, ◌<◌, ◌≤◌, Bool, true, List, [], ◌∷◌, ◌++◌, length, Option}
 use Rattle.std.specs.Io.KnownBytes.{Appends}
-use Rattle.nd_graph.specs.declared.fault.GraphError.{GraphError}
-use Rattle.nd_graph.specs.DrvPaths.{IsDrvPath, HasNoDrvPath}
+use Rattle.nd_bundle.specs.declared.fault.GraphError.{GraphError}
+use Rattle.nd_bundle.specs.DrvPaths.{IsDrvPath, HasNoDrvPath}
 use Rattle.nd_devices.specs.Watched.{Watched}
 use Rattle.nd_devices.specs.Written.{WritesPart}
 use Rattle.nd_cli.specs.Inputs.{limit, ReadsWhole, is_write_fault}

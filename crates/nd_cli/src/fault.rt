@@ -2,8 +2,8 @@
 ghost use Rattle.std.specs.Prelude.{◌≡◌};
 ghost use Rattle.nd_cli.specs.Statuses.{exit_status};
 
+use nd_bundle::GraphError;
 use nd_closure::InfoError;
-use nd_graph::GraphError;
 use nd_machines::MachineError;
 use nd_script::ScriptError;
 use std::alloc::AllocError;

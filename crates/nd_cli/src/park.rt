@@ -10,9 +10,10 @@ ghost use Rattle.nd_cli.specs.Parks.{AnswersAcceptedPark, HasGraph, HasBuilders,
 use crate::fault::{CliFault, Place};
 use crate::input::LIMIT;
 use crate::options::ParkOptions;
+use nd_bundle::{GraphError, read_bundle};
 use nd_closure::{InfoError, RefTable, parse_info};
 use nd_eligible::Local;
-use nd_graph::{Graph, GraphError, read_bundle};
+use nd_graph::Graph;
 use nd_machines::{FeatureSet, Machine, MachineError, parse_builders};
 use std::alloc::{AllocError, Global};
 use std::thread::Threads;

@@ -2,7 +2,7 @@
 
 ghost use Rattle.std.specs.Prelude.{◌≡◌, ◌≤◌, ℕ, List, Some, ◌++◌, ◌∷◌, ◌||◌, [], false, length, is_err, IfOk, IfErr, OnOk, OnErr};
 ghost use Rattle.std.specs.Io.KnownBytes.{Appends};
-ghost use Rattle.nd_graph.specs.DrvPaths.{IsDrvPath};
+ghost use Rattle.nd_bundle.specs.DrvPaths.{IsDrvPath};
 ghost use Rattle.nd_devices.specs.Written.{WritesPart};
 ghost use Rattle.nd_cli.specs.Statuses.{RefusesNoInput};
 ghost use Rattle.nd_cli.specs.Inputs.{limit, OkUnlessMemory, is_write_fault, is_read_failure, is_write_failure};
@@ -10,8 +10,8 @@ ghost use Rattle.nd_cli.specs.Paths.{HasPath, AnswersPath, LeavesPath, IsPathFau
 
 use crate::fault::{CliFault, DerivationError, Place};
 use crate::input::{LIMIT, read_input};
+use nd_bundle::{GraphError, drv_path};
 use nd_devices::{Fault, Told};
-use nd_graph::{GraphError, drv_path};
 use nd_path::StorePath;
 use std::alloc::Global;
 use std::io::{Read, Write};

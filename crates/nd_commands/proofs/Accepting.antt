@@ -2,7 +2,7 @@
 use Rattle.std.proofs.Common.{◌≡◌, ℕ, ◌+◌, ◌≤◌, Bool, List, ◌++◌, length, Option, None, Some, Result, Ok, Err, sym, ap, subst, ◌∙◌, append-nil, length-append, arith, inl, inr}
 use Rattle.nd_machines.specs.Builders.{Builder}
 use Rattle.nd_graph.specs.Graphs.{Nodes}
-use Rattle.nd_graph.proofs.OneBundle.{one_graph, never_both, is_refused}
+use Rattle.nd_bundle.proofs.OneBundle.{one_graph, never_both, is_refused}
 use Rattle.nd_bytes.specs.Lines.{lines_of}
 use Rattle.nd_closure.proofs.Once.{table_once, memory_alone}
 use Rattle.nd_history.specs.Premises.{Premises}

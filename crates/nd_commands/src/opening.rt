@@ -16,7 +16,7 @@ use std::thread::Threads;
 /// The first refusal in this order is answered: `TooLarge` or `Drvs` for the bundle, `TooLarge` or
 /// `Builders` for the builders list, `TooLarge` or `Info` for the info text. `Memory` may come at any
 /// point.
-pub(crate) fn open_dispatch(
+pub fn open_dispatch(
     rt: &(impl Threads + Sync),
     alloc: Global,
     options: &ParkOptions,
@@ -44,4 +44,4 @@ pub(crate) fn open_dispatch(
 }
 
 /// Ends a dispatch.
-pub(crate) fn close_dispatch(_dispatch: Dispatch) {}
+pub fn close_dispatch(_dispatch: Dispatch) {}

@@ -65,8 +65,9 @@ fn play<W: io::Write>(
     }
 }
 
-/// 1 where a derivation failed or was cancelled, and else 0.
-fn exit_status(dispatch: &Dispatch) -> u8
+/// The exit status of a run or a simulation that came to this: 1 where a derivation failed or was cancelled,
+/// and else 0.
+pub fn exit_status(dispatch: &Dispatch) -> u8
     ensures { IsExitStatus dispatch.now.inputs (reverse dispatch.now.history) result }
 {
     let counts = dispatch.counts();

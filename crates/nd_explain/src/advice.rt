@@ -3,9 +3,9 @@
 ghost use Rattle.std.specs.Prelude.{◌≡◌};
 ghost use Rattle.nd_explain.specs.AdviceWords.{advice_words, bundle_advice, builders_advice, info_advice, script_advice, stand_advice, history_advice, derivation_advice};
 
+use nd_bundle::GraphError;
 use nd_cli::{CliFault, DerivationError, HistoryTextError};
 use nd_closure::InfoError;
-use nd_graph::GraphError;
 use nd_machines::MachineError;
 use nd_script::ScriptError;
 

@@ -3,9 +3,9 @@
 ghost use Rattle.std.specs.Prelude.{◌≡◌};
 ghost use Rattle.nd_explain.specs.Parts.{place_named, part_named, line_of_bundle, entry_of_builders};
 
+use nd_bundle::GraphError;
 use nd_cli::{CliFault, DerivationError, HistoryTextError, Place};
 use nd_closure::InfoError;
-use nd_graph::GraphError;
 use nd_machines::MachineError;
 use nd_script::ScriptError;
 

@@ -1,9 +1,9 @@
 -- Lemmas on paths and the numbers of their nodes.
-use Rattle.std.proofs.Common.{◌≡◌, ℕ, List, [], Contains, get_or, position, Option, Some, None, Bool, true, false, is_some, not, refl, sym, ◌∙◌, true≢false}
+use Rattle.std.proofs.Common.{◌≡◌, ℕ, List, [], get_or, position, Option, Some, None, is_some, sym, ◌∙◌, true≢false}
 use Rattle.std.specs.Cmp.Lexicographic.{nat_list_eq_equiv}
 use Rattle.std.specs.List.{list_any}
 use Rattle.std.proofs.lemmas.List.Quantifiers.{position-Some}
-use Rattle.std.proofs.lemmas.Map.Views.{list_any-from_Contains, Contains-from_any}
+use Rattle.std.proofs.lemmas.Map.Views.{list_any-from_Contains}
 use Rattle.nd_path.specs.StorePath.{path_eq}
 use Rattle.nd_path.specs.SamePaths.{paths_same}
 use Rattle.nd_graph.specs.Graphs.{IsNumber}
@@ -14,19 +14,3 @@ number_found paths path None at found = λ there. true≢false (sym (list_any-fr
 number_found paths path (Some i) at found =
     let is = position-Some (path_eq path) paths i [] (sym at) in
     record { within = is.0; is = sym (paths_same path (get_or paths i []) is.1) }
-
--- what an insertion into a set answers
-pub was_there : (there added : Bool) → added ≡ not there → added ≡ false → there ≡ true
-was_there true added is old = refl
-was_there false added is old = absurd (true≢false (sym is ∙ old))
-
-pub was_new : (there added : Bool) → added ≡ not there → added ≡ true → there ≡ false
-was_new true added is new = absurd (true≢false (sym new ∙ is))
-was_new false added is new = refl
-
--- a path that a set finds is in its list, and one that it doesn't find isn't
-pub is_there : (paths : List (List ℕ)) (path : List ℕ) → list_any (path_eq path) paths ≡ true → Contains paths path
-is_there paths path found = Contains-from_any paths_same path paths found
-
-pub not_there : (paths : List (List ℕ)) (path : List ℕ) → list_any (path_eq path) paths ≡ false → Contains paths path → ⊥
-not_there paths path none there = true≢false (sym (list_any-from_Contains nat_list_eq_equiv path paths there) ∙ none)

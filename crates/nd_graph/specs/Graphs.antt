@@ -1,9 +1,11 @@
--- The graph of a bundle, as contracts see it. Cited by the clauses of the graph and its readers, and by the crates above.
+-- The graph of a bundle, as contracts see it. Cited by the clauses of the graph, and by the crates above.
 use Rattle.std.specs.Prelude.{◌≡◌, ℕ, ◌<◌, ◌≤◌, List, [], length, map, Contains, Option, None, Some}
 use Rattle.std.specs.List.{slice_index_or}
 use Rattle.nd_eligible.specs.declared.need.Need.{Need}
+use Rattle.nd_graph.specs.declared.fault.OrderError.{OrderError}
+use Rattle.nd_graph.specs.declared.fault.OrderError.TheVariants.{Cycle, Memory}
 use Rattle.nd_graph.specs.declared.graph.Input.{Input}
-use Rattle.nd_graph.specs.Walks.{AreDistinct, AreInRange, IsOrder}
+use Rattle.nd_graph.specs.Walks.{AreDistinct, AreInRange, IsCyclic, IsOrder}
 
 -- the nodes of a graph, numbered in the order of the bundle's lines: node i has the item at i of each list
 pub record Nodes : Type 0 where
@@ -17,6 +19,10 @@ pub record Nodes : Type 0 where
   pub sources : List (List (List ℕ))
   -- the output paths of each, in the order of the outputs' names
   pub outputs : List (List (List ℕ))
+
+-- the nodes with these parts
+abbrev pub nodes_with : List (List ℕ) → List Need → List (List Input) → List (List (List ℕ)) → List (List (List ℕ)) → Nodes
+nodes_with paths needs inputs sources outputs = record { paths = paths; needs = needs; inputs = inputs; sources = sources; outputs = outputs }
 
 -- the nodes that inputs name
 abbrev pub nodes_of : List Input → List ℕ
@@ -53,6 +59,11 @@ pub record IsSound (nodes : Nodes) : Type 0 where
 pub record IsGraph (nodes : Nodes) (order : List ℕ) : Type 0 where
   pub sound : IsSound nodes
   pub ordered : IsOrder (rows_of nodes) order
+
+-- why there is no order: a cycle, or want of memory, which may come at any point
+abbrev pub IsOrderFault : List (List ℕ) → OrderError → Type 0
+IsOrderFault rows Cycle = IsCyclic rows
+IsOrderFault rows Memory = Unit {0}
 
 -- the place is that of the item
 pub record IsAt (items : List (List ℕ)) (item : List ℕ) (place : ℕ) : Type 0 where

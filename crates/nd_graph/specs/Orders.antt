@@ -1,15 +1,7 @@
 -- The state of a depth-first search for an order of the nodes in which each stands after its inputs. Serves proofs alone.
 use Rattle.std.specs.Prelude.{◌≡◌, ℕ, suc, ◌+◌, ◌<◌, ◌≤◌, List, length, Contains}
 use Rattle.std.specs.List.{slice_index_or}
-use Rattle.nd_graph.specs.Walks.{inputs_of, IsCyclic, IsRising, AreDistinct}
-use Rattle.nd_graph.specs.declared.fault.GraphError.{GraphError}
-use Rattle.nd_graph.specs.declared.fault.GraphError.TheVariants.{Cycle, Memory}
-
--- why there is no order: a cycle, or want of memory, which may come at any point
-abbrev pub IsOrderFault : List (List ℕ) → GraphError → Type 0
-IsOrderFault rows Cycle = IsCyclic rows
-IsOrderFault rows Memory = Unit {0}
-IsOrderFault rows _ = ⊥
+use Rattle.nd_graph.specs.Walks.{inputs_of, IsRising, AreDistinct}
 
 -- how many inputs node d has
 abbrev pub input_count : List (List ℕ) → ℕ → ℕ

@@ -1,17 +1,22 @@
-//! The graph of a bundle.
+//! The graph of derivations.
 
-ghost use Rattle.std.specs.Prelude.{◌≡◌, ◌==◌, ◌<◌, length, slice_get, [], IfOk};
+ghost use Rattle.std.specs.Prelude.{◌≡◌, ◌==◌, ◌<◌, length, slice_get, [], IfOk, IfErr};
 ghost use Rattle.std.specs.List.{slice_index_or};
-ghost use Rattle.nd_graph.specs.Graphs.{nodes_of, rows_of, IsGraph, IsNumber, IsSound};
+ghost use Rattle.nd_graph.specs.Graphs.{needed, nodes_of, nodes_with, rows_of, IsNumber, IsOrderFault, IsSound};
 ghost use Rattle.nd_graph.specs.Walks.{inputs_of, IsAcyclic, IsOrder, PlacesFall};
 
+use crate::fault::OrderError;
 use crate::number::find_path;
+use crate::order::find_order;
 use indexmap::IndexSet;
 use nd_bytes::Items;
 use nd_eligible::Need;
 use nd_path::StorePath;
 use std::alloc::{AllocError, Global};
 use std::marker::Model;
+
+/// The greatest number of nodes.
+pub const NODE_LIMIT: usize = 65_536;
 
 /// An input of a node: a node that it needs.
 #[derive(Drop, Debug)]
@@ -34,9 +39,9 @@ impl Input {
     }
 }
 
-/// The nodes of a bundle, numbered from 0 in bundle order: at most 65,536, with distinct paths, and
-/// none below itself. Contracts see the lists of the nodes' paths, needs, inputs, sources and
-/// outputs.
+/// The nodes of a bundle, numbered from 0 in bundle order: at most [`NODE_LIMIT`], with distinct
+/// paths, and none below itself. Contracts see the lists of the nodes' paths, needs, inputs, sources
+/// and outputs.
 #[derive(Drop, Debug)]
 pub struct Graph {
     paths: IndexSet<StorePath>,
@@ -58,29 +63,35 @@ impl Model for Graph {
 }
 
 impl Graph {
-    /// The graph of these parts.
+    /// The graph of these parts: the item of each list for node 0, 1, 2 .. Their lists have one
+    /// length, at most [`NODE_LIMIT`]; each input's node and the places of its outputs are there.
+    ///
+    /// Refuses with `Cycle` where some node needs itself, directly or through others, and with
+    /// `Memory` where an allocation is refused.
     #[tactic(auto, using(crate::proofs::Walked::acyclic))]
-    pub(crate) fn new(
+    pub fn new(
+        alloc: Global,
         paths: IndexSet<StorePath>,
         needs: Vec<Need>,
         inputs: Vec<Items<Input>>,
         sources: Vec<Items<StorePath>>,
         outputs: Vec<Items<StorePath>>,
-        order: Vec<usize>,
-    ) -> Graph
-        requires { IsGraph (record { paths = paths.keys; needs = needs.items; inputs = inputs.items; sources = sources.items; outputs = outputs.items }) order.items }
-        ensures parts { result ≡ record { paths = paths.keys; needs = needs.items; inputs = inputs.items; sources = sources.items; outputs = outputs.items } }
-        ensures sound { IsSound result }
-        ensures acyclic { IsAcyclic (rows_of result) }
+    ) -> Result<Graph, OrderError>
+        requires { IsSound (nodes_with paths.keys needs.items inputs.items sources.items outputs.items) }
+        ensures parts { IfOk result (λ graph. graph ≡ nodes_with paths.keys needs.items inputs.items sources.items outputs.items) }
+        ensures sound { IfOk result IsSound }
+        ensures acyclic { IfOk result (λ graph. IsAcyclic (rows_of graph)) }
+        ensures err { IfErr result (λ fault. IsOrderFault (needed inputs.items) fault) }
     {
-        Graph {
+        let order = find_order(alloc, inputs.as_slice())?;
+        Ok(Graph {
             paths,
             needs,
             inputs,
             sources,
             outputs,
             order,
-        }
+        })
     }
 
     /// The number of nodes.

@@ -1,36 +1,14 @@
-//! The numbering of paths, in the order of the bundle's lines.
+//! The number of a path among distinct paths.
 
-ghost use Rattle.std.specs.Prelude.{◌≡◌, IfOk, OnOk, IfErr};
 ghost use Rattle.nd_graph.specs.Graphs.{IsNumber};
-ghost use Rattle.nd_graph.specs.Numbering.{IsNumberFault};
-ghost use Rattle.nd_graph.specs.Walks.{AreDistinct};
 
-use crate::fault::GraphError;
 use indexmap::IndexSet;
 use nd_path::StorePath;
-use std::alloc::Global;
 
-/// The paths as a set, in their order; `Duplicate` where a path stands twice.
-pub(crate) fn number_all(
-    alloc: Global,
-    paths: Vec<StorePath>,
-) -> Result<IndexSet<StorePath>, GraphError>
-    ensures ok { IfOk result (λ numbered. numbered.keys ≡ paths.items) }
-    ensures distinct { OnOk result (AreDistinct paths.items) }
-    ensures err { IfErr result (λ fault. IsNumberFault paths.items fault) }
-{
-    let mut numbered = IndexSet::with_capacity(alloc, paths.len())?;
-    for path in paths {
-        if !numbered.insert(path)? {
-            return Err(GraphError::Duplicate(numbered.len() + 1));
-        }
-    }
-    Ok(numbered)
-}
-
-/// The number of a path. It is looked up by hash.
+/// The number of a path, from 0 in the order of the set, or `None` where it isn't there. It is looked
+/// up by hash.
 #[tactic(auto, using(crate::proofs::Numbers::number_found))]
-pub(crate) fn find_path(paths: &IndexSet<StorePath>, path: &StorePath) -> Option<usize>
+pub fn find_path(paths: &IndexSet<StorePath>, path: &StorePath) -> Option<usize>
     ensures { IsNumber paths.now.keys path.now result }
 {
     paths.get_index_of(path)

@@ -1,12 +1,12 @@
 //! The search for an order of the nodes in which each stands after its inputs.
 
 ghost use Rattle.std.specs.Prelude.{◌≡◌, ℕ, ◌+◌, ◌<◌, ◌≤◌, [], ◌∷◌, ◌++◌, ◌-◌, length, sum, slice_set, IfOk, OnOk, IfErr};
-ghost use Rattle.nd_graph.specs.Graphs.{needed};
-ghost use Rattle.nd_graph.specs.Orders.{input_count, left_of, Advances, IsOrderFault, IsSearch};
+ghost use Rattle.nd_graph.specs.Graphs.{needed, IsOrderFault};
+ghost use Rattle.nd_graph.specs.Orders.{input_count, left_of, Advances, IsSearch};
 ghost use Rattle.nd_graph.specs.Stages.{IsNext, IsStage};
-ghost use Rattle.nd_graph.specs.Walks.{AreInRange, IsOrder};
+ghost use Rattle.nd_graph.specs.Walks.{AreInRange, IsAcyclic, IsOrder};
 
-use crate::fault::GraphError;
+use crate::fault::OrderError;
 use crate::graph::Input;
 use nd_bytes::Items;
 use std::alloc::{AllocError, Global};
@@ -22,11 +22,16 @@ enum Stage {
     Done,
 }
 
-/// The nodes of `inputs`, each once and after its inputs; `Cycle` where some node needs itself,
-/// directly or through others. It takes time in proportion to the nodes and inputs together.
-pub(crate) fn find_order(alloc: Global, inputs: &[Items<Input>]) -> Result<Vec<usize>, GraphError>
+/// The nodes of `inputs`, each once and after its inputs. There is such an order exactly where no
+/// node needs itself. It takes time in proportion to the nodes and inputs together.
+///
+/// Refuses with `Cycle` where some node needs itself, directly or through others, and with `Memory`
+/// where an allocation is refused.
+#[tactic(auto, using(crate::proofs::Walked::acyclic))]
+pub fn find_order(alloc: Global, inputs: &[Items<Input>]) -> Result<Vec<usize>, OrderError>
     requires { AreInRange (needed inputs.now) }
     ensures ok { IfOk result (λ order. IsOrder (needed inputs.now) order.items) }
+    ensures acyclic { OnOk result (IsAcyclic (needed inputs.now)) }
     ensures err { IfErr result (λ fault. IsOrderFault (needed inputs.now) fault) }
 {
     let mut left = Vec::with_capacity(alloc, inputs.len())?;
@@ -45,7 +50,7 @@ fn visit(
     left: &mut [usize],
     order: &mut Vec<usize>,
     root: usize,
-) -> Result<(), GraphError>
+) -> Result<(), OrderError>
     requires ranged { AreInRange (needed inputs.now) }
     requires root { root < length inputs.now }
     requires search { IsSearch (needed inputs.now) left.old [] order.old.items }
@@ -71,7 +76,7 @@ fn visit_all(
     inputs: &[Items<Input>],
     left: &mut [usize],
     order: &mut Vec<usize>,
-) -> Result<(), GraphError>
+) -> Result<(), OrderError>
     requires ranged { AreInRange (needed inputs.now) }
     requires search { IsSearch (needed inputs.now) left.old [] order.old.items }
     ensures ok { OnOk result (IsOrder (needed inputs.now) order.new.items) }
@@ -136,7 +141,7 @@ fn step(
     trail: &mut Vec<usize>,
     order: &mut Vec<usize>,
     top: usize,
-) -> Result<(), GraphError>
+) -> Result<(), OrderError>
     requires ranged { AreInRange (needed inputs.now) }
     requires search { IsSearch (needed inputs.now) left.old (trail.old.items ++ top ∷ []) order.old.items }
     ensures search { OnOk result (IsSearch (needed inputs.now) left.new trail.new.items order.new.items) }
@@ -152,7 +157,7 @@ fn step(
     trail.push(top)?;
     match stage_of(inputs, left, next) {
         Stage::New => meet(left, trail, next)?,
-        Stage::Open => return Err(GraphError::Cycle),
+        Stage::Open => return Err(OrderError::Cycle),
         Stage::Done => left[top] -= 1,
     }
     Ok(())

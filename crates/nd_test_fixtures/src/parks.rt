@@ -3,11 +3,12 @@
 ghost use Rattle.std.specs.Prelude.{◌≤◌};
 ghost use Rattle.std.specs.Vec.{vec_len};
 
+use nd_bundle::GraphError;
+use nd_bundle::plain::read_bundle;
 use nd_bytes::ByteString;
 use nd_closure::RefTable;
 use nd_eligible::Local;
-use nd_graph::plain::read_bundle;
-use nd_graph::{Graph, GraphError};
+use nd_graph::Graph;
 use nd_ledger::Dispatch;
 use nd_machines::{FeatureSet, Machine, MachineError, parse_builders};
 use std::alloc::{AllocError, Global};

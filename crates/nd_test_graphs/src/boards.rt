@@ -4,10 +4,11 @@
 ghost use Rattle.std.specs.Prelude.{◌≡◌};
 
 use crate::shapes::{Shape, text_of};
+use nd_bundle::GraphError;
+use nd_bundle::plain::read_bundle;
 use nd_failure::plain::PlainBoard;
 use nd_failure::{Board, Counts, Status};
-use nd_graph::plain::read_bundle;
-use nd_graph::{Graph, GraphError};
+use nd_graph::Graph;
 use std::alloc::{AllocError, Global};
 
 /// What becomes of a lease.

@@ -1,11 +1,12 @@
-//! What no contract of `nd_graph` says of small bundles: that they are read with ample memory, as the
+//! What no contract of `nd_bundle` says of small bundles: that they are read with ample memory, as the
 //! worked examples say, by both readers.
 
 use crate::reading::{
     END, N0, N0_LINE, N0_ON, N0_TEXT, N1_ON, NEEDS_DEV, NEEDS_N0, answer, both_answer, both_find,
     graph_of, joined,
 };
-use nd_graph::{Graph, GraphError, Input, drv_path};
+use nd_bundle::{GraphError, drv_path};
+use nd_graph::{Graph, Input};
 use nd_path::StorePath;
 use std::alloc::Global;
 use std::thread::Threads;

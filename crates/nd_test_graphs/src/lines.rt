@@ -1,12 +1,13 @@
-//! What no contract of `nd_graph` says of single lines: that they are read with ample memory, as the
+//! What no contract of `nd_bundle` says of single lines: that they are read with ample memory, as the
 //! worked examples say.
 
 use crate::reading::{
     END, N0, N0_LINE, N0_TEXT, N1_ON, NEEDS_DEV, NEEDS_N0, answer, both_answer, find, graph_of,
     joined,
 };
+use nd_bundle::{GraphError, drv_path, plain, read_bundle};
 use nd_eligible::Need;
-use nd_graph::{Graph, GraphError, drv_path, plain, read_bundle};
+use nd_graph::Graph;
 use std::alloc::{AllocError, Global};
 use std::thread::Threads;
 

@@ -1,9 +1,10 @@
-//! What no contract of `nd_graph` says of long bundles: that they are read with ample memory, and that
+//! What no contract of `nd_bundle` says of long bundles: that they are read with ample memory, and that
 //! long chains need no deep recursion.
 
 use crate::reading::{both_answer, both_find, size_of};
 use crate::shapes::{Shape, push_line, text_of};
-use nd_graph::{Graph, GraphError, read_bundle};
+use nd_bundle::{GraphError, read_bundle};
+use nd_graph::Graph;
 use std::alloc::{AllocError, Global};
 use std::thread::Threads;
 

@@ -1,6 +1,7 @@
 //! Reading bundles with both readers, and the parts of their lines.
 
-use nd_graph::{Graph, GraphError, plain, read_bundle};
+use nd_bundle::{GraphError, plain, read_bundle};
+use nd_graph::Graph;
 use std::alloc::{AllocError, Global};
 use std::thread::Threads;
 

@@ -1,18 +1,13 @@
 //! What each command does with its words.
 
-ghost use Rattle.std.specs.Prelude.{◌≡◌, IfOk, codes};
-ghost use Rattle.clap.specs.Matches.{found_of, one_text};
-ghost use Rattle.nix_dispatch.specs.Options.{AreOptionsIn, IsNumberIn, IsFlagIn, text_in};
-
-use crate::bundles::bundle_of;
-use crate::failing::{Given, failure, heard, path_failure};
-use crate::files::{file_or_nothing, read_file, text_or_file};
 use crate::stand_ins::run_stand_ins;
-use crate::words;
 use clap::ArgMatches;
 use clap::error::ErrorKind;
-use nd_bytes::ByteString;
-use nd_cli::{CliFault, ParkOptions, ask_engine, path_engine};
+use nd_cli::{CliFault, ask_engine, path_engine};
+use nd_command_line::{
+    Given, bundle_of, command_line, failure, heard, park_options, path_failure, read_file,
+    write_failure,
+};
 use nd_commands::{audit_engine, sim_engine};
 use nd_devices::Told;
 use nd_explain::{Failure, Heard, Source};
@@ -33,7 +28,7 @@ pub(crate) fn run<'a, R: Files + Input + Print + Eprint + AllocGlobal + Threads 
     alloc: Global,
     given: &'a [String],
 ) -> u8 {
-    let Ok(command) = words::command_line(alloc) else {
+    let Ok(command) = command_line(alloc) else {
         return told(rt, &CliFault::Memory);
     };
     let matches = match command.try_get_matches_from(given) {
@@ -274,57 +269,4 @@ fn answer_or_failure<'a, R: Read + Drop, W: Write + Drop>(
         Err(CliFault::Write) => Err(write_failure(&output)),
         Err(fault) => Err(failure(alloc, fault, given, &input)),
     }
-}
-
-/// A refused write to this output.
-pub(crate) fn write_failure<'a, W: Write>(output: &Heard<W>) -> Failure<'a> {
-    Failure::at(CliFault::Write, Source::Output, output.refusal())
-}
-
-/// The options of a command over a bundle. The files that they name are read here, the builders list
-/// before the info text.
-pub(crate) fn park_options<'a, R: Files>(
-    rt: &R,
-    alloc: Global,
-    options: &ArgMatches<'a>,
-) -> Result<ParkOptions, Failure<'a>>
-    ensures { IfOk result (λ park. AreOptionsIn options.now park) }
-{
-    let builders = options.get_str("builders").unwrap_or("");
-    let builders = text_or_file(rt, alloc, "builders", builders)?;
-    let info = file_or_nothing(rt, alloc, "info", options.get_str("info"))?;
-    Ok(ParkOptions {
-        builders,
-        system: text_of(alloc, options, "system")?,
-        extra: text_of(alloc, options, "extra")?,
-        features: text_of(alloc, options, "features")?,
-        jobs: jobs_of(options),
-        keep_going: flag_of(options, "keep-going"),
-        check_paths: flag_of(options, "check-paths"),
-        info,
-    })
-}
-
-/// The text of the option of this name, and no bytes without it.
-fn text_of<'a>(alloc: Global, options: &ArgMatches, name: &str) -> Result<ByteString, Failure<'a>>
-    ensures { IfOk result (λ text. text ≡ text_in options.now name.now) }
-{
-    match ByteString::from_slice(alloc, options.get_str(name).unwrap_or("").as_bytes()) {
-        Ok(text) => Ok(text),
-        Err(_) => Err(Failure::of(CliFault::Memory)),
-    }
-}
-
-/// The local jobs, which are 1 without the option.
-fn jobs_of(options: &ArgMatches) -> u16
-    ensures { IsNumberIn (one_text (found_of options.now) (codes "jobs")) result }
-{
-    options.get_one::<u16>("jobs").unwrap_or(1)
-}
-
-/// Whether the flag of this name was given.
-fn flag_of(options: &ArgMatches, name: &str) -> bool
-    ensures { IsFlagIn (one_text (found_of options.now) name.now) result }
-{
-    options.get_flag(name)
 }

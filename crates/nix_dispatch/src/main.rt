@@ -5,12 +5,8 @@
 //! the engines of `nd_cli`, `nd_commands` and `nd_run_command`.
 #![tactic(auto)]
 
-mod bundles;
 mod commands;
-mod failing;
-mod files;
 mod stand_ins;
-mod words;
 
 use nd_cli::CliFault;
 use std::process::ExitCode;

@@ -3,12 +3,11 @@
 ghost use Rattle.std.specs.Prelude.{map};
 ghost use Rattle.nd_workers.specs.Runs.{AreManned};
 
-use crate::bundles::bundle_of;
-use crate::commands::{park_options, write_failure};
-use crate::failing::{Given, failure, heard, placed};
-use crate::files::file_or_nothing;
 use clap::ArgMatches;
 use nd_cli::CliFault;
+use nd_command_line::{
+    Given, bundle_of, failure, file_or_nothing, heard, park_options, placed, write_failure,
+};
 use nd_devices::Told;
 use nd_explain::{Failure, Heard};
 use nd_ledger::Dispatch;

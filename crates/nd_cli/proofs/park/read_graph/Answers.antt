@@ -1,5 +1,5 @@
 use Rattle.std.proofs.Common.{◌≡◌, rules}
-use Rattle.nd_graph.specs.declared.fault.GraphError.{GraphError}
+use Rattle.nd_bundle.specs.declared.fault.GraphError.{GraphError}
 use Rattle.nd_cli.proofs.park.read_graph.Goals as goal
 
 pub returns-in-Ok-clause-exactly : goal.returns-in-Ok-clause-exactly

@@ -1,0 +1,104 @@
+-- What was read of the lines, put together. Serves proofs alone.
+use Rattle.std.specs.Prelude.{◌≡◌, ℕ, ◌+◌, ◌<◌, List, [], ◌∷◌, ◌++◌, length, map, Contains, Result, Ok, Err}
+use Rattle.std.specs.List.{slice_index_or}
+use Rattle.std.specs.List.Sorted.{IsStrictlySortedBy}
+use Rattle.nd_bytes.specs.Compared.{bytes_cmp}
+use Rattle.nd_bundle.specs.declared.line.LineNode.{LineNode}
+use Rattle.nd_bundle.specs.declared.line.NamedInput.{NamedInput}
+use Rattle.nd_bundle.specs.declared.refusal.LineError.{LineError}
+use Rattle.nd_bundle.specs.declared.fault.GraphError.{GraphError}
+use Rattle.nd_bundle.specs.declared.fault.GraphError.TheVariants.{MissingInput, MissingOutput, Memory}
+use Rattle.nd_bundle.specs.declared.columns.Columns.{Columns}
+use Rattle.nd_graph.specs.declared.graph.Input.{Input}
+use Rattle.nd_graph.specs.Graphs.{Nodes, rows_of, IsSound}
+use Rattle.nd_bundle.specs.Numbered.{fault_at}
+use Rattle.nd_graph.specs.Walks.{IsAcyclic}
+use Rattle.nd_bundle.specs.Whole.{links_of, AllNumbered, AreInputsThere, IsGraphOf, IsMissingInput, IsMissingOutput, IsWholeFault, Links}
+
+-- a list of names that rises
+pub record NamesRise (names : List (List ℕ)) : Type 0 where
+  pub rises : IsStrictlySortedBy bytes_cmp names
+
+-- the names of each node rise
+pub record AllNamesRise (names : List (List (List ℕ))) : Type 0 where
+  pub rise : (d : ℕ) → d < length names → NamesRise (slice_index_or names d [])
+
+-- each node has as many output names as output paths
+pub record ArePaired (names : List (List (List ℕ))) (outputs : List (List (List ℕ))) : Type 0 where
+  pub sized : length names ≡ length outputs
+  pub paired : (d : ℕ) → length (slice_index_or names d []) ≡ length (slice_index_or outputs d [])
+
+-- the node has as many output names as output paths, and its output names rise
+pub record IsFit (node : LineNode) : Type 0 where
+  pub paired : length node.output_names ≡ length node.outputs
+  pub rising : NamesRise node.output_names
+
+-- each of the nodes is so
+pub record AreFit (nodes : List LineNode) : Type 0 where
+  pub fit : (node : LineNode) → Contains nodes node → IsFit node
+
+-- each node that was read is so
+pub record ReadsFit (read : List (Result LineNode LineError)) : Type 0 where
+  pub fit : (node : LineNode) → Contains read (Ok node) → IsFit node
+
+-- a line was read
+abbrev pub said : LineNode → Result LineNode LineError
+said node = Ok node
+
+-- all lines were read
+pub record IsRead (read : List (Result LineNode LineError)) (nodes : List LineNode) : Type 0 where
+  pub all : read ≡ map said nodes
+
+-- a line was refused, after lines that were read, or memory was wanting
+pub record IsFirstErr (read : List (Result LineNode LineError)) (error : GraphError) : Type 0 where
+  pub before : List LineNode
+  pub fault : LineError
+  pub behind : List (Result LineNode LineError)
+  pub parts : read ≡ map said before ++ Err fault ∷ behind
+  pub error_is : error ≡ fault_at fault (length before + 1)
+
+-- a line was refused, or the nodes are no graph together
+pub data IsReadFault (read : List (Result LineNode LineError)) (error : GraphError) : Type 0 where
+  of_line : IsFirstErr read error → IsReadFault read error
+  of_whole : (nodes : List LineNode) → IsRead read nodes → IsWholeFault (links_of nodes) error → IsReadFault read error
+  of_memory : error ≡ Memory → IsReadFault read error
+
+-- the graph of what was read
+pub record IsGraphRead (read : List (Result LineNode LineError)) (graph : Nodes) : Type 0 where
+  pub nodes : List LineNode
+  pub read_is : IsRead read nodes
+  pub of : IsGraphOf nodes graph
+  pub sound : IsSound graph
+  pub acyclic : IsAcyclic (rows_of graph)
+
+-- the lists have one item per node
+pub record AreSized (columns : Columns) : Type 0 where
+  pub needs : length columns.needs.items ≡ length columns.paths.items
+  pub wants : length columns.wants.items ≡ length columns.paths.items
+  pub sources : length columns.sources.items ≡ length columns.paths.items
+  pub names : length columns.names.items ≡ length columns.paths.items
+  pub outputs : length columns.outputs.items ≡ length columns.paths.items
+
+-- the graph of the columns
+pub record IsGraphOfColumns (columns : Columns) (graph : Nodes) : Type 0 where
+  pub paths : graph.paths ≡ columns.paths.items
+  pub needs : graph.needs ≡ columns.needs.items
+  pub inputs : AllNumbered columns.paths.items columns.names.items columns.wants.items graph.inputs
+  pub sources : graph.sources ≡ columns.sources.items
+  pub outputs : graph.outputs ≡ columns.outputs.items
+
+-- what the columns say of the links between the nodes
+abbrev pub links_in : Columns → Links
+links_in columns = record { paths = columns.paths.items; wants = columns.wants.items; names = columns.names.items }
+
+-- all inputs and named outputs are there, by number
+pub record IsResolved (paths : List (List ℕ)) (names : List (List (List ℕ))) (wants : List (List NamedInput)) (rows : List (List Input)) : Type 0 where
+  pub there : AreInputsThere paths wants
+  pub numbered : AllNumbered paths names wants rows
+
+-- an input or an output is missing, first on this line, or memory is wanting
+abbrev pub IsLinkFault : List (List ℕ) → List (List (List ℕ)) → List (List NamedInput) → GraphError → Type 0
+IsLinkFault paths names wants (MissingInput line) = IsMissingInput paths wants line
+IsLinkFault paths names wants (MissingOutput line) = AreInputsThere paths wants × IsMissingOutput paths names wants line
+IsLinkFault paths names wants Memory = Unit {0}
+IsLinkFault paths names wants _ = ⊥

@@ -1,0 +1,26 @@
+//! Reading a bundle: its lines, the derivation texts on them, and the graph of the whole.
+#![tactic(auto)]
+
+mod attributes;
+mod bundle;
+mod collect;
+mod columns;
+mod derived;
+pub mod drv_paths;
+pub mod fault;
+mod kinds;
+pub mod laws;
+pub mod line;
+mod missing;
+mod number;
+pub mod plain;
+mod reading;
+pub mod refusal;
+mod resolve;
+mod structured;
+mod whole;
+
+pub use bundle::read_bundle;
+pub use drv_paths::drv_path;
+pub use fault::GraphError;
+pub use line::{LineNode, NamedInput};

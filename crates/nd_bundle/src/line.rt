@@ -1,0 +1,76 @@
+//! One line of a bundle: the path of a derivation, a space, and its text.
+
+use nd_aterm::Leaf;
+use nd_bytes::{ByteString, Items};
+use nd_eligible::Need;
+use nd_path::StorePath;
+use std::marker::Model;
+
+/// An input derivation, and the outputs that are wanted of it. It serves contracts alone: no call takes
+/// or answers one.
+#[derive(Debug, Drop)]
+pub struct NamedInput {
+    /// The input derivation's path.
+    pub path: StorePath,
+    /// The names of the outputs, in rising order, possibly none.
+    pub names: Items<ByteString>,
+}
+
+/// What a line says. It serves contracts alone: no call takes or answers one.
+#[derive(Debug, Drop)]
+pub struct LineNode {
+    /// The derivation's path.
+    pub path: StorePath,
+    /// What it needs of the machine that builds it.
+    pub need: Need,
+    /// The input derivations, by path.
+    pub inputs: Items<NamedInput>,
+    /// The input sources, in rising order.
+    pub sources: Items<StorePath>,
+    /// The names of the outputs, in rising order.
+    pub output_names: Items<ByteString>,
+    /// The paths of the outputs, in the order of the names.
+    pub outputs: Items<StorePath>,
+}
+
+/// An input derivation, its names borrowed from the line. Contracts see the [`NamedInput`].
+#[derive(Drop)]
+pub(crate) struct InputView<'t> {
+    /// The input derivation's path.
+    pub(crate) path: StorePath,
+    /// The names of the outputs, in rising order, possibly none.
+    pub(crate) names: Items<Leaf<'t>>,
+}
+
+impl<'t> Model for InputView<'t> {
+    ghost use Rattle.nd_bundle.specs.declared.line.NamedInput.{NamedInput};
+
+    ghost Value = { NamedInput };
+
+    ghost view = { λ i. record { path = i.path; names = i.names } };
+}
+
+/// What a line says, its names borrowed from it. Contracts see the [`LineNode`].
+#[derive(Drop)]
+pub(crate) struct LineView<'t> {
+    /// The derivation's path.
+    pub(crate) path: StorePath,
+    /// What it needs of the machine that builds it.
+    pub(crate) need: Need,
+    /// The input derivations, by path.
+    pub(crate) inputs: Items<InputView<'t>>,
+    /// The input sources, in rising order.
+    pub(crate) sources: Items<StorePath>,
+    /// The names of the outputs, in rising order.
+    pub(crate) output_names: Items<Leaf<'t>>,
+    /// The paths of the outputs, in the order of the names.
+    pub(crate) outputs: Items<StorePath>,
+}
+
+impl<'t> Model for LineView<'t> {
+    ghost use Rattle.nd_bundle.specs.declared.line.LineNode.{LineNode};
+
+    ghost Value = { LineNode };
+
+    ghost view = { λ n. record { path = n.path; need = n.need; inputs = n.inputs; sources = n.sources; output_names = n.output_names; outputs = n.outputs } };
+}

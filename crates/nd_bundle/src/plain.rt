@@ -1,0 +1,30 @@
+//! The sequential reader of bundles: the clearest body of the reader's contract.
+
+ghost use Rattle.std.specs.Prelude.{◌≡◌, IfOk, IfErr, MatchResult};
+ghost use Rattle.nd_bundle.specs.declared.fault.GraphError.{GraphError};
+ghost use Rattle.nd_bundle.specs.Bundles.{IsBundle, IsFirstFault};
+ghost use Rattle.nd_graph.specs.Graphs.{Nodes};
+
+use crate::collect::read_lines;
+use crate::fault::GraphError;
+use crate::whole::graph_of;
+use nd_graph::Graph;
+use std::alloc::Global;
+
+/// The graph of a bundle: a line for each derivation, its path, a space and its text, the lines
+/// separated by newlines, of which the last may be missing (this project's own format). With
+/// `check_paths` each line's path has to be the one that its name and text have.
+///
+/// Refuses with the first of the refusals 1 to 6 of `GraphError` on the first line that has one,
+/// else with the first of 7 to 11 over the whole, and with `Memory` (12) where an allocation is
+/// refused.
+#[tactic(auto, using(crate::proofs::Told::reads_fit, crate::proofs::Told::is_bundle, crate::proofs::Told::first_fault))]
+pub fn read_bundle(alloc: Global, text: &[u8], check_paths: bool) -> Result<Graph, GraphError>
+    ensures ok { IfOk result (λ graph. IsBundle check_paths text.now graph) }
+    ensures refused { IfErr result (λ fault. IsFirstFault check_paths text.now fault) }
+    ensures exactly { (graph : Nodes) → IsBundle check_paths text.now graph
+        → MatchResult result (λ g. g ≡ graph) (λ e. e ≡ GraphError.Memory) }
+{
+    let read = read_lines(alloc, text, check_paths)?;
+    graph_of(alloc, read)
+}

@@ -1,0 +1,3 @@
+pub mod Bundles
+pub mod Failures
+pub mod Options

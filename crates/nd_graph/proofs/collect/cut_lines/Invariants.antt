@@ -1,9 +1,0 @@
-use Rattle.std.proofs.Common.{◌≡◌, ◌++◌, length, map}
-use Rattle.nd_graph.specs.Lines.{lines}
-use Rattle.nd_graph.proofs.collect.cut_lines.Given as goal
-
-abbrev pub invariant-loop-left : goal.invariant-loop-left
-invariant-loop-left l = map (λ line. line.now) l.found.items ++ lines l.left ≡ lines l.text
-
-abbrev pub decreases-loop-left : goal.decreases-loop-left
-decreases-loop-left l = length l.left

@@ -1,5 +1,0 @@
-use Rattle.nd_graph.proofs.OneBundle.{one_bundle}
-use Rattle.nd_graph.proofs.laws.one_bundle.Goals as goal
-
-pub returns : goal.returns
-returns c = one_bundle

@@ -1,6 +1,0 @@
-use Rattle.std.proofs.Common.{take}
-use Rattle.nd_graph.specs.Whole.{HasInputs}
-use Rattle.nd_graph.proofs.missing.has_inputs.Given as goal
-
-abbrev pub invariant-loop-want : goal.invariant-loop-want
-invariant-loop-want l = HasInputs l.paths.keys (take l.want-index l.wants)

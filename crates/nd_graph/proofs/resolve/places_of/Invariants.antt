@@ -1,6 +1,0 @@
-use Rattle.std.proofs.Common.{take}
-use Rattle.nd_graph.specs.Whole.{ArePlaces}
-use Rattle.nd_graph.proofs.resolve.places_of.Given as goal
-
-abbrev pub invariant-loop-name : goal.invariant-loop-name
-invariant-loop-name l = ArePlaces l.names (take l.name-index l.wanted) l.places.items
