@@ -7,6 +7,10 @@
 # explain.sh       what --explain says of each refusal, and README.md's table of them; needs the built program
 # farm.sh          the replies and the paths of the bundled example; needs the built program
 # runs.py          runs on threads, and the audit of their histories; needs the built program and Python 3
+# serve.sh         sessions of the built program and of the two drivers in examples/serve, one of them killed and
+#                  gone on from; needs the built program and Python 3
+# real-park.sh     a graph on real Nix stores; needs the built program, Nix 2.8 or later, a static busybox, Python 3
+#                  and root
 # allocations.sh   each allocation refused in turn; needs the built program, a C compiler, and the tests of
 #                  `nd_test_ledger` that `rt test` leaves in its folder
 # worlds.py        2,048 random worlds by the plain rules, beside the table of the tests and the program; needs
@@ -32,7 +36,8 @@ fi
 needs_of() {
   case $1 in
     allocations.sh) echo program cc tests ;;
-    runs.py|worlds.py) echo program python3 ;;
+    runs.py|worlds.py|serve.sh) echo program python3 ;;
+    real-park.sh) echo program nix-store busybox python3 root ;;
     wrong-bodies.sh) echo rt git time ;;
     *) echo program ;;
   esac
@@ -43,6 +48,7 @@ wanting() {
   case $1 in
     program) [ -x "$program" ] || echo 'the program is not built: ./build' ;;
     tests) [ -x "$tests" ] || echo 'the tests are not built: cd crates/nd_test_ledger && rt test' ;;
+    root) [ "$(id -u)" -eq 0 ] || echo 'it is for root' ;;
     time) [ -n "$long" ] || echo 'it takes hours: checks/all.sh --long' ;;
     *) command -v "$1" > /dev/null || echo "there is no $1" ;;
   esac

@@ -40,7 +40,7 @@ explained() {
   [ "$(head -n 1 "$folder/said--explain")" = "nix-dispatch: $1" ] || fail "$1: $(cat "$folder/said--explain")"
   cat "$folder/said--explain"
   echo
-  row=$(printf '%s' "$1" | sed 's/ [0-9]*$/ N/; s/^[a-z]*: TooLarge$/INPUT: TooLarge/')
+  row=$(printf '%s' "$1" | sed 's/ [0-9]*$/ N/; s/^[a-z]*: TooLarge$/INPUT: TooLarge/; s/^journal: Illegal .*/journal: Illegal N RULE/')
   printf '%s\n' "$row" >> "$folder/seen"
   [ -n "$(cell "$row" 3)" ] || fail "$row: no row in README.md"
   grep -qxF "where: $2" "$folder/said--explain" || fail "$1: not at $2"
@@ -115,6 +115,17 @@ refused 'history: BadLine 2' 3 "--history, file $folder/history, line 2" audit -
 printf 'Derive()\303\244' > "$folder/in"
 refused 'derivation: BadPath' 3 'NAME' path hello
 refused 'derivation: BadDerivation' 3 'standard input' path hello.drv
+
+# The journal of a session.
+bundle "$good"
+journal=$folder/journal
+printf 'nix-dispatch-history 2\n' > "$journal"
+refused 'journal: NotEmpty' 3 "--journal, file $journal" serve --bundle "$folder/in" --journal "$journal"
+printf 'nix-dispatch-history 2\nbuilt\n' > "$journal"
+refused 'journal: BadLine 2' 3 "--journal, file $journal, line 2" serve --bundle "$folder/in" --journal "$journal" --resume
+printf 'nix-dispatch-history 2\nstarted 0\n' > "$journal"
+refused 'journal: Illegal 0 Live' 3 "--journal, file $journal, line 2" serve --bundle "$folder/in" --journal "$journal" --resume
+refused 'journal failed' 5 '--journal, file /nowhere/journal' serve --bundle "$folder/in" --journal /nowhere/journal
 
 # The devices.
 bundle "$good"

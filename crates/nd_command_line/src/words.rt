@@ -14,7 +14,9 @@ pub fn command_line<'a>(alloc: Global) -> Result<Command<'a>, AllocError> {
     let command = with_command(command, ask_command(alloc))?;
     let command = with_command(command, sim_command(alloc))?;
     let command = with_command(command, audit_command(alloc))?;
-    with_command(command, run_command(alloc))
+    let command = with_command(command, serve_command(alloc))?;
+    let command = with_command(command, run_command(alloc))?;
+    with_command(command, park_command(alloc))
 }
 
 /// The command line with one more command.
@@ -73,15 +75,49 @@ fn audit_command<'a>(alloc: Global) -> Result<Command<'a>, AllocError> {
     command.arg(history)
 }
 
+fn serve_command<'a>(alloc: Global) -> Result<Command<'a>, AllocError> {
+    let command = Command::new(alloc, "serve").about(
+        "Does one command of a script after another as it comes on standard input, and answers each",
+    );
+    let bundle = text_option(alloc, "bundle", "FILE")
+        .required(true)
+        .help("The file that holds the bundle");
+    let command = with_park_and(alloc, command, bundle)?;
+    let journal = text_option(alloc, "journal", "FILE").help(
+        "Where each entry is kept and made durable before it is answered",
+    );
+    let command = command.arg(journal)?;
+    match resume_flag(alloc) {
+        Ok(resume) => command.arg(resume),
+        Err(refused) => {
+            drop(command);
+            Err(refused)
+        }
+    }
+}
+
+/// The flag of a session that goes on from its journal.
+fn resume_flag<'a>(alloc: Global) -> Result<Arg<'a>, AllocError> {
+    Arg::new(alloc, "resume")
+        .long("resume")
+        .action(ArgAction::SetTrue)
+        .help("Goes on from the history that the journal holds")
+        .requires_arg("journal")
+}
+
 fn run_command<'a>(alloc: Global) -> Result<Command<'a>, AllocError> {
     let command = Command::new(alloc, "run").about(
-        "Builds the bundle with stand-ins for the machines, and writes the history",
+        "Builds the bundle by agents, or with stand-ins for the machines, and writes the history",
     );
     let command = with_park_options(alloc, command)?;
     let stand = text_option(alloc, "stand", "FILE").help(
         "What the stand-ins answer: a line for each rule",
     );
     let command = command.arg(stand)?;
+    let agents = text_option(alloc, "agents", "FOLDER")
+        .help("Builds by agents: the folder of their files M.S.calls and M.S.answers")
+        .conflicts_with("stand")?;
+    let command = command.arg(agents)?;
     let report = Arg::new(alloc, "report")
         .long("report")
         .action(ArgAction::SetTrue)
@@ -89,11 +125,27 @@ fn run_command<'a>(alloc: Global) -> Result<Command<'a>, AllocError> {
     command.arg(report)
 }
 
-/// The options of the commands over a bundle.
+fn park_command<'a>(alloc: Global) -> Result<Command<'a>, AllocError> {
+    let command = Command::new(alloc, "park").about(
+        "Writes a line for each slot of the park: machine, slot, URI, key and host key; reads no bundle",
+    );
+    with_park_options(alloc, command)
+}
+
+/// The options of the commands that read the bundle on standard input, unless it is in a file.
 fn with_park_options<'a>(alloc: Global, command: Command<'a>) -> Result<Command<'a>, AllocError> {
     let bundle = text_option(alloc, "bundle", "FILE").help(
         "The file that holds the bundle, which else is read from standard input",
     );
+    with_park_and(alloc, command, bundle)
+}
+
+/// This option for the bundle, and the other options of the commands over one.
+fn with_park_and<'a>(
+    alloc: Global,
+    command: Command<'a>,
+    bundle: Arg<'a>,
+) -> Result<Command<'a>, AllocError> {
     let command = command.arg(bundle)?;
     let builders = text_option(alloc, "builders", "TEXT")
         .default_value("")

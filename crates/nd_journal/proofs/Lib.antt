@@ -1,2 +1,3 @@
 pub mod LinesKept
 pub mod Reading
+pub mod OneAnswer

@@ -1,7 +1,7 @@
 -- A journal as bytes: the text of a history in the second version, and perhaps a last line that isn't finished. Histories stand oldest first.
 -- The form is this project's own.
 -- Public clauses cite this; `BeginsSecond` serves private ones too.
-use Rattle.std.specs.Prelude.{◌≡◌, ◌⊎◌, ℕ, List, [], ◌++◌, codes}
+use Rattle.std.specs.Prelude.{◌≡◌, ◌⊎◌, ℕ, ◌<◌, List, [], ◌++◌, length, Result, MatchResult, codes}
 use Rattle.std.specs.Fmt.{decimal}
 use Rattle.std.specs.List.{All}
 use Rattle.nd_history.specs.declared.entry.Entry.{Entry}
@@ -9,6 +9,7 @@ use Rattle.nd_history_text.specs.HistoryTexts.{first_line, history_text}
 use Rattle.nd_history_text.specs.Sound.{IsTold, IsFirstBad}
 use Rattle.nd_history_text.specs.declared.kinds.Version.TheVariants.{Second}
 use Rattle.nd_journal.specs.WholeLines.{whole_lines}
+use Rattle.nd_journal.specs.declared.journal.Journal.{Journal}
 use Rattle.nd_journal.specs.declared.journal.JournalError.{JournalError}
 use Rattle.nd_journal.specs.declared.journal.JournalError.TheVariants.{BadLine, Memory}
 
@@ -34,15 +35,25 @@ pub record IsUnbegun (bytes : List ℕ) (entries : List Entry) : Type 0 where
 abbrev pub IsReadAs : List ℕ → List Entry → Type 0
 IsReadAs bytes entries = IsUnbegun bytes entries ⊎ IsJournalText bytes entries
 
--- the first line is another
+-- there is a whole line, and the first one is another
 pub record IsFirstLineBad (bytes : List ℕ) (number : ℕ) : Type 0 where
+  pub some : 0 < length (whole_lines bytes)
   pub first : number ≡ 1
   pub other : BeginsOther (whole_lines bytes)
 
+-- the first line is that of the second version, and this is the first whole line that is no entry's
+pub record IsLaterLineBad (bytes : List ℕ) (number : ℕ) : Type 0 where
+  pub bad : IsFirstBad (whole_lines bytes) number
+  pub second : bad.version ≡ Second
+
 -- a journal is refused where its first line isn't that of the second version, then for its first whole line that is no entry's
 abbrev pub IsJournalRefused : List ℕ → JournalError → Type 0
-IsJournalRefused bytes (BadLine number) = IsFirstLineBad bytes number ⊎ IsFirstBad (whole_lines bytes) number
+IsJournalRefused bytes (BadLine number) = IsFirstLineBad bytes number ⊎ IsLaterLineBad bytes number
 IsJournalRefused bytes Memory = Unit {0}
+
+-- the journal with these bytes was read, unless memory ran out
+abbrev pub IsReadUnlessMemory : Result Journal JournalError → List Entry → Type 0
+IsReadUnlessMemory answer entries = MatchResult answer (λ journal. journal.entries.items ≡ entries) (λ e. e ≡ Memory)
 
 -- what is printed of a refusal
 abbrev pub refusal_text : JournalError → List ℕ

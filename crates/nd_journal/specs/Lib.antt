@@ -1,2 +1,3 @@
 pub mod WholeLines
 pub mod JournalTexts
+pub mod JournalLaws

@@ -1,11 +1,10 @@
 //! Reading a journal.
 
-ghost use Rattle.std.specs.Prelude.{◌≡◌, List, length, IfOk, IfErr, MatchBool, MatchResult};
+ghost use Rattle.std.specs.Prelude.{◌≡◌, List, length, IfOk, IfErr, MatchBool};
 ghost use Rattle.nd_history.specs.declared.entry.Entry.{Entry};
 ghost use Rattle.nd_history_text.specs.HistoryTexts.{first_line};
 ghost use Rattle.nd_history_text.specs.declared.kinds.Version.{Version};
-ghost use Rattle.nd_journal.specs.declared.journal.JournalError.{JournalError};
-ghost use Rattle.nd_journal.specs.JournalTexts.{BeginsSecond, BeginsOther, IsReadAs, IsJournalText, IsJournalRefused};
+ghost use Rattle.nd_journal.specs.JournalTexts.{BeginsSecond, BeginsOther, IsReadAs, IsReadUnlessMemory, IsJournalRefused};
 ghost use Rattle.nd_journal.specs.WholeLines.{whole_lines};
 
 use crate::cutting::whole_lines;
@@ -55,12 +54,12 @@ pub struct Journal {
 ///
 /// Refuses with `BadLine` (1) and the number of the first whole line that isn't one of a journal, the first
 /// line being 1, and with `Memory` (2) where an allocation is refused.
-#[tactic(auto, using(crate::proofs::Reading::readings))]
+#[tactic(auto, using(crate::proofs::OneAnswer::readings))]
 pub fn read_journal(alloc: Global, bytes: &[u8]) -> Result<Journal, JournalError>
     ensures read { IfOk result (λ journal. IsReadAs bytes.now journal.entries.items) }
     ensures length { IfOk result (λ journal. journal.length ≡ length (whole_lines bytes.now)) }
     ensures refused { IfErr result (IsJournalRefused bytes.now) }
-    ensures exactly { (entries : List Entry) → IsJournalText bytes.now entries → MatchResult result (λ journal. journal.entries.items ≡ entries) (λ e. e ≡ JournalError.Memory) }
+    ensures exactly { (entries : List Entry) → IsReadAs bytes.now entries → IsReadUnlessMemory result entries }
 {
     let whole = whole_lines(bytes);
     let length = whole.len();

@@ -3,6 +3,7 @@
 
 pub mod cutting;
 pub mod journal;
+pub mod laws;
 
 pub use cutting::whole_lines;
 pub use journal::{Journal, JournalError, read_journal};

@@ -9,3 +9,8 @@ plain (y ∷ ys) = ap (λ rest. y ∷ rest) (plain ys)
 pub same_places : {X Y : Type 0} (P : List (ℕ × ℕ) → Type 0) (f : X → ℕ × ℕ) (g : Y → ℕ × ℕ) (workers : List X) (taken seats : List Y) → map f workers ≡ map g taken → map (λ y. y) taken ≡ seats
     → P (map g seats) → P (map f workers)
 same_places P f g workers taken seats same all holds = subst P (sym (same ∙ ap (map g) (sym (plain taken) ∙ all))) holds
+
+-- .. and of workers on places that were taken one by one
+pub these_places : {X : Type 0} (P : List (ℕ × ℕ) → Type 0) (f : X → ℕ × ℕ) (workers : List X) (taken places : List (ℕ × ℕ)) → map f workers ≡ taken → map (λ y. y) taken ≡ places
+    → P places → P (map f workers)
+these_places P f workers taken places same all holds = subst P (sym (same ∙ sym (plain taken) ∙ all)) holds

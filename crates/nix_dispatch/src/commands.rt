@@ -1,6 +1,8 @@
 //! What each command does with its words.
 
-use crate::stand_ins::run_stand_ins;
+use crate::agents::run_given;
+use crate::listing::list_park;
+use crate::serving::serve;
 use clap::ArgMatches;
 use clap::error::ErrorKind;
 use nd_cli::{CliFault, ask_engine, path_engine};
@@ -13,6 +15,7 @@ use nd_devices::Told;
 use nd_explain::{Failure, Heard, Source};
 use std::alloc::Global;
 use std::fmt;
+use std::fs::File;
 use std::io::{self, BufWriter, Read, Write};
 use std::rt::Files;
 use std::sync::Wait;
@@ -23,11 +26,10 @@ const USAGE: u8 = 2;
 
 /// Runs the command that the words name, and answers the exit status. Help that is asked for goes
 /// to standard output with status 0, a word that isn't understood to standard error with status 2.
-pub(crate) fn run<'a, R: Files + Input + Print + Eprint + AllocGlobal + Threads + Wait + Sync>(
-    rt: &R,
-    alloc: Global,
-    given: &'a [String],
-) -> u8 {
+pub(crate) fn run<
+    'a,
+    R: Files<File = File> + Input + Print + Eprint + AllocGlobal + Threads + Wait + Sync,
+>(rt: &R, alloc: Global, given: &'a [String]) -> u8 {
     let Ok(command) = command_line(alloc) else {
         return told(rt, &CliFault::Memory);
     };
@@ -55,24 +57,25 @@ pub(crate) fn run<'a, R: Files + Input + Print + Eprint + AllocGlobal + Threads 
 }
 
 /// What the command that was named answers, and `None` where none of the commands was.
-fn answer_to<'a, R: Files + Input + Print + AllocGlobal + Threads + Wait + Sync>(
-    rt: &R,
-    alloc: Global,
-    matches: &ArgMatches<'a>,
-) -> Option<Result<u8, Failure<'a>>> {
+fn answer_to<
+    'a,
+    R: Files<File = File> + Input + Print + Eprint + AllocGlobal + Threads + Wait + Sync,
+>(rt: &R, alloc: Global, matches: &ArgMatches<'a>) -> Option<Result<u8, Failure<'a>>> {
     match matches.subcommand() {
         Some(("path", options)) => Some(path(rt, alloc, options)),
         Some(("ask", options)) => Some(ask(rt, alloc, options)),
         Some(("sim", options)) => Some(sim(rt, alloc, options)),
         Some(("audit", options)) => Some(audit(rt, alloc, options)),
-        Some(("run", options)) => Some(run_stand_ins(rt, alloc, options)),
+        Some(("serve", options)) => Some(Ok(serve(rt, alloc, options))),
+        Some(("run", options)) => Some(run_given(rt, alloc, options)),
+        Some(("park", options)) => Some(list_park(rt, alloc, options)),
         _ => None,
     }
 }
 
 /// Says why a command gave no answer, where asked with what is known about it, and answers the exit
 /// status.
-fn told_why<R: Eprint>(rt: &R, failure: &Failure, explain: bool) -> u8 {
+pub(crate) fn told_why<R: Eprint>(rt: &R, failure: &Failure, explain: bool) -> u8 {
     let status = told(rt, &failure.fault);
     if explain {
         say(rt, failure);
@@ -94,7 +97,7 @@ pub(crate) fn told<R: Eprint>(rt: &R, fault: &CliFault) -> u8 {
 }
 
 /// Writes a value in a line on standard error, as far as that takes it.
-fn say<R: Eprint, T: fmt::Display>(rt: &R, value: &T) {
+pub(crate) fn say<R: Eprint, T: fmt::Display>(rt: &R, value: &T) {
     let _ = eprintln!(rt; "{value}");
 }
 

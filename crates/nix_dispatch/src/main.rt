@@ -2,13 +2,18 @@
 //! Nix's build hook does for one derivation at a time.
 //!
 //! The program itself reads the command line and the files that it names, and leaves the rest to
-//! the engines of `nd_cli`, `nd_commands` and `nd_run_command`.
+//! the engines of `nd_cli`, `nd_commands`, `nd_serve_command` and `nd_run_command`.
 #![tactic(auto)]
 
+mod agents;
 mod commands;
+mod journal_files;
+mod listing;
+mod serving;
 mod stand_ins;
 
 use nd_cli::CliFault;
+use std::fs::File;
 use std::process::ExitCode;
 use std::rt::{Env, Files};
 use std::sync::Wait;
@@ -21,9 +26,9 @@ fn main(rt: HostRuntime) -> ExitCode {
 
 /// Reads the words of the command line, runs the command that they name, and answers the exit
 /// status.
-fn program<R: Env + Files + Input + Print + Eprint + AllocGlobal + Threads + Wait + Sync>(
-    rt: &R,
-) -> u8 {
+fn program<
+    R: Env + Files<File = File> + Input + Print + Eprint + AllocGlobal + Threads + Wait + Sync,
+>(rt: &R) -> u8 {
     let given = match env::args(rt) {
         Ok(given) => given,
         Err(error) => return words_refused(rt, &error),

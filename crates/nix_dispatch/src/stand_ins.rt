@@ -42,7 +42,7 @@ pub(crate) fn run_stand_ins<'a, R: Files + Input + Print + AllocGlobal + Threads
 }
 
 /// What is read and accepted: the files that the options name, and then the bundle.
-fn inputs<'a, R: Files + Input + Threads + Sync>(
+pub(crate) fn inputs<'a, R: Files + Input + Threads + Sync>(
     rt: &R,
     alloc: Global,
     options: &ArgMatches<'a>,

@@ -1,0 +1,4 @@
+pub mod Relays
+pub mod Once
+pub mod Asking
+pub mod Hearings

@@ -1,0 +1,6 @@
+pub mod CallTexts
+pub mod AnswerTexts
+pub mod Relayed
+pub mod Heard
+pub mod Wires
+pub mod Agents

@@ -1,0 +1,76 @@
+-- What a call of an agent does to the two devices between it and its caller: one line is written, and one is read.
+-- Public clauses cite this.
+use Rattle.std.specs.Prelude.{◌≡◌, ◌⊎◌, ℕ, Bool, true, false, List, Option}
+use Rattle.std.specs.Io.KnownBytes.{Appends, Consumes}
+use Rattle.nd_devices.specs.Watched.{Watched}
+use Rattle.nd_devices.specs.Written.{WritesPart}
+use Rattle.nd_transports.specs.declared.kinds.Answer.{Answer}
+use Rattle.nd_transports.specs.declared.kinds.Answer.TheVariants.{Lost}
+use Rattle.nd_agents.specs.CallTexts.{line_with}
+use Rattle.nd_agents.specs.AnswerTexts.{word_line, IsAnswer}
+use Rattle.nd_agents.specs.Heard.{IsNeither}
+
+-- the way to an agent: the reader of its answers, the writer of its calls, and whether it is gone
+pub record Wired (R W : Type 0) : Type 0 where
+  pub answers : Watched R
+  pub calls : Watched W
+  pub is_gone : Bool
+
+-- an agent that is there, with which nothing was spoken yet
+abbrev pub wired : {R W : Type 0} → R → W → Wired R W
+wired answers calls = record {
+  answers = record { device = answers; is_marked = false };
+  calls = record { device = calls; is_marked = false };
+  is_gone = false;
+}
+
+-- the line of the call was written whole, and then this line read; the agent is there
+pub record Exchanges {R W : Type 0} (remaining : R → Option (List ℕ)) (contents : W → Option (List ℕ)) (old new : Wired R W) (call answer : List ℕ) : Type 0 where
+  pub written : Appends (contents old.calls.device) (contents new.calls.device) call
+  pub read : Consumes (remaining old.answers.device) (remaining new.answers.device) answer
+  pub here : new.is_gone ≡ false
+
+-- of the line of the call a part was written, from its beginning, and maybe all of it; the agent is gone
+pub record BreaksOff {R W : Type 0} (contents : W → Option (List ℕ)) (old new : Wired R W) (call : List ℕ) : Type 0 where
+  pub written : WritesPart (contents old.calls.device) (contents new.calls.device) call
+  pub gone : new.is_gone ≡ true
+
+-- why there is neither a yes nor a no: a device refused and is marked, or what the reader had left begins with neither
+abbrev pub HasNoWord : {R W : Type 0} → (R → Option (List ℕ)) → Wired R W → Wired R W → Type 0
+HasNoWord remaining old new = (new.calls.is_marked ≡ true) ⊎ (new.answers.is_marked ≡ true) ⊎ IsNeither (remaining old.answers.device)
+
+-- the answer is no, since the agent broke off
+pub record IsUnheard {R W : Type 0} (remaining : R → Option (List ℕ)) (contents : W → Option (List ℕ)) (old new : Wired R W) (call : List ℕ) (answered : Bool) : Type 0 where
+  pub no : answered ≡ false
+  pub broken : BreaksOff contents old new call
+  pub cause : HasNoWord remaining old new
+
+-- What a call comes to that wants a yes or a no. An agent that is gone isn't called. Else the answer is the line that was read, or
+-- it is no and the agent is gone.
+pub record IsAsked {R W : Type 0} (remaining : R → Option (List ℕ)) (contents : W → Option (List ℕ)) (old new : Wired R W) (call : List ℕ) (answered : Bool) : Type 0 where
+  pub gone : old.is_gone ≡ true → (answered ≡ false) × (new ≡ old)
+  pub here : old.is_gone ≡ false → Exchanges remaining contents old new call (word_line answered) ⊎ IsUnheard remaining contents old new call answered
+
+-- the answer to a build is what the line that was read says
+pub record IsToldBy {R W : Type 0} (remaining : R → Option (List ℕ)) (contents : W → Option (List ℕ)) (old new : Wired R W) (call : List ℕ) (answer : Answer) : Type 0 where
+  pub line : List ℕ
+  pub says : IsAnswer line answer
+  pub exchanged : Exchanges remaining contents old new call (line_with line)
+
+-- the build is lost since there was no memory for what the line that was read says; the agent is there
+pub record IsForgotten {R W : Type 0} (remaining : R → Option (List ℕ)) (contents : W → Option (List ℕ)) (old new : Wired R W) (call : List ℕ) (answer : Answer) : Type 0 where
+  pub line : List ℕ
+  pub lost : answer ≡ Lost
+  pub exchanged : Exchanges remaining contents old new call (line_with line)
+
+-- the build is lost since the agent broke off
+pub record IsBroken {R W : Type 0} (contents : W → Option (List ℕ)) (old new : Wired R W) (call : List ℕ) (answer : Answer) : Type 0 where
+  pub lost : answer ≡ Lost
+  pub broken : BreaksOff contents old new call
+
+-- What the call of a build comes to. An agent that is gone isn't called, and the build is lost. Else the answer is what the line that
+-- was read says, or the build is lost: the agent is gone, or there was no memory for what the line says.
+pub record IsBuildAsked {R W : Type 0} (remaining : R → Option (List ℕ)) (contents : W → Option (List ℕ)) (old new : Wired R W) (call : List ℕ) (answer : Answer) : Type 0 where
+  pub gone : old.is_gone ≡ true → (answer ≡ Lost) × (new ≡ old)
+  pub here : old.is_gone ≡ false
+      → IsToldBy remaining contents old new call answer ⊎ IsForgotten remaining contents old new call answer ⊎ IsBroken contents old new call answer

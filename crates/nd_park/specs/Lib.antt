@@ -1,0 +1,3 @@
+pub mod SlotLines
+pub mod Listed
+pub mod Limits

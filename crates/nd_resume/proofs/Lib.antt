@@ -1,0 +1,2 @@
+pub mod TakenUp
+pub mod OneAnswer

@@ -1,0 +1,2 @@
+pub mod Resumes
+pub mod ResumeLaws

@@ -1,0 +1,55 @@
+-- What a session begins with.
+use Rattle.std.proofs.Common.{◌≡◌, ◌∙◌, ◌==◌, ℕ, ◌<◌, Bool, true, false, List, [], ◌∷◌, length, refl, sym, subst, arith, eqb-true, true≢false}
+use Rattle.std.proofs.lemmas.Bool.{eqb-false}
+use Rattle.nd_history.specs.declared.entry.Entry.{Entry}
+use Rattle.nd_history.specs.declared.rule.Rule.{Rule}
+use Rattle.nd_history.specs.Premises.{Premises}
+use Rattle.nd_ledger.specs.Worlds.{World}
+use Rattle.nd_resume.specs.Resumes.{IsResumeRefused}
+use Rattle.nd_resume.specs.declared.resume_error.ResumeError.{ResumeError}
+use Rattle.nd_resume.specs.declared.resume_error.ResumeError.TheVariants.{BadLine, Illegal, Memory as NoRoom}
+use Rattle.nd_serve_command.specs.Faults.{fault_of_journal}
+use Rattle.nd_serve_command.specs.Sessions.{MayHold, HoldsSome, IsJournalFault}
+use Rattle.nd_serve_command.specs.declared.fault.ServeFault.{ServeFault}
+
+pub may_resume : (resumes : Bool) (journal : List ℕ) → resumes ≡ true → MayHold resumes journal
+may_resume true journal same = tt
+may_resume false journal same = absurd (true≢false (sym same))
+
+pub may_be_new : (resumes : Bool) (journal : List ℕ) (none : Bool) → none ≡ (length journal == 0) → none ≡ true → resumes ≡ false → MayHold resumes journal
+may_be_new true journal none is h same = tt
+may_be_new false [] none is h same = refl
+may_be_new false (b ∷ journal) none is h same =
+    let nothing : length (b ∷ journal) ≡ 0 = eqb-true (length (b ∷ journal)) 0 (sym is ∙ h) in absurd (omega arith)
+
+some_held : (journal : List ℕ) → (length journal == 0) ≡ false → 0 < length journal
+some_held [] h = absurd (eqb-false 0 0 h refl)
+some_held (b ∷ journal) h = omega arith
+
+pub holds_some : (resumes : Bool) (journal : List ℕ) (none : Bool) → none ≡ (length journal == 0) → none ≡ false → resumes ≡ false → HoldsSome resumes journal
+holds_some resumes journal none is h same = (same, some_held journal (sym is ∙ h))
+
+pub ruleset beginnings = (may_resume, may_be_new, holds_some)
+
+-- ---- why a journal isn't begun with
+
+bad_line : (number : ℕ) → BadLine number ≡ NoRoom → ⊥
+bad_line number same = cc
+
+illegal : (index : ℕ) (rule : Rule) → Illegal index rule ≡ NoRoom → ⊥
+illegal index rule same = cc
+
+pub journal_refused : (i : Premises) (journal : List ℕ) (resumes : Bool) (e : ResumeError) → MayHold resumes journal → IsResumeRefused i journal e
+    → IsJournalFault i journal resumes (fault_of_journal e)
+journal_refused i journal resumes (BadLine number) may refused = (may, bad_line number, refused)
+journal_refused i journal resumes (Illegal index rule) may refused = (may, illegal index rule, refused)
+journal_refused i journal resumes NoRoom may refused = refl
+
+pub fault_refused : (i : Premises) (journal : List ℕ) (resumes : Bool) (e : ResumeError) (fault : ServeFault) → MayHold resumes journal → IsResumeRefused i journal e
+    → fault ≡ fault_of_journal e → IsJournalFault i journal resumes fault
+fault_refused i journal resumes e fault may refused same = subst (IsJournalFault i journal resumes) (sym same) (journal_refused i journal resumes e may refused)
+
+-- ---- two dispatches with the same inputs and the same history are one
+
+pub same_world : (one other : World) → one.inputs ≡ other.inputs → one.history ≡ other.history → one ≡ other
+same_world one other inputs history = λ j. record { inputs = inputs j; history = history j }

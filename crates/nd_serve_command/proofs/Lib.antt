@@ -1,0 +1,3 @@
+pub mod LineReading
+pub mod Ended
+pub mod Begun

@@ -1,0 +1,47 @@
+-- What is said of a fault of a journal. The words are this project's own: they are those of the table "Refusals" of README.md. Public clauses
+-- cite `advice_words`; the others serve private ones.
+use Rattle.std.specs.Prelude.{ℕ, ◌+◌, ◌^◌, List, Option, Some, None, codes, nat_lt, if◌then◌else◌}
+use Rattle.nd_explain.specs.AdviceWords.{advice_words as words_on}
+use Rattle.nd_resume.specs.declared.resume_error.ResumeError.{ResumeError}
+use Rattle.nd_resume.specs.declared.resume_error.ResumeError.TheVariants.{BadLine, Illegal, Memory}
+use Rattle.nd_serve_command.specs.declared.fault.ServeFault.{ServeFault}
+use Rattle.nd_serve_command.specs.declared.fault.ServeFault.TheVariants.{Cli, NotEmpty, Journal, JournalFailed}
+
+abbrev pub advice_words_of_journal : ResumeError → List ℕ × List ℕ
+advice_words_of_journal (BadLine number) = (
+  codes "the line isn't one of a journal: nix-dispatch-history 2, and then a line for each entry",
+  codes "take the journal as it was written",
+)
+advice_words_of_journal (Illegal index rule) = (
+  codes "the entry isn't allowed after those before it, by the rule that is named",
+  codes "give the bundle and the options that the journal was begun with",
+)
+advice_words_of_journal Memory = (
+  codes "there was no memory",
+  codes "give the program more memory, or less to do",
+)
+
+-- the cause and the cure
+abbrev pub advice_words : ServeFault → List ℕ × List ℕ
+advice_words (Cli fault) = words_on fault
+advice_words NotEmpty = (
+  codes "the journal holds something already, and --resume isn't given",
+  codes "give --resume to go on from it, or name another file",
+)
+advice_words (Journal refusal) = advice_words_of_journal refusal
+advice_words JournalFailed = (
+  codes "the journal can't be opened, or the system refused to read, cut or write it or to make it durable",
+  codes "look at what the system says of it",
+)
+
+-- the line of the journal that a fault is about: its first line is no entry's, and a place beyond the numbers of 64 bits isn't told
+abbrev pub line_of_journal : ResumeError → Option ℕ
+line_of_journal (BadLine number) = Some number
+line_of_journal (Illegal index rule) = if nat_lt (index + 2) (2 ^ 64) then Some (index + 2) else None
+line_of_journal Memory = None
+
+abbrev pub line_named : ServeFault → Option ℕ
+line_named (Cli fault) = None
+line_named NotEmpty = None
+line_named (Journal refusal) = line_of_journal refusal
+line_named JournalFailed = None

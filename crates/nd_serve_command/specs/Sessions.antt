@@ -1,0 +1,126 @@
+-- What `serve` begins with, and what it comes to. Histories stand oldest first.
+-- Public clauses cite this, but for `IsJournalFault`, `HoldsSome`, `ReadsAccepted` and `TakesUnlessMemory`, which serve private ones.
+use Rattle.std.specs.Prelude.{◌≡◌, ◌≢◌, ℕ, ◌<◌, Bool, true, false, List, [], length, reverse, Option, Some, Result, Ok, Err, MatchResult}
+use Rattle.nd_desk.specs.declared.event.Event.{Event}
+use Rattle.nd_desk.specs.declared.fault.SessionFault.{SessionFault}
+use Rattle.nd_devices.specs.Watched.{Watched}
+use Rattle.nd_history.specs.declared.entry.Entry.{Entry}
+use Rattle.nd_history.specs.Premises.{Premises}
+use Rattle.nd_history.specs.Legal.{IsLegal}
+use Rattle.nd_history.specs.Statuses.{IsExitStatus}
+use Rattle.nd_ledger.specs.Worlds.{World}
+use Rattle.nd_resume.specs.Resumes.{IsResumable, IsResumeRefused}
+use Rattle.nd_resume.specs.declared.resume_error.ResumeError.TheVariants.{Memory as NoRoom}
+use Rattle.nd_serve.specs.Sessions.{Serves, ServesPart, first_of}
+use Rattle.nd_serve.specs.SessionLaws.{IsSimulated}
+use Rattle.nd_cli.specs.Asked.{IsAskFault}
+use Rattle.nd_cli.specs.Inputs.{ReadsWhole, is_read_fault}
+use Rattle.nd_cli.specs.declared.options.ParkOptions.{ParkOptions}
+use Rattle.nd_cli.specs.declared.fault.CliFault.{CliFault}
+use Rattle.nd_cli.specs.declared.fault.CliFault.TheVariants.{Read, Memory}
+use Rattle.nd_commands.specs.Opened.{HasInputs, ReadsInputs}
+use Rattle.nd_serve_command.specs.Faults.{fault_of}
+use Rattle.nd_serve_command.specs.declared.fault.ServeFault.{ServeFault}
+use Rattle.nd_serve_command.specs.declared.fault.ServeFault.TheVariants.{Cli, NotEmpty, Journal, JournalFailed}
+use Rattle.nd_serve_command.specs.declared.opening.Opened.{Opened}
+
+-- ---- the opening
+
+-- a journal that isn't resumed from holds nothing
+abbrev pub MayHold : Bool → List ℕ → Type 0
+MayHold true journal = Unit {0}
+MayHold false journal = journal ≡ []
+
+-- .. and this one does hold something
+abbrev pub HoldsSome : Bool → List ℕ → Type 0
+HoldsSome resumes journal = (resumes ≡ false) × (0 < length journal)
+
+-- the bundle with this text and the park of the options make these inputs, and the journal tells this legal history
+pub record AcceptsSession (options : ParkOptions) (text journal : List ℕ) (resumes : Bool) (world : World) : Type 0 where
+  pub inputs : HasInputs options text world.inputs
+  pub may : MayHold resumes journal
+  pub history : IsResumable world.inputs journal world.history
+
+-- .. of a bundle that was read whole
+pub record BeginsSession {R : Type 0} (options : ParkOptions) (journal : List ℕ) (resumes : Bool) (remaining : R → Option (List ℕ)) (reader reader_after : Watched R) (world : World) : Type 0 where
+  pub text : List ℕ
+  pub read : ReadsWhole (remaining reader.device) (remaining reader_after.device) text
+  pub accepts : AcceptsSession options text journal resumes world
+
+-- Why the journal isn't begun with: it holds something, or it tells no legal history. Want of memory is no refusal of it.
+abbrev pub IsJournalFault : Premises → List ℕ → Bool → ServeFault → Type 0
+IsJournalFault i journal resumes (Cli fault) = fault ≡ Memory
+IsJournalFault i journal resumes NotEmpty = HoldsSome resumes journal
+IsJournalFault i journal resumes (Journal e) = MayHold resumes journal × (e ≢ NoRoom) × IsResumeRefused i journal e
+IsJournalFault i journal resumes JournalFailed = ⊥
+
+-- the bundle and the park are accepted, and the journal is refused for this reason
+pub record RefusesJournal (options : ParkOptions) (journal : List ℕ) (resumes : Bool) (unread left : Option (List ℕ)) (fault : ServeFault) : Type 0 where
+  pub inputs : Premises
+  pub reads : ReadsInputs options unread left inputs
+  pub refused : IsJournalFault inputs journal resumes fault
+
+-- Why there is no session: as of `ask` the bundle or the park is refused, the reader failed and is marked, or memory ran out; or the journal
+-- is refused.
+abbrev pub IsOpenFault : {R : Type 0} → ParkOptions → List ℕ → Bool → (R → Option (List ℕ)) → Watched R → Watched R → ServeFault → Type 0
+IsOpenFault options journal resumes remaining reader reader_after (Cli fault) = IsAskFault options remaining reader reader_after false fault
+IsOpenFault options journal resumes remaining reader reader_after NotEmpty =
+    RefusesJournal options journal resumes (remaining reader.device) (remaining reader_after.device) NotEmpty
+IsOpenFault options journal resumes remaining reader reader_after (Journal e) =
+    RefusesJournal options journal resumes (remaining reader.device) (remaining reader_after.device) (Journal e)
+IsOpenFault options journal resumes remaining reader reader_after JournalFailed = ⊥
+
+-- the answer is the reader's fault
+abbrev pub is_unread : {A : Type 0} → Result A ServeFault → Bool
+is_unread (Ok _) = false
+is_unread (Err (Cli fault)) = is_read_fault fault
+is_unread (Err _) = false
+
+-- a reader failed, or memory ran out
+abbrev pub IsDeviceFault : CliFault → Type 0
+IsDeviceFault Read = Unit {0}
+IsDeviceFault Memory = Unit {0}
+IsDeviceFault _ = ⊥
+
+abbrev pub IsNoRefusal : ServeFault → Type 0
+IsNoRefusal (Cli fault) = IsDeviceFault fault
+IsNoRefusal NotEmpty = ⊥
+IsNoRefusal (Journal e) = ⊥
+IsNoRefusal JournalFailed = ⊥
+
+-- the answer is a dispatch over these inputs with this history, unless the reader failed or memory ran out
+abbrev pub BeginsUnlessDevice : Result Opened ServeFault → World → Type 0
+BeginsUnlessDevice answer world = MatchResult answer (λ opened. opened.dispatch ≡ world) IsNoRefusal
+
+-- .. wherever the reader is known to have a bundle left that is accepted, with the park and the journal
+abbrev pub AnswersAcceptedSession : ParkOptions → List ℕ → Bool → Option (List ℕ) → Result Opened ServeFault → Type 0
+AnswersAcceptedSession options journal resumes unread answer =
+    (text : List ℕ) (world : World) → unread ≡ Some text → AcceptsSession options text journal resumes world → BeginsUnlessDevice answer world
+
+-- .. of the bundle and the park alone
+abbrev pub ReadsUnlessDevice : Result World CliFault → Premises → Type 0
+ReadsUnlessDevice answer inputs = MatchResult answer (λ dispatch. dispatch.inputs ≡ inputs) IsDeviceFault
+
+abbrev pub ReadsAccepted : ParkOptions → Option (List ℕ) → Result World CliFault → Type 0
+ReadsAccepted options unread answer = (text : List ℕ) (inputs : Premises) → unread ≡ Some text → HasInputs options text inputs → ReadsUnlessDevice answer inputs
+
+-- .. of the journal alone
+abbrev pub TakesUnlessMemory : Result Opened ServeFault → List Entry → Type 0
+TakesUnlessMemory answer entries = MatchResult answer (λ opened. opened.dispatch.history ≡ entries) (λ e. e ≡ Cli Memory)
+
+-- ---- the session
+
+-- A session from this dispatch on, with a journal that is begun or not, up to the end of the input. One that began with the empty history is
+-- the simulation of its commands, with a line `ready` behind the text of the opening and of each of them; and the history stays legal.
+pub record EndsSession (start : World) (fresh : Bool) (status : ℕ) (old new : Option (List Event)) : Type 0 where
+  pub history : List Entry
+  pub serves : Serves start.inputs start.history history (first_of fresh) old new
+  pub simulated : start.history ≡ [] → IsSimulated start.inputs serves.opening serves.turns history serves.events
+  pub legal : IsLegal start.inputs (reverse start.history) → IsLegal start.inputs (reverse history)
+  pub exit : IsExitStatus start.inputs (reverse history) status
+
+-- .. up to a turn that ends early: nothing of that is answered, but for a part of the answer where the output refused it
+pub record CutsSession (start : World) (fresh : Bool) (fault : ServeFault) (old new : Option (List Event)) : Type 0 where
+  pub cause : SessionFault
+  pub is : fault ≡ fault_of cause
+  pub part : ServesPart start.inputs start.history (first_of fresh) old new cause

@@ -1,0 +1,68 @@
+//! The devices of a session, as one desk.
+
+ghost use Rattle.std.specs.Prelude.{◌↔◌, IsTrue, is_ok, OnOk};
+ghost use Rattle.std.specs.Io.KnownBytes.{Appends};
+
+use crate::journals::Journal;
+use crate::lines::{fault_of, next_line};
+use nd_bytes::ByteString;
+use nd_desk::{Desk, DeskFault};
+use std::alloc::Global;
+use std::io::{self, BufRead, Write};
+
+/// A reader of lines, a writer and a journal. What is done to them isn't known to contracts.
+#[derive(Drop)]
+pub struct Devices<R, W, J> {
+    /// Where lines come from.
+    pub input: R,
+    /// Where answers go.
+    pub output: W,
+    /// Where entries are kept.
+    pub journal: J,
+}
+
+impl<R: BufRead, W: Write, J: Journal> Desk for Devices<R, W, J> {
+    ghost use Rattle.std.specs.Prelude.{None};
+
+    ghost log = { λ _. None };
+
+    fn hear(&mut self, alloc: Global) -> Result<Option<ByteString>, DeskFault> {
+        next_line(alloc, &mut self.input)
+    }
+
+    fn append(&mut self, bytes: &[u8]) -> Result<(), DeskFault> {
+        done(self.journal.append(bytes))
+    }
+
+    fn sync(&mut self) -> Result<(), DeskFault> {
+        done(self.journal.sync())
+    }
+
+    fn answer(&mut self, bytes: &[u8]) -> Result<(), DeskFault> {
+        pass_on(bytes, &mut self.output)
+    }
+}
+
+/// Writes all of these bytes, and has the writer pass on what it holds back.
+fn pass_on<W: Write>(bytes: &[u8], output: &mut W) -> Result<(), DeskFault>
+    ensures { OnOk result (Appends (W.contents output.old) (W.contents output.new) bytes.now) }
+{
+    match output.write_all(bytes) {
+        Ok(()) => {}
+        Err(error) => return Err(fault_of(error)),
+    }
+    match output.flush() {
+        Ok(()) => Ok(()),
+        Err(error) => Err(fault_of(error)),
+    }
+}
+
+/// Whether a device did what it was asked for.
+fn done(answer: io::Result<()>) -> Result<(), DeskFault>
+    ensures { IsTrue (is_ok result) ↔ IsTrue (is_ok answer) }
+{
+    match answer {
+        Ok(()) => Ok(()),
+        Err(error) => Err(fault_of(error)),
+    }
+}

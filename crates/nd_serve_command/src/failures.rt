@@ -1,0 +1,124 @@
+//! A fault of a journal with what is known about it, and the lines that say so.
+
+ghost use Rattle.std.specs.Prelude.{◌≡◌};
+ghost use Rattle.nd_serve_command.specs.Advised.{advice_words, advice_words_of_journal, line_named};
+
+use crate::fault::ServeFault;
+use nd_explain::{Advice, advice_on, excerpt, line_of};
+use nd_resume::ResumeError;
+use std::alloc::Global;
+use std::{fmt, io};
+
+/// A fault of the journal in a file, with what is known about it. `Display` writes a line for each thing that
+/// is known, and none for the fault itself: where it is, what the system said, what stands there, the cause
+/// and the cure. The last newline is left out.
+#[derive(Drop)]
+pub struct JournalFailure<'a> {
+    /// The fault.
+    pub fault: ServeFault,
+    /// The file's name.
+    pub name: &'a str,
+    /// What the system said of it.
+    pub system: Option<io::Error>,
+    /// The line that is refused, as it is shown.
+    pub text: Option<String>,
+}
+
+impl<'a> JournalFailure<'a> {
+    /// A fault of the file.
+    pub fn of_file(fault: ServeFault, name: &'a str, system: Option<io::Error>) -> Self {
+        JournalFailure {
+            fault,
+            name,
+            system,
+            text: None,
+        }
+    }
+
+    /// A refusal of these bytes. Where there is no memory for the line that is refused, it isn't shown.
+    pub fn of_bytes(alloc: Global, fault: ServeFault, name: &'a str, bytes: &[u8]) -> Self {
+        let line = match line_at(&fault) {
+            Some(number) => line_of(bytes, number),
+            None => None,
+        };
+        let text = match line {
+            Some(line) => excerpt(alloc, line).ok(),
+            None => None,
+        };
+        JournalFailure {
+            fault,
+            name,
+            system: None,
+            text,
+        }
+    }
+}
+
+impl fmt::Display for JournalFailure<'_> {
+    fn fmt<W: fmt::Write>(&self, f: &mut fmt::Formatter<W>) -> fmt::Result {
+        let name = self.name;
+        match line_at(&self.fault) {
+            Some(number) => writeln!(f, "where: --journal, file {name}, line {number}")?,
+            None => writeln!(f, "where: --journal, file {name}")?,
+        }
+        if let Some(system) = &self.system {
+            writeln!(f, "system: {system}")?;
+        }
+        if let Some(text) = &self.text {
+            writeln!(f, "text: {text}")?;
+        }
+        let Advice { cause, cure } = journal_advice(&self.fault);
+        write!(f, "cause: {cause}\ncure: {cure}")
+    }
+}
+
+/// The line of the journal that a fault is about. Its first line is no entry's.
+fn line_at(fault: &ServeFault) -> Option<usize>
+    ensures { result ≡ line_named fault.now }
+{
+    match fault {
+        ServeFault::Journal(ResumeError::BadLine(line)) => Some(*line),
+        ServeFault::Journal(ResumeError::Illegal { index, .. }) => index.checked_add(2),
+        _ => None,
+    }
+}
+
+/// What is said of a fault, in the words of the table "Refusals" of README.md.
+pub fn journal_advice(fault: &ServeFault) -> Advice
+    ensures cause { result.cause.now ≡ (advice_words fault.now).0 }
+    ensures cure { result.cure.now ≡ (advice_words fault.now).1 }
+{
+    match fault {
+        ServeFault::Cli(fault) => advice_on(fault),
+        ServeFault::NotEmpty => Advice {
+            cause: "the journal holds something already, and --resume isn't given",
+            cure: "give --resume to go on from it, or name another file",
+        },
+        ServeFault::Journal(refusal) => of_journal(refusal),
+        ServeFault::JournalFailed => Advice {
+            cause: "the journal can't be opened, or the system refused to read, cut or write it or to make it durable",
+            cure: "look at what the system says of it",
+        },
+    }
+}
+
+/// What is said of a journal that is none.
+fn of_journal(refusal: &ResumeError) -> Advice
+    ensures cause { result.cause.now ≡ (advice_words_of_journal refusal.now).0 }
+    ensures cure { result.cure.now ≡ (advice_words_of_journal refusal.now).1 }
+{
+    match refusal {
+        ResumeError::BadLine(_) => Advice {
+            cause: "the line isn't one of a journal: nix-dispatch-history 2, and then a line for each entry",
+            cure: "take the journal as it was written",
+        },
+        ResumeError::Illegal { .. } => Advice {
+            cause: "the entry isn't allowed after those before it, by the rule that is named",
+            cure: "give the bundle and the options that the journal was begun with",
+        },
+        ResumeError::Memory => Advice {
+            cause: "there was no memory",
+            cure: "give the program more memory, or less to do",
+        },
+    }
+}

@@ -1,0 +1,103 @@
+//! What a session begins with.
+
+ghost use Rattle.std.specs.Prelude.{◌≡◌, List, [], false, length, IfOk, IfErr, OnOk, MatchBool};
+ghost use Rattle.nd_history.specs.declared.entry.Entry.{Entry};
+ghost use Rattle.nd_journal.specs.WholeLines.{whole_lines};
+ghost use Rattle.nd_resume.specs.Resumes.{IsResumable};
+ghost use Rattle.nd_serve_command.specs.Sessions.{AnswersAcceptedSession, BeginsSession, IsOpenFault, is_unread};
+ghost use Rattle.nd_serve_command.specs.Sessions.{HoldsSome, IsJournalFault, MayHold, TakesUnlessMemory};
+
+use crate::fault::{ServeFault, journal_fault};
+use crate::reading::read_dispatch;
+use nd_cli::ParkOptions;
+use nd_commands::close_dispatch;
+use nd_devices::Told;
+use nd_ledger::Dispatch;
+use nd_resume::resume;
+use std::alloc::Global;
+use std::io::Read;
+use std::thread::Threads;
+
+/// What a session begins with, once all of it is accepted.
+#[derive(Drop)]
+pub struct Opened {
+    /// The derivations and the park, with the history of the journal.
+    pub dispatch: Dispatch,
+    /// How many bytes of the journal are gone on from: its whole lines. A file is cut to these, and that
+    /// made durable, before the session begins.
+    pub kept: usize,
+}
+
+/// Reads the bundle on the input and what the options name, and then the journal with these bytes, which
+/// has to be empty where it isn't to be resumed from. The journal itself isn't touched.
+///
+/// The first refusal in this order is answered: `Read`; `TooLarge` or `Drvs` for the bundle; `TooLarge` or
+/// `Builders` for the builders list; `TooLarge` or `Info` for the info text; `NotEmpty`, or else `BadLine`
+/// or `Illegal`, for the journal. `Memory` may come at any point. The reader is marked exactly at `Read`.
+pub fn open_session<R: Read>(
+    rt: &(impl Threads + Sync),
+    alloc: Global,
+    options: &ParkOptions,
+    journal: &[u8],
+    resumes: bool,
+    input: &mut Told<R>,
+) -> Result<Opened, ServeFault>
+    requires reader { input.old.is_marked ≡ false }
+    ensures opened { IfOk result (λ opened. BeginsSession options.now journal.now resumes R.remaining input.old input.new opened.dispatch) }
+    ensures kept { IfOk result (λ opened. opened.kept ≡ length (whole_lines journal.now)) }
+    ensures fault { IfErr result (IsOpenFault options.now journal.now resumes R.remaining input.old input.new) }
+    ensures mark { input.new.is_marked ≡ is_unread result }
+    ensures exactly { AnswersAcceptedSession options.now journal.now resumes (R.remaining input.old.device) result }
+{
+    let dispatch = match read_dispatch(rt, alloc, options, input) {
+        Ok(dispatch) => dispatch,
+        Err(fault) => return Err(ServeFault::Cli(fault)),
+    };
+    match take_journal(alloc, dispatch, journal, resumes) {
+        Ok(opened) => Ok(opened),
+        Err(fault) => Err(fault),
+    }
+}
+
+/// Gives a dispatch the history of the journal.
+fn take_journal(
+    alloc: Global,
+    dispatch: Dispatch,
+    journal: &[u8],
+    resumes: bool,
+) -> Result<Opened, ServeFault>
+    requires { dispatch.history ≡ [] }
+    ensures inputs { IfOk result (λ opened. opened.dispatch.inputs ≡ dispatch.inputs) }
+    ensures may { OnOk result (MayHold resumes journal.now) }
+    ensures history { IfOk result (λ opened. IsResumable dispatch.inputs journal.now opened.dispatch.history) }
+    ensures kept { IfOk result (λ opened. opened.kept ≡ length (whole_lines journal.now)) }
+    ensures refused { IfErr result (IsJournalFault dispatch.inputs journal.now resumes) }
+    ensures exactly { (entries : List Entry) → MayHold resumes journal.now → IsResumable dispatch.inputs journal.now entries → TakesUnlessMemory result entries }
+{
+    if !may_begin(journal, resumes) {
+        close_dispatch(dispatch);
+        return Err(ServeFault::NotEmpty);
+    }
+    let mut dispatch = dispatch;
+    match resume(alloc, &mut dispatch, journal) {
+        Ok(kept) => Ok(Opened { dispatch, kept }),
+        Err(error) => {
+            close_dispatch(dispatch);
+            Err(journal_fault(error))
+        }
+    }
+}
+
+/// Whether a session may begin with a journal that holds these bytes.
+#[tactic(auto, using(crate::proofs::Begun::beginnings))]
+fn may_begin(journal: &[u8], resumes: bool) -> bool
+    ensures { MatchBool result (MayHold resumes journal.now) (HoldsSome resumes journal.now) }
+{
+    if resumes {
+        return true;
+    }
+    if journal.is_empty() {
+        return true;
+    }
+    false
+}

@@ -1,0 +1,36 @@
+//! A session, from its opening to its status.
+
+ghost use Rattle.std.specs.Prelude.{◌≡◌, ◌==◌, IfOk, IfErr};
+ghost use Rattle.nd_serve_command.specs.Sessions.{EndsSession, CutsSession};
+
+use crate::fault::{ServeFault, session_fault};
+use crate::opening::Opened;
+use nd_commands::{close_dispatch, exit_status};
+use nd_desk::Desk;
+use nd_serve::serve;
+use std::alloc::Global;
+
+/// Holds a session over a desk, whose journal holds the whole lines of the one that it was opened with. The
+/// status is 1 where a derivation failed or was cancelled when the input ended, and else 0.
+///
+/// Ends with `Read`, `Write` and `Memory`, as the other commands, and with `JournalFailed` where the journal
+/// refused an append or a sync. Of the turn that it ends in nothing is answered, but for a part of the
+/// answer at `Write`.
+#[tactic(auto, using(crate::proofs::Ended::sessions))]
+pub fn serve_engine<D: Desk>(alloc: Global, opened: Opened, desk: &mut D) -> Result<u8, ServeFault>
+    ensures ended { IfOk result (λ status. EndsSession opened.dispatch (opened.kept == 0) status (D.log desk.old) (D.log desk.new)) }
+    ensures cut { IfErr result (λ e. CutsSession opened.dispatch (opened.kept == 0) e (D.log desk.old) (D.log desk.new)) }
+{
+    let Opened { mut dispatch, kept } = opened;
+    match serve(alloc, &mut dispatch, kept == 0, desk) {
+        Ok(()) => {
+            let status = exit_status(&dispatch);
+            close_dispatch(dispatch);
+            Ok(status)
+        }
+        Err(fault) => {
+            close_dispatch(dispatch);
+            Err(session_fault(fault))
+        }
+    }
+}

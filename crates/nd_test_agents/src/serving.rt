@@ -1,0 +1,207 @@
+//! One lease served by an agent.
+
+use nd_agents::Agent;
+use nd_closure::Refs;
+use nd_leases::Ticket;
+use nd_ledger::Job;
+use nd_path::{PathSet, StorePath};
+use nd_test_fixtures::bundles::S1;
+use nd_test_fixtures::devices::{CountedReader, CountedWriter};
+use nd_transports::{Fetch, Outcome, serve_build, serve_copy};
+use std::alloc::Global;
+use std::test::Fail;
+
+const DRV: &str = "/nix/store/00000000000000000000000000000000-n0.drv";
+
+/// The lines of the calls of a lease of that derivation, which wants one path.
+const CALLS: &[u8] = b"\
+    connect\n\
+    copy /nix/store/pppppppppppppppppppppppppppppppp-s1\n\
+    build /nix/store/00000000000000000000000000000000-n0.drv\n";
+
+/// What an agent answers that builds it.
+const ANSWERS: &[u8] = b"yes\nyes\nbuilt o /nix/store/pppppppppppppppppppppppppppppppp-s1 o\n";
+
+fn path(alloc: Global, text: &str) -> Option<StorePath> {
+    StorePath::parse(alloc, text.as_bytes()).ok()
+}
+
+/// The one path that is to be copied.
+fn one_path(alloc: Global) -> Option<PathSet> {
+    let mut paths = Vec::new(alloc);
+    paths.push(path(alloc, S1)?).ok()?;
+    PathSet::from_vec(paths).ok()
+}
+
+/// Derivation 0, leased on slot 0 of machine 1, with one path to copy.
+fn job(alloc: Global) -> Option<Job> {
+    let paths = one_path(alloc)?;
+    let Some(path) = path(alloc, DRV) else {
+        drop(paths);
+        return None;
+    };
+    Some(Job {
+        ticket: Ticket {
+            machine: 1,
+            slot: 0,
+            drv: 0,
+            serial: 0,
+        },
+        path,
+        outputs: 2,
+        paths,
+    })
+}
+
+/// How a lease went, as far as it came.
+#[derive(Clone, Copy, Debug, PartialEq, Eq)]
+enum Went {
+    /// So many lists of references, of which the first has so many paths.
+    Built(usize, usize),
+    Status(u8),
+    Lost,
+    Refused(u8),
+    Memory,
+}
+
+fn came_to(outcome: Outcome) -> Went {
+    match outcome {
+        Outcome::Built(refs) => Went::Built(refs.lists().len(), first_length(&refs)),
+        Outcome::Status(code) => Went::Status(code),
+        Outcome::Lost => Went::Lost,
+        Outcome::Memory => Went::Memory,
+    }
+}
+
+/// How many paths the first list has.
+fn first_length(refs: &Refs) -> usize {
+    match refs.lists().first() {
+        Some(set) => set.len(),
+        None => 0,
+    }
+}
+
+/// How the lease goes where these are the answers.
+fn served(job: &Job, agent: &mut Agent<CountedReader<'_>, &mut CountedWriter>) -> Went {
+    match serve_copy(agent, job) {
+        Fetch::Copied => came_to(serve_build(agent)),
+        Fetch::Refused(calls) => Went::Refused(calls),
+        Fetch::Memory => Went::Memory,
+    }
+}
+
+/// How the lease goes where these are the answers and so many writes are granted, and whether the agent is gone
+/// then.
+fn answered(alloc: Global, answers: &[u8], writes: usize) -> Option<(Went, bool)> {
+    let job = job(alloc)?;
+    let mut calls = CountedWriter::new(alloc, 4096, writes, false);
+    let reader = CountedReader::new(answers, 7, usize::MAX);
+    let mut agent = Agent::new(alloc, reader, &mut calls);
+    let how = served(&job, &mut agent);
+    Some((how, agent.is_gone()))
+}
+
+/// Whether the lease goes so.
+fn goes(alloc: Global, answers: &[u8], writes: usize, how: Went, gone: bool) -> bool {
+    match answered(alloc, answers, writes) {
+        Some(found) => found.0 == how && found.1 == gone,
+        None => false,
+    }
+}
+
+#[test]
+fn each_call_and_answer(rt: HostRuntime) -> Result<(), Fail> {
+    let alloc = rt.alloc();
+    let Some(job) = job(alloc) else {
+        assert!(rt; false, "no memory");
+        return Ok(());
+    };
+    let mut calls = CountedWriter::new(alloc, 5, usize::MAX, false);
+    let mut agent = Agent::new(
+        alloc,
+        CountedReader::new(ANSWERS, 1, usize::MAX),
+        &mut calls,
+    );
+    let how = served(&job, &mut agent);
+    drop(agent);
+    assert!(rt; how == Went::Built(2, 1));
+    assert!(rt; calls.bytes() == CALLS);
+    assert!(rt; calls.is_flushed());
+    Ok(())
+}
+
+#[test]
+fn each_answer(rt: HostRuntime) -> Result<(), Fail> {
+    let alloc = rt.alloc();
+    let most = usize::MAX;
+    assert!(rt; goes(alloc, b"no\n", most, Went::Refused(1), false));
+    assert!(rt; goes(alloc, b"yes\nno\n", most, Went::Refused(2), false));
+    assert!(rt; goes(alloc, b"yes\nyes\nfailed 3\n", most, Went::Status(3), false));
+    assert!(rt; goes(alloc, b"yes\nyes\nlost\n", most, Went::Lost, false));
+    assert!(rt; goes(alloc, b"yes\nyes\nbuilt\n", most, Went::Built(0, 0), false));
+    Ok(())
+}
+
+#[test]
+fn other_answers(rt: HostRuntime) -> Result<(), Fail> {
+    let alloc = rt.alloc();
+    let most = usize::MAX;
+    assert!(rt; goes(alloc, b"yess\n", most, Went::Refused(1), true));
+    assert!(rt; goes(alloc, b"yes\n\nyes\n", most, Went::Refused(2), true));
+    assert!(rt; goes(alloc, b"yes\nyes\nfailed 256\n", most, Went::Lost, true));
+    assert!(rt; goes(alloc, b"yes\nyes\nfailed\n", most, Went::Lost, true));
+    assert!(rt; goes(alloc, b"yes\nyes\nbuilt o x\n", most, Went::Lost, true));
+    assert!(rt; goes(alloc, b"yes\nyes\nlost \n", most, Went::Lost, true));
+    Ok(())
+}
+
+#[test]
+fn cut_at_each_byte(rt: HostRuntime) -> Result<(), Fail> {
+    let alloc = rt.alloc();
+    for end in 0..ANSWERS.len() {
+        let (part, _) = ANSWERS.split_at(end);
+        let how = if end < 4 {
+            Went::Refused(1)
+        } else if end < 8 {
+            Went::Refused(2)
+        } else {
+            Went::Lost
+        };
+        assert!(rt; goes(alloc, part, usize::MAX, how, true));
+    }
+    Ok(())
+}
+
+#[test]
+fn refused_writes(rt: HostRuntime) -> Result<(), Fail> {
+    let alloc = rt.alloc();
+    assert!(rt; goes(alloc, ANSWERS, 0, Went::Refused(1), true));
+    assert!(rt; goes(alloc, ANSWERS, 1, Went::Refused(2), true));
+    assert!(rt; goes(alloc, ANSWERS, 2, Went::Lost, true));
+    assert!(rt; goes(alloc, ANSWERS, 3, Went::Built(2, 1), false));
+    Ok(())
+}
+
+/// An agent whose answers ended is asked nothing more.
+#[test]
+fn gone_for_good(rt: HostRuntime) -> Result<(), Fail> {
+    let alloc = rt.alloc();
+    let Some(job) = job(alloc) else {
+        assert!(rt; false, "no memory");
+        return Ok(());
+    };
+    let mut calls = CountedWriter::new(alloc, 4096, usize::MAX, false);
+    let mut agent = Agent::new(
+        alloc,
+        CountedReader::new(b"yes\n", 7, usize::MAX),
+        &mut calls,
+    );
+    let first = served(&job, &mut agent);
+    let second = served(&job, &mut agent);
+    drop(agent);
+    assert!(rt; first == Went::Refused(2));
+    assert!(rt; second == Went::Refused(1));
+    let (connect_and_copy, _) = CALLS.split_at(60);
+    assert!(rt; calls.bytes() == connect_and_copy);
+    Ok(())
+}

@@ -1,0 +1,16 @@
+//! Tests of the command `serve`: conversations, lines that are no commands, and what a crash leaves of a
+//! journal.
+#![tactic(auto)]
+
+#[cfg(test)]
+mod conversations;
+#[cfg(test)]
+mod crashes;
+#[cfg(test)]
+mod holding;
+#[cfg(test)]
+mod journals;
+#[cfg(test)]
+mod lines;
+#[cfg(test)]
+mod texts;

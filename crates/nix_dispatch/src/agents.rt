@@ -1,0 +1,170 @@
+//! The command `run`: an agent for each slot of the park where `--agents` names the folder of their files,
+//! and else a stand-in.
+
+ghost use Rattle.nd_workers.specs.Runs.{AreManned};
+
+use crate::stand_ins::{inputs, run_stand_ins};
+use clap::ArgMatches;
+use nd_agents::Agent;
+use nd_cli::CliFault;
+use nd_command_line::{placed, write_failure};
+use nd_devices::Told;
+use nd_explain::{Failure, Heard, Source};
+use nd_ledger::Dispatch;
+use nd_run_command::{RunInputs, places, run_engine};
+use nd_workers::{Transport, Worker};
+use std::alloc::{AllocError, Global};
+use std::fs::{File, OpenOptions};
+use std::io::{self, BufReader, BufWriter};
+use std::rt::Files;
+use std::sync::Wait;
+use std::thread::Threads;
+
+/// Runs what is given, with agents or with stand-ins, and writes the history, and where asked the report.
+pub(crate) fn run_given<
+    'a,
+    R: Files<File = File> + Input + Print + AllocGlobal + Threads + Wait + Sync,
+>(rt: &R, alloc: Global, options: &ArgMatches<'a>) -> Result<u8, Failure<'a>> {
+    match options.get_str("agents") {
+        Some(folder) => run_agents(rt, alloc, options, folder),
+        None => run_stand_ins(rt, alloc, options),
+    }
+}
+
+/// Runs what is given with the agents whose files lie in this folder. The files are opened once all inputs
+/// are accepted.
+fn run_agents<'a, R: Files<File = File> + Input + Print + AllocGlobal + Threads + Wait + Sync>(
+    rt: &R,
+    alloc: Global,
+    options: &ArgMatches<'a>,
+    folder: &'a str,
+) -> Result<u8, Failure<'a>> {
+    let RunInputs { dispatch, rules } = match inputs(rt, alloc, options) {
+        Ok(given) => given,
+        Err(failure) => return Err(failure),
+    };
+    drop(rules);
+    let places = places(alloc, &dispatch);
+    match places {
+        Ok(places) => run_placed(
+            rt,
+            alloc,
+            dispatch,
+            places,
+            folder,
+            options.get_flag("report"),
+        ),
+        Err(fault) => {
+            drop(dispatch);
+            Err(placed(options, fault))
+        }
+    }
+}
+
+/// A run by an agent on each of these places.
+fn run_placed<'a, R: Files<File = File> + Print + AllocGlobal + Threads + Wait + Sync>(
+    rt: &R,
+    alloc: Global,
+    dispatch: Dispatch,
+    places: Vec<(u32, u32)>,
+    folder: &'a str,
+    report: bool,
+) -> Result<u8, Failure<'a>>
+    requires { AreManned dispatch.inputs places.items }
+{
+    let mut workers = Vec::new(alloc);
+    for (machine, slot) in places {
+        let agent = match agent_at(rt, alloc, folder, machine, slot) {
+            Ok(agent) => agent,
+            Err(failure) => {
+                drop(workers);
+                drop(dispatch);
+                return Err(failure);
+            }
+        };
+        let transport: Box<dyn Transport + Send> = agent;
+        let worker = Worker {
+            machine,
+            slot,
+            transport,
+        };
+        if workers.push(worker).is_err() {
+            drop(workers);
+            drop(dispatch);
+            return Err(Failure::of(CliFault::Memory));
+        }
+    }
+    let Ok(buffer) = BufWriter::new(alloc, io::writer(rt)) else {
+        drop(workers);
+        drop(dispatch);
+        return Err(Failure::of(CliFault::Memory));
+    };
+    let mut output = Told::new(Heard::new(buffer));
+    match run_engine(rt, dispatch, workers, report, &mut output) {
+        Ok(status) => Ok(status),
+        Err(CliFault::Write) => Err(write_failure(&output.into_inner())),
+        Err(fault) => Err(Failure::of(fault)),
+    }
+}
+
+/// The agent of this machine's slot, which is called by its file `M.S.calls` and answers by `M.S.answers`.
+/// They are opened in this order, and for pipes each waits until the other end is opened.
+///
+/// `Read`: one of them can't be opened. `Memory`.
+fn agent_at<'a, R: Files<File = File>>(
+    rt: &R,
+    alloc: Global,
+    folder: &'a str,
+    machine: u32,
+    slot: u32,
+) -> Result<Box<Agent<BufReader<File>, File>>, Failure<'a>> {
+    let mut writing = OpenOptions::new();
+    let _ = writing.write(true);
+    let calls = agent_file(rt, alloc, folder, machine, slot, "calls", &writing)?;
+    let mut reading = OpenOptions::new();
+    let _ = reading.read(true);
+    let answers = agent_file(rt, alloc, folder, machine, slot, "answers", &reading)?;
+    match boxed_agent(alloc, answers, calls) {
+        Ok(agent) => Ok(agent),
+        Err(_) => Err(Failure::of(CliFault::Memory)),
+    }
+}
+
+/// The agent that answers by the one file what it is called by the other.
+fn boxed_agent(
+    alloc: Global,
+    answers: File,
+    calls: File,
+) -> Result<Box<Agent<BufReader<File>, File>>, AllocError> {
+    let Ok(answers) = BufReader::new(alloc, answers) else {
+        return Err(AllocError);
+    };
+    Ok(Box::new(alloc, Agent::new(alloc, answers, calls))?)
+}
+
+/// A file of an agent, opened so.
+///
+/// `Read`: it can't be opened. `Memory`.
+fn agent_file<'a, R: Files<File = File>>(
+    rt: &R,
+    alloc: Global,
+    folder: &'a str,
+    machine: u32,
+    slot: u32,
+    kind: &str,
+    how: &OpenOptions,
+) -> Result<File, Failure<'a>> {
+    let Ok(name) = format!(in alloc; "{folder}/{machine}.{slot}.{kind}") else {
+        return Err(Failure::of(CliFault::Memory));
+    };
+    match how.open(rt, name.as_str()) {
+        Ok(file) => Ok(file),
+        Err(error) => {
+            let source = Source::File {
+                option: "agents",
+                name: folder,
+            };
+            Err(Failure::at(CliFault::Read, source, Some(error)))
+        }
+    }
+}

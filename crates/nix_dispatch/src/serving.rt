@@ -1,0 +1,150 @@
+//! The command `serve`: a session over standard input and output, with a journal in a file.
+
+use crate::commands::{say, told_why};
+use crate::journal_files::{JournalFile, Kept, open_journal};
+use clap::ArgMatches;
+use nd_cli::CliFault;
+use nd_command_line::{Given, bundle_of, failure, heard, park_options, write_failure};
+use nd_devices::Told;
+use nd_explain::{Failure, Heard, Source};
+use nd_serve_command::{Devices, JournalFailure, Opened, ServeFault, open_session, serve_engine};
+use std::alloc::Global;
+use std::io::{self, BufReader, Read, Write};
+use std::rt::Files;
+use std::thread::Threads;
+
+/// Why the command ended before its input did, with what is known about it.
+#[derive(Drop)]
+pub(crate) enum Ending<'a> {
+    /// As of the other commands.
+    Common(Failure<'a>),
+    /// The journal is refused, or failed.
+    Journal(JournalFailure<'a>),
+}
+
+/// Holds a session, and answers the exit status. A fault that it ends by is said here.
+pub(crate) fn serve<'a, R: Files + Input + Print + Eprint + AllocGlobal + Threads + Sync>(
+    rt: &R,
+    alloc: Global,
+    options: &ArgMatches<'a>,
+) -> u8 {
+    let ending = match begin(rt, alloc, options) {
+        Ok(status) => return status,
+        Err(ending) => ending,
+    };
+    let explain = options.get_flag("explain");
+    match &ending {
+        Ending::Common(failure) => told_why(rt, failure, explain),
+        Ending::Journal(failure) => {
+            say(rt, &failure.fault);
+            if explain {
+                say(rt, failure);
+            }
+            failure.fault.status()
+        }
+    }
+}
+
+/// Opens the journal, and then a session with it.
+fn begin<'a, R: Files + Input + Print + AllocGlobal + Threads + Sync>(
+    rt: &R,
+    alloc: Global,
+    options: &ArgMatches<'a>,
+) -> Result<u8, Ending<'a>> {
+    let journal = match open_journal(rt, alloc, options.get_str("journal")) {
+        Ok(journal) => journal,
+        Err(failure) => return Err(Ending::Journal(failure)),
+    };
+    let opened = match open(rt, alloc, options, journal.bytes.as_slice()) {
+        Ok(opened) => opened,
+        Err(ending) => {
+            drop(journal);
+            return Err(ending);
+        }
+    };
+    let JournalFile { kept, bytes } = journal;
+    let length = bytes.len();
+    drop(bytes);
+    hold(rt, alloc, opened, kept, length)
+}
+
+/// Reads the bundle and the park, and the journal with these bytes.
+fn open<'a, R: Files + Input + Threads + Sync>(
+    rt: &R,
+    alloc: Global,
+    options: &ArgMatches<'a>,
+    journal: &[u8],
+) -> Result<Opened, Ending<'a>> {
+    let park = match park_options(rt, alloc, options) {
+        Ok(park) => park,
+        Err(failure) => return Err(Ending::Common(failure)),
+    };
+    let bundle = match bundle_of(rt, options) {
+        Ok(bundle) => bundle,
+        Err(failure) => {
+            drop(park);
+            return Err(Ending::Common(failure));
+        }
+    };
+    let mut input = Told::new(heard(alloc, options, bundle));
+    let resumes = options.get_flag("resume");
+    let answer = open_session(rt, alloc, &park, journal, resumes, &mut input);
+    let given = Given {
+        options,
+        park: &park,
+        other: &[],
+    };
+    let answer = match answer {
+        Ok(opened) => Ok(opened),
+        Err(ServeFault::Cli(fault)) => {
+            Err(Ending::Common(failure(alloc, fault, given, &input.into_inner())))
+        }
+        Err(fault) => {
+            let name = options.get_str("journal").unwrap_or("");
+            Err(Ending::Journal(JournalFailure::of_bytes(alloc, fault, name, journal)))
+        }
+    };
+    drop(park);
+    answer
+}
+
+/// Cuts the journal to the whole lines that are gone on from, and holds the session.
+fn hold<'a, R: Files + Input + Print + AllocGlobal>(
+    rt: &R,
+    alloc: Global,
+    opened: Opened,
+    kept: Kept<'a, R::File>,
+    length: usize,
+) -> Result<u8, Ending<'a>> {
+    let mut kept = kept;
+    if opened.kept < length && kept.cut(opened.kept).is_err() {
+        drop(opened);
+        return Err(Ending::Journal(kept.into_failure()));
+    }
+    let Ok(input) = BufReader::new(alloc, Heard::new(rt.reader())) else {
+        drop(opened);
+        return Err(Ending::Common(Failure::of(CliFault::Memory)));
+    };
+    let mut devices = Devices {
+        input,
+        output: Heard::new(io::writer(rt)),
+        journal: kept,
+    };
+    let answer = serve_engine(alloc, opened, &mut devices);
+    let Devices {
+        input,
+        output,
+        journal,
+    } = devices;
+    match answer {
+        Ok(status) => Ok(status),
+        Err(ServeFault::Cli(CliFault::Read)) => Err(Ending::Common(Failure::at(
+            CliFault::Read,
+            Source::Input,
+            input.into_inner().refusal(),
+        ))),
+        Err(ServeFault::Cli(CliFault::Write)) => Err(Ending::Common(write_failure(&output))),
+        Err(ServeFault::Cli(fault)) => Err(Ending::Common(Failure::of(fault))),
+        Err(_journal) => Err(Ending::Journal(journal.into_failure())),
+    }
+}
