@@ -121,6 +121,10 @@ bundle "$good"
 journal=$folder/journal
 printf 'nix-dispatch-history 2\n' > "$journal"
 refused 'journal: NotEmpty' 3 "--journal, file $journal" serve --bundle "$folder/in" --journal "$journal"
+(
+  flock -n 9
+  refused 'journal: InUse' 3 "--journal, file $journal" serve --bundle "$folder/in" --journal "$journal" --resume
+) 9> "$journal"
 printf 'nix-dispatch-history 2\nbuilt\n' > "$journal"
 refused 'journal: BadLine 2' 3 "--journal, file $journal, line 2" serve --bundle "$folder/in" --journal "$journal" --resume
 printf 'nix-dispatch-history 2\nstarted 0\n' > "$journal"

@@ -25,6 +25,24 @@ want=0
 grep -vx ready "$folder/answers" | cmp - "$folder/simulated" || fail 'the answers are not those of sim'
 [ "$(grep -cx ready "$folder/answers")" -eq $(($(wc -l < "$folder/commands") + 1)) ] || fail 'there is not one ready for each command'
 
+# A bundle that is refused leaves no new journal.
+got=0
+echo 'no line of a bundle' > "$folder/bad"
+"$program" serve --bundle "$folder/bad" --journal "$folder/new" < /dev/null > "$folder/answers" 2> "$folder/said" || got=$?
+[ "$got" -eq 3 ] || fail "a refused bundle ends with status $got"
+[ ! -e "$folder/new" ] || fail 'a refused bundle leaves a journal'
+
+# The conversation of README.md, "Embed it".
+printf 'job 18\nstart 18\nstart 18\nbuilt 18\nsomething\n' \
+  | "$program" serve --bundle "$farm/bundle" --builders "@$farm/builders" --extra aarch64-linux --features kvm,nixos-test \
+    > "$folder/answers" || true
+head -3 "$folder/answers" | sed 's/^/    /' > "$folder/opening"
+sed -n '/^nix-dispatch serve --bundle examples\/farm\/bundle/,/^    ready$/p' README.md | grep '^    ' \
+  | cmp - "$folder/opening" || fail 'the opening is not that of README.md'
+sed -n 's/ .*//; 4,$p' "$folder/answers" | tr '\n' ' ' > "$folder/words"
+printf 'job ready started ready refused ready built chosen ready refused ready ' | cmp - "$folder/words" \
+  || fail 'the answers are not those of README.md'
+
 # A journal holds a legal history, and this many derivations are built in it.
 audited() {
   "$program" audit --bundle "$farm/bundle" --builders "@$farm/builders" --extra aarch64-linux \

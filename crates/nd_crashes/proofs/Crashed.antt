@@ -1,21 +1,21 @@
--- What a crash leaves is a history, and begins with what was answered.
-use Rattle.std.proofs.Common.{◌≡◌, ◌∙◌, ℕ, List, [], ◌∷◌, ◌++◌, reverse, refl, sym, ap, subst, append_assoc, inl, inr}
+-- What a crash leaves is a journal, and its history begins with the entries whose lines are durable.
+use Rattle.std.proofs.Common.{◌≡◌, ◌∙◌, ℕ, true, List, [], ◌∷◌, ◌++◌, reverse, refl, sym, ap, subst, append-nil, append_assoc, inl, inr}
 use Rattle.std.specs.Prelude.{codes}
 use Rattle.std.specs.List.{All, flat_map}
 use Rattle.std.proofs.lemmas.Grind.{flat_map-append}
 use Rattle.std.proofs.lemmas.List.{reverse-append}
-use Rattle.std.proofs.lemmas.List.Elements.{All-tail}
+use Rattle.std.proofs.lemmas.List.Elements.{All-nil, All-cons, All-head, All-tail, All-append, All-weaker}
 use Rattle.nd_history.specs.declared.entry.Entry.{Entry}
+use Rattle.nd_history.specs.declared.entry.Entry.TheVariants.{Chosen, NoBuilder, Started, Down, Built, Failed, Stop, Drain, Enable}
 use Rattle.nd_history.specs.Premises.{Premises}
 use Rattle.nd_history.specs.Legal.{IsLegal}
-use Rattle.nd_history_text.specs.HistoryTexts.{line_of, first_line, history_text}
-use Rattle.nd_history_text.specs.Sound.{IsSound}
+use Rattle.nd_history_text.specs.HistoryTexts.{line_of, first_line, history_text, is_told_in}
+use Rattle.nd_history_text.specs.Sound.{IsSound, IsTold}
 use Rattle.nd_history_text.specs.declared.kinds.Version.TheVariants.{Second}
 use Rattle.nd_history_text.proofs.Once.{same_tail}
-use Rattle.nd_journal.specs.WholeLines.{whole_lines}
-use Rattle.nd_crashes.specs.Crashes.{handed_bytes}
-use Rattle.nd_crashes.specs.CrashLaws.{CrashesLeaveHistories, CrashesKeepAnswers}
-use Rattle.nd_crashes.proofs.Handed.{session_kept, session_durable, begins_on}
+use Rattle.nd_history.specs.Sameness.{BeginsWith}
+use Rattle.nd_journal.specs.WholeLines.{whole_lines, IsBeginning}
+use Rattle.nd_resume.specs.Resumes.{IsResumable}
 use Rattle.nd_journal.proofs.LinesKept.{cut_at, lines_cut, lines_through, lines_go_on, whole_none, whole_through}
 
 -- ---- the first line
@@ -35,6 +35,26 @@ sound_behind : (front behind : List Entry) → All IsSound (front ++ behind) →
 sound_behind [] behind sound = sound
 sound_behind (e ∷ front) behind sound = sound_behind front behind (All-tail IsSound e (front ++ behind) sound)
 
+sound_front : (front behind : List Entry) → All IsSound (front ++ behind) → All IsSound front
+sound_front [] behind sound = All-nil IsSound
+sound_front (e ∷ front) behind sound =
+    All-cons IsSound e front (All-head IsSound e (front ++ behind) sound) (sound_front front behind (All-tail IsSound e (front ++ behind) sound))
+
+-- the second version tells of each entry
+second_told : (e : Entry) → is_told_in Second e ≡ true
+second_told (Chosen d m s) = refl
+second_told (NoBuilder d) = refl
+second_told (Started d paths) = refl
+second_told (Down d) = refl
+second_told (Built d refs) = refl
+second_told (Failed d why) = refl
+second_told Stop = refl
+second_told (Drain m) = refl
+second_told (Enable m) = refl
+
+all_told : (entries : List Entry) → All IsSound entries → All (IsTold Second) entries
+all_told entries sound = All-weaker IsSound (IsTold Second) (λ e is. record { sound = is; told = second_told e }) entries sound
+
 -- ---- legality of a beginning
 
 legal_behind : (i : Premises) (later past : List Entry) → IsLegal i (later ++ past) → IsLegal i past
@@ -51,70 +71,99 @@ same_front : (front one other : List ℕ) → front ++ one ≡ front ++ other �
 same_front [] one other same = same
 same_front (b ∷ front) one other same = same_front front one other (same_tail same)
 
-whole_text : (start added : List Entry) (base first file rest lines : List ℕ) → lines ≡ flat_map line_of added → base ++ first ≡ history_text Second start → first ++ lines ≡ file ++ rest
-    → (base ++ file) ++ rest ≡ history_text Second (start ++ added)
-whole_text start added base first file rest lines are begun cut =
-    append_assoc base file rest
-    ∙ ap (λ (l : List ℕ). base ++ l) (sym cut)
-    ∙ sym (append_assoc base first lines)
-    ∙ (λ j. begun j ++ are j)
+-- the text of the history that the session began with, and of the entries that were added
+text_on : (start added : List Entry) (base first : List ℕ) → base ++ first ≡ history_text Second start → base ++ (first ++ flat_map line_of added) ≡ history_text Second (start ++ added)
+text_on start added base first begun =
+    sym (append_assoc base first (flat_map line_of added))
+    ∙ ap (λ (l : List ℕ). l ++ flat_map line_of added) begun
     ∙ append_assoc (first_line Second) (flat_map line_of start) (flat_map line_of added)
     ∙ ap (λ (l : List ℕ). first_line Second ++ l) (sym (flat_map-append line_of start added))
 
-pub crashes_leave_histories : CrashesLeaveHistories
-crashes_leave_histories i start added base first moment file over sound begun left =
-    let cut = begins_on file (handed_bytes moment) (first ++ flat_map line_of added) left.beginning over.handed in
-    let text = whole_text start added base first file cut.rest (flat_map line_of added) refl begun cut.is in
+whole_text : (start added : List Entry) (base first file : List ℕ) → base ++ first ≡ history_text Second start → (cut : IsBeginning file (first ++ flat_map line_of added))
+    → (base ++ file) ++ cut.rest ≡ history_text Second (start ++ added)
+whole_text start added base first file begun cut =
+    append_assoc base file cut.rest ∙ ap (λ (l : List ℕ). base ++ l) (sym cut.is) ∙ text_on start added base first begun
+
+-- the bytes are gone on from with a legal history that begins with this one
+pub record HoldsFrom (i : Premises) (bytes : List ℕ) (history : List Entry) : Type 0 where
+  pub entries : List Entry
+  pub resumable : IsResumable i bytes entries
+  pub begins : BeginsWith entries history
+
+-- what is known of a file and of what it lacks
+pub record IsCutFrom (i : Premises) (start added : List Entry) (base first file : List ℕ) : Type 0 where
+  pub begun : base ++ first ≡ history_text Second start
+  pub sound : All IsSound (start ++ added)
+  pub legal : IsLegal i (reverse (start ++ added))
+  pub cut : IsBeginning file (first ++ flat_map line_of added)
+
+-- ---- nothing of a new journal is durable yet
+
+pub new_left : (i : Premises) (start added : List Entry) (base first file : List ℕ) → start ≡ [] → IsCutFrom i start added base first file → HoldsFrom i (base ++ file) start
+new_left i start added base first file none from =
     let all = start ++ added in
-    elim (cut_at version_line (base ++ file) cut.rest (flat_map line_of all) refl (text ∙ text_is (flat_map line_of all))) [
-      | inl silent ↦ inl (record { none = whole_none (base ++ file) silent })
+    let text = whole_text start added base first file from.begun from.cut in
+    elim (cut_at version_line (base ++ file) from.cut.rest (flat_map line_of all) refl (text ∙ text_is (flat_map line_of all))) [
+      | inl silent ↦ record {
+        entries = [];
+        resumable = record { read = inl (record { none = whole_none (base ++ file) silent; empty = refl }); legal = tt };
+        begins = record { later = []; whole = sym none ∙ sym (append-nil start) };
+      }
       | inr found ↦
-          let lines = lines_cut all found.more cut.rest sound found.left in
-          inr (record {
+          let lines = lines_cut all found.more from.cut.rest from.sound found.left in
+          record {
             entries = lines.front;
-            journal = record {
-              whole =
-                  ap whole_lines found.file_is ∙ whole_through version_line found.more ∙ ap (λ (l : List ℕ). version_line ++ 10 ∷ l) lines.whole
-                  ∙ sym (text_is (flat_map line_of lines.front));
-              legal = legal_front i all lines.front lines.behind lines.parts over.legal;
+            resumable = record {
+              read = inr (record {
+                told = all_told lines.front (sound_front lines.front lines.behind (subst (All IsSound) lines.parts from.sound));
+                text =
+                    ap whole_lines found.file_is ∙ whole_through version_line found.more ∙ ap (λ (l : List ℕ). version_line ++ 10 ∷ l) lines.whole
+                    ∙ sym (text_is (flat_map line_of lines.front));
+              });
+              legal = legal_front i all lines.front lines.behind lines.parts from.legal;
             };
-          })
+            begins = record { later = lines.front; whole = ap (λ (l : List Entry). l ++ lines.front) (sym none) };
+          }
     ]
 
-pub crashes_keep_answers : CrashesKeepAnswers
-crashes_keep_answers i start added base first opening turns history events later file session over sound own begun left =
-    let cut = begins_on file (handed_bytes (events ++ later)) (first ++ flat_map line_of added) left.beginning over.handed in
-    let text = whole_text start added base first file cut.rest (flat_map line_of added) refl begun cut.is in
-    let kept = session_kept i start first opening turns history events session in
-    let durable = session_durable i start first opening turns history events later file session left in
+-- ---- the lines of these entries are durable
+
+pub durable_left : (i : Premises) (start added kept : List Entry) (base first file : List ℕ) → IsCutFrom i start added base first file → All IsSound (start ++ kept)
+    → IsBeginning (first ++ flat_map line_of kept) file → HoldsFrom i (base ++ file) (start ++ kept)
+durable_left i start added kept base first file from own durable =
     let all = start ++ added in
-    let answered : base ++ file ≡ history_text Second history ++ durable.rest =
-    ap (λ (l : List ℕ). base ++ l) (durable.is ∙ ap (λ (l : List ℕ). l ++ durable.rest) kept.bytes)
-    ∙ sym (append_assoc base (first ++ flat_map line_of kept.added) durable.rest)
-    ∙ ap (λ (l : List ℕ). l ++ durable.rest)
-    (sym (append_assoc base first (flat_map line_of kept.added))
-    ∙ ap (λ (l : List ℕ). l ++ flat_map line_of kept.added) begun
-    ∙ append_assoc (first_line Second) (flat_map line_of start) (flat_map line_of kept.added)
-    ∙ ap (λ (l : List ℕ). first_line Second ++ l) (sym (flat_map-append line_of start kept.added) ∙ sym (ap (flat_map line_of) kept.grown))) in
-    let lines : flat_map line_of history ++ (durable.rest ++ cut.rest) ≡ flat_map line_of all =
-    same_front (first_line Second) (flat_map line_of history ++ (durable.rest ++ cut.rest)) (flat_map line_of all)
-    (sym (append_assoc (first_line Second) (flat_map line_of history) (durable.rest ++ cut.rest))
-    ∙ sym (append_assoc (history_text Second history) durable.rest cut.rest)
-    ∙ ap (λ (l : List ℕ). l ++ cut.rest) (sym answered) ∙ text) in
-    let on = lines_go_on history all (durable.rest ++ cut.rest) own sound lines in
-    let last = lines_cut on.more durable.rest cut.rest (sound_behind history on.more (subst (All IsSound) on.parts sound)) on.left in
+    let history = start ++ kept in
+    let lacks = from.cut.rest in
+    let text = whole_text start added base first file from.begun from.cut in
+    let here : base ++ file ≡ history_text Second history ++ durable.rest =
+    ap (λ (l : List ℕ). base ++ l) durable.is
+    ∙ sym (append_assoc base (first ++ flat_map line_of kept) durable.rest)
+    ∙ ap (λ (l : List ℕ). l ++ durable.rest) (text_on start kept base first from.begun) in
+    let lines : flat_map line_of history ++ (durable.rest ++ lacks) ≡ flat_map line_of all =
+    same_front (first_line Second) (flat_map line_of history ++ (durable.rest ++ lacks)) (flat_map line_of all)
+    (sym (append_assoc (first_line Second) (flat_map line_of history) (durable.rest ++ lacks))
+    ∙ sym (append_assoc (history_text Second history) durable.rest lacks)
+    ∙ ap (λ (l : List ℕ). l ++ lacks) (sym here) ∙ text) in
+    let on = lines_go_on history all (durable.rest ++ lacks) own from.sound lines in
+    let later = sound_behind history on.more (subst (All IsSound) on.parts from.sound) in
+    let last = lines_cut on.more durable.rest lacks later on.left in
     record {
       entries = history ++ last.front;
-      journal = record {
-        whole =
-            ap whole_lines (answered ∙ append_assoc (first_line Second) (flat_map line_of history) durable.rest ∙ text_is (flat_map line_of history ++ durable.rest))
-            ∙ whole_through version_line (flat_map line_of history ++ durable.rest)
-            ∙ ap (λ (l : List ℕ). version_line ++ 10 ∷ l)
-            (lines_through history durable.rest own ∙ ap (λ (l : List ℕ). flat_map line_of history ++ l) last.whole ∙ sym (flat_map-append line_of history last.front))
-            ∙ sym (text_is (flat_map line_of (history ++ last.front)));
+      resumable = record {
+        read = inr (record {
+          told =
+              all_told (history ++ last.front)
+              (All-append IsSound history last.front own (sound_front last.front last.behind (subst (All IsSound) last.parts later)));
+          text =
+              ap whole_lines (here ∙ append_assoc (first_line Second) (flat_map line_of history) durable.rest ∙ text_is (flat_map line_of history ++ durable.rest))
+              ∙ whole_through version_line (flat_map line_of history ++ durable.rest)
+              ∙ ap (λ (l : List ℕ). version_line ++ 10 ∷ l)
+              (lines_through history durable.rest own ∙ ap (λ (l : List ℕ). flat_map line_of history ++ l) last.whole ∙ sym (flat_map-append line_of history last.front))
+              ∙ sym (text_is (flat_map line_of (history ++ last.front)));
+        });
         legal =
             legal_front i all (history ++ last.front) last.behind
-            (on.parts ∙ ap (λ (l : List Entry). history ++ l) last.parts ∙ sym (append_assoc history last.front last.behind)) over.legal;
+            (on.parts ∙ ap (λ (l : List Entry). history ++ l) last.parts ∙ sym (append_assoc history last.front last.behind)) from.legal;
       };
       begins = record { later = last.front; whole = refl };
     }

@@ -1,7 +1,8 @@
 -- What a session hands to its journal, and what of it is durable.
 use Rattle.std.proofs.Common.{◌≡◌, ◌∙◌, ◌⊎◌, ℕ, Bool, true, false, List, [], ◌∷◌, ◌++◌, reverse, refl, sym, ap, subst, append-nil, append_assoc, inl, inr}
-use Rattle.std.specs.List.{flat_map}
+use Rattle.std.specs.List.{All, flat_map}
 use Rattle.std.proofs.lemmas.Grind.{flat_map-append}
+use Rattle.std.proofs.lemmas.List.Elements.{All-nil, All-append}
 use Rattle.nd_desk.specs.declared.event.Event.{Event}
 use Rattle.nd_desk.specs.declared.event.Event.TheVariants.{Heard, Appended, Synced, Answered}
 use Rattle.nd_desk.specs.declared.fault.SessionFault.{SessionFault}
@@ -11,13 +12,13 @@ use Rattle.nd_history.specs.declared.entry.Entry.{Entry}
 use Rattle.nd_history.specs.Premises.{Premises}
 use Rattle.nd_history.specs.Legal.{IsLegal}
 use Rattle.nd_history_text.specs.HistoryTexts.{line_of}
+use Rattle.nd_history_text.specs.Sound.{IsSound}
 use Rattle.nd_sim.proofs.OneStep.{pumping_legal}
 use Rattle.nd_serve.specs.Turns.{Turn, kept_text, answer_text, ready_line}
 use Rattle.nd_serve.specs.Sessions.{Opening, IsSession, IsOpeningPart, IsTurnPart, IsCut, IsSessionPart, IsWhole, first_text, turn_events}
 use Rattle.nd_serve.proofs.SessionRuns.{sessions_are_legal, taken_legal}
 use Rattle.nd_journal.specs.WholeLines.{IsBeginning}
 use Rattle.nd_crashes.specs.Crashes.{handed_by, handed_bytes, IsLeft}
-use Rattle.nd_crashes.specs.CrashLaws.{SessionsHandOver, PartsHandOver}
 
 -- ---- bytes
 
@@ -43,7 +44,7 @@ pub begins_on : {X : Type 0} (one front whole : List X) → IsBeginning one fron
 begins_on one front whole h k = begins_first one h.rest whole (record { rest = k.rest; is = k.is ∙ ap (λ (l : List _). l ++ k.rest) h.is })
 
 -- what a moment handed over begins what the whole did
-moment_handed : (events moment later : List Event) (whole : List ℕ) → events ≡ moment ++ later → IsBeginning (handed_bytes events) whole → IsBeginning (handed_bytes moment) whole
+pub moment_handed : (events moment later : List Event) (whole : List ℕ) → events ≡ moment ++ later → IsBeginning (handed_bytes events) whole → IsBeginning (handed_bytes moment) whole
 moment_handed events moment later whole same h =
     begins_first (handed_bytes moment) (handed_bytes later) whole
     (subst (λ (l : List ℕ). IsBeginning l whole) (ap handed_bytes same ∙ both_handed moment later) h)
@@ -54,6 +55,7 @@ pub record IsKeptBy (start history : List Entry) (first : List ℕ) (events : Li
   pub added : List Entry
   pub grown : history ≡ start ++ added
   pub bytes : handed_bytes events ≡ first ++ flat_map line_of added
+  pub sound : All IsSound added
 
 pub session_kept : (i : Premises) (start : List Entry) (first : List ℕ) (opening : Opening) (turns : List Turn) (history : List Entry) (events : List Event)
     → IsSession i start first opening turns history events → IsKeptBy start history first events
@@ -61,6 +63,7 @@ session_kept i start first opening turns history events (IsSession.opened new op
   added = opening.added;
   grown = opens.grown;
   bytes = turn_handed (first_text first opening) (opening.text ++ ready_line) true;
+  sound = opens.sound;
 }
 session_kept i start first opening turns history events (IsSession.turned done old new turn before session taken) =
     let earlier = session_kept i start first opening done old before session in
@@ -68,6 +71,7 @@ session_kept i start first opening turns history events (IsSession.turned done o
       added = earlier.added ++ turn.added;
       grown = taken.grown ∙ ap (λ (l : List Entry). l ++ turn.added) earlier.grown ∙ append_assoc start earlier.added turn.added;
       bytes = more_kept first before earlier.added turn earlier.bytes (turn_handed (kept_text turn) (answer_text turn) true);
+      sound = All-append IsSound earlier.added turn.added earlier.sound taken.sound;
     }
   where
     more_kept : (first : List ℕ) (before : List Event) (added : List Entry) (turn : Turn) → handed_bytes before ≡ first ++ flat_map line_of added
@@ -132,19 +136,24 @@ whole_silent turns last whole = elim whole.end [
   | inr full ↦ ap handed_bytes full.0
 ]
 
-pub sessions_hand_over : SessionsHandOver
-sessions_hand_over i start first opening turns history events last moment later legal session whole same =
+-- the history that the journal is on the way to, and what it got of its text
+pub record IsHandedOver (i : Premises) (start : List Entry) (first : List ℕ) (events : List Event) : Type 0 where
+  pub added : List Entry
+  pub handed : IsBeginning (handed_bytes events) (first ++ flat_map line_of added)
+  pub legal : IsLegal i (reverse (start ++ added))
+  pub sound : All IsSound added
+
+pub session_over : (i : Premises) (start : List Entry) (first : List ℕ) (opening : Opening) (turns : List Turn) (history : List Entry) (events last : List Event) → IsLegal i (reverse start)
+    → IsSession i start first opening turns history events → IsWhole turns last → IsHandedOver i start first (events ++ last)
+session_over i start first opening turns history events last legal session whole =
     let kept_all = session_kept i start first opening turns history events session in
     let bytes : handed_bytes (events ++ last) ≡ first ++ flat_map line_of kept_all.added =
     both_handed events last ∙ ap (λ (l : List ℕ). handed_bytes events ++ l) (whole_silent turns last whole) ∙ append-nil (handed_bytes events) ∙ kept_all.bytes in
-    let all : IsBeginning (handed_bytes (events ++ last)) (first ++ flat_map line_of kept_all.added) =
-    subst (λ (l : List ℕ). IsBeginning l (first ++ flat_map line_of kept_all.added)) (sym bytes) (begins_itself (first ++ flat_map line_of kept_all.added)) in
     record {
       added = kept_all.added;
-      over = record {
-        handed = moment_handed (events ++ last) moment later (first ++ flat_map line_of kept_all.added) same all;
-        legal = subst (λ (l : List Entry). IsLegal i (reverse l)) kept_all.grown (sessions_are_legal i start first opening turns history events legal session);
-      };
+      handed = subst (λ (l : List ℕ). IsBeginning l (first ++ flat_map line_of kept_all.added)) (sym bytes) (begins_itself (first ++ flat_map line_of kept_all.added));
+      legal = subst (λ (l : List Entry). IsLegal i (reverse l)) kept_all.grown (sessions_are_legal i start first opening turns history events legal session);
+      sound = kept_all.sound;
     }
 
 -- ---- sessions that end early
@@ -165,17 +174,12 @@ part_handed lines answer Memory events part = elim part [
   | inr late ↦ subst (λ (l : List ℕ). IsBeginning l lines) (sym (ap handed_bytes late ∙ kept_handed lines)) (begins_itself lines)
 ]
 
--- the history that the journal is on the way to, and what it got of its text
-record IsHandedOver (i : Premises) (start : List Entry) (first : List ℕ) (events : List Event) : Type 0 where
-  added : List Entry
-  handed : IsBeginning (handed_bytes events) (first ++ flat_map line_of added)
-  legal : IsLegal i (reverse (start ++ added))
-
 nothing_over : (i : Premises) (start : List Entry) (first : List ℕ) (events : List Event) → handed_bytes events ≡ [] → IsLegal i (reverse start) → IsHandedOver i start first events
 nothing_over i start first events none legal = record {
   added = [];
   handed = nothing_begins (first ++ []) (handed_bytes events) none;
   legal = subst (λ (l : List Entry). IsLegal i (reverse l)) (sym (append-nil start)) legal;
+  sound = All-nil IsSound;
 }
 
 opening_over : (i : Premises) (start : List Entry) (first : List ℕ) (fault : SessionFault) (events : List Event) → IsLegal i (reverse start) → IsOpeningPart i start first fault events
@@ -188,6 +192,7 @@ opening_over i start first fault events legal part = elim part [
     legal =
         subst (λ (l : List Entry). IsLegal i (reverse l)) begun.opens.grown
         (pumping_legal i start begun.new begun.opening.text begun.opens.pumped.pumping legal);
+    sound = begun.opens.sound;
   }
 ]
 
@@ -196,12 +201,14 @@ record IsLastOver (i : Premises) (history : List Entry) (events : List Event) : 
   added : List Entry
   handed : IsBeginning (handed_bytes events) (flat_map line_of added)
   legal : IsLegal i (reverse (history ++ added))
+  sound : All IsSound added
 
 silent_last : (i : Premises) (history : List Entry) (events : List Event) → handed_bytes events ≡ [] → IsLegal i (reverse history) → IsLastOver i history events
 silent_last i history events none legal = record {
   added = [];
   handed = nothing_begins [] (handed_bytes events) none;
   legal = subst (λ (l : List Entry). IsLegal i (reverse l)) (sym (append-nil history)) legal;
+  sound = All-nil IsSound;
 }
 
 turn_last : (i : Premises) (history : List Entry) (line : List ℕ) (fault : SessionFault) (events : List Event) → IsLegal i (reverse history) → IsTurnPart i history line fault events
@@ -212,6 +219,7 @@ turn_last i history line fault events legal part = elim part [
     added = begun.turn.added;
     handed = part_handed (kept_text begun.turn) (answer_text begun.turn) fault events begun.part;
     legal = subst (λ (l : List Entry). IsLegal i (reverse l)) begun.taken.grown (taken_legal i history begun.new begun.turn begun.taken legal);
+    sound = begun.taken.sound;
   }
 ]
 
@@ -224,9 +232,10 @@ cut_last i history fault events legal (IsCut.heard turn) =
       added = last.added;
       handed = subst (λ (l : List ℕ). IsBeginning l (flat_map line_of last.added)) (sym (ap handed_bytes turn.is)) last.handed;
       legal = last.legal;
+      sound = last.sound;
     }
 
-part_over : (i : Premises) (start : List Entry) (first : List ℕ) (fault : SessionFault) (events : List Event) → IsLegal i (reverse start) → IsSessionPart i start first fault events
+pub part_over : (i : Premises) (start : List Entry) (first : List ℕ) (fault : SessionFault) (events : List Event) → IsLegal i (reverse start) → IsSessionPart i start first fault events
     → IsHandedOver i start first events
 part_over i start first fault events legal part = elim part [
   | inl opening ↦ opening_over i start first fault events legal opening
@@ -248,13 +257,6 @@ part_over i start first fault events legal part = elim part [
         legal =
             subst (λ (l : List Entry). IsLegal i (reverse l))
             (ap (λ (l : List Entry). l ++ last.added) kept_all.grown ∙ append_assoc start kept_all.added last.added) last.legal;
+        sound = All-append IsSound kept_all.added last.added kept_all.sound last.sound;
       }
 ]
-
-pub parts_hand_over : PartsHandOver
-parts_hand_over i start first fault events moment later legal part same =
-    let all = part_over i start first fault events legal part in
-    record {
-      added = all.added;
-      over = record { handed = moment_handed events moment later (first ++ flat_map line_of all.added) same all.handed; legal = all.legal };
-    }

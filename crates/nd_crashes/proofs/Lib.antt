@@ -1,2 +1,5 @@
 pub mod Handed
 pub mod Crashed
+pub mod Reached
+pub mod Survived
+pub mod Begun

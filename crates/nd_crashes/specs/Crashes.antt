@@ -1,17 +1,22 @@
 -- What a crash leaves of a journal: a file that only grows keeps what was made durable, and of what was appended since any beginning.
 -- Histories stand oldest first.
 -- Public clauses cite this.
-use Rattle.std.specs.Prelude.{◌≡◌, ℕ, true, List, [], ◌∷◌, ◌++◌, reverse}
-use Rattle.std.specs.List.{flat_map}
+use Rattle.std.specs.Prelude.{◌≡◌, ◌⊎◌, ℕ, Bool, true, false, List, [], ◌∷◌, ◌++◌, reverse}
+use Rattle.std.specs.List.{All, flat_map}
 use Rattle.nd_desk.specs.declared.event.Event.{Event}
 use Rattle.nd_desk.specs.declared.event.Event.TheVariants.{Heard, Ended, Unheard, Appended, Synced, Answered}
 use Rattle.nd_history.specs.declared.entry.Entry.{Entry}
 use Rattle.nd_history.specs.Premises.{Premises}
 use Rattle.nd_history.specs.Legal.{IsLegal}
 use Rattle.nd_history.specs.Sameness.{BeginsWith}
-use Rattle.nd_history_text.specs.HistoryTexts.{line_of, history_text}
+use Rattle.nd_history_text.specs.HistoryTexts.{history_text}
+use Rattle.nd_history_text.specs.Sound.{IsSound}
 use Rattle.nd_history_text.specs.declared.kinds.Version.TheVariants.{Second}
-use Rattle.nd_journal.specs.WholeLines.{whole_lines, IsBeginning}
+use Rattle.nd_journal.specs.WholeLines.{IsBeginning}
+use Rattle.nd_resume.specs.Resumes.{IsResumable}
+use Rattle.nd_serve.specs.Turns.{Turn}
+use Rattle.nd_serve.specs.Sessions.{Opening, IsSession, first_of}
+use Rattle.nd_serve.specs.SessionLaws.{answered}
 
 -- what an event hands to the journal, which may have refused it, or a part of it
 abbrev pub handed_by : Event → List ℕ
@@ -31,27 +36,47 @@ pub record IsLeft (events : List Event) (file : List ℕ) : Type 0 where
   pub beginning : IsBeginning file (handed_bytes events)
   pub durable : (before after : List Event) → events ≡ before ++ Synced true ∷ after → IsBeginning (handed_bytes before) file
 
--- the bytes are the text of a legal history in the second version, but for an unfinished last line
-pub record IsJournalOf (i : Premises) (bytes : List ℕ) (entries : List Entry) : Type 0 where
-  pub whole : whole_lines bytes ≡ history_text Second entries
-  pub legal : IsLegal i (reverse entries)
+-- the bytes that a journal holds, durable, when a session begins: none, where it is fresh and nothing has happened; else the text of the history
+-- that the session goes on from
+abbrev pub HoldsAtFirst : Bool → List ℕ → List Entry → Type 0
+HoldsAtFirst true base start = (base ≡ []) × (start ≡ [])
+HoldsAtFirst false base start = base ≡ history_text Second start
 
--- .. or have no whole line yet
-pub record IsStarted (bytes : List ℕ) : Type 0 where
-  pub none : whole_lines bytes ≡ []
+-- .. and this history is a legal one, whose entries read back from their lines
+pub record IsBegunWith (i : Premises) (fresh : Bool) (base : List ℕ) (start : List Entry) : Type 0 where
+  pub holds : HoldsAtFirst fresh base start
+  pub sound : All IsSound start
+  pub legal : IsLegal i (reverse start)
 
-pub record HoldsHistory (i : Premises) (bytes : List ℕ) : Type 0 where
+-- nothing was answered by these events: what was answered before the session is what it went on from
+pub record IsUnanswered (start : List Entry) (events : List Event) (history : List Entry) : Type 0 where
+  pub silent : answered events ≡ []
+  pub same : history ≡ start
+
+-- the last of the answers is that of the last turn of a session that came to this history, and nothing was answered behind it
+pub record IsAnsweredTo (i : Premises) (start : List Entry) (first : List ℕ) (events : List Event) (history : List Entry) : Type 0 where
+  pub opening : Opening
+  pub turns : List Turn
+  pub front : List Event
+  pub session : IsSession i start first opening turns history front
+  pub later : List Event
+  pub parts : events ≡ front ++ later
+  pub silent : answered later ≡ []
+
+-- the entries that the answers among these events tell of are those of this history
+abbrev pub IsAnswered : Premises → List Entry → List ℕ → List Event → List Entry → Type 0
+IsAnswered i start first events history = IsUnanswered start events history ⊎ IsAnsweredTo i start first events history
+
+-- the bytes are those of a journal that is gone on from with a legal history, which begins with every entry that was answered
+pub record KeepsAnswers (i : Premises) (start : List Entry) (first : List ℕ) (events : List Event) (bytes : List ℕ) : Type 0 where
+  pub history : List Entry
+  pub answers : IsAnswered i start first events history
   pub entries : List Entry
-  pub journal : IsJournalOf i bytes entries
+  pub resumable : IsResumable i bytes entries
+  pub begins : BeginsWith entries history
 
--- .. that begins with these entries
-pub record HoldsAnswered (i : Premises) (bytes : List ℕ) (answered : List Entry) : Type 0 where
-  pub entries : List Entry
-  pub journal : IsJournalOf i bytes entries
-  pub begins : BeginsWith entries answered
-
--- what was handed to the journal by these events is a beginning of what it lacked and of the lines of these entries, with which the history
--- goes on legally
-pub record HandsOver (i : Premises) (start : List Entry) (first : List ℕ) (events : List Event) (added : List Entry) : Type 0 where
-  pub handed : IsBeginning (handed_bytes events) (first ++ flat_map line_of added)
-  pub legal : IsLegal i (reverse (start ++ added))
+-- .. after a crash at any moment of these events, whatever it leaves of what was appended
+pub record SurvivesCrashes (i : Premises) (start : List Entry) (fresh : Bool) (base : List ℕ) (events : List Event) : Type 0 where
+  pub keeps :
+      (moment later : List Event) (file : List ℕ) → events ≡ moment ++ later → IsLeft moment file
+      → KeepsAnswers i start (first_of fresh) moment (base ++ file)

@@ -1,23 +1,19 @@
 //! Laws over what a journal holds after a crash. Each function does nothing, and its contract is the law.
 
-ghost use Rattle.nd_crashes.specs.CrashLaws.{SessionsHandOver, PartsHandOver, CrashesLeaveHistories, CrashesKeepAnswers};
+ghost use Rattle.nd_crashes.specs.CrashLaws.{SessionsSurvive, PartsSurvive, JournalsBegin};
 
-/// At each moment of a session what was handed to its journal is a beginning of the text of a legal history.
-pub fn sessions_hand_over()
-    ensures { SessionsHandOver }
+/// After a crash at any moment of a session its journal is gone on from with a legal history, which begins with
+/// every entry that was answered.
+pub fn sessions_survive()
+    ensures { SessionsSurvive }
 {}
 
-/// .. and at each moment of one that ends early.
-pub fn parts_hand_over()
-    ensures { PartsHandOver }
+/// .. and of one that ended early.
+pub fn parts_survive()
+    ensures { PartsSurvive }
 {}
 
-/// A crash at such a moment leaves the text of a legal history and an unfinished last line, or no whole line.
-pub fn crashes_leave_histories()
-    ensures { CrashesLeaveHistories }
-{}
-
-/// .. and behind an answer, that of a legal history which begins with every entry that was answered.
-pub fn crashes_keep_answers()
-    ensures { CrashesKeepAnswers }
+/// What was gone on from, cut to its whole lines, is what such a session begins with.
+pub fn journals_begin()
+    ensures { JournalsBegin }
 {}

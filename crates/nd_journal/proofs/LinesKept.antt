@@ -11,7 +11,7 @@ use Rattle.nd_history_text.specs.HistoryTexts.{line_of, words_of}
 use Rattle.nd_history_text.specs.Sound.{IsSound}
 use Rattle.nd_history_text.proofs.Plain.{line_front, line_behind, parted}
 use Rattle.nd_history_text.proofs.Once.{line_once, same_head, same_tail}
-use Rattle.nd_journal.specs.WholeLines.{has_newline, whole_lines}
+use Rattle.nd_journal.specs.WholeLines.{has_newline, whole_lines, AreWholeTo}
 
 or_false : (a b : Bool) → a ≡ false → b ≡ false → (a || b) ≡ false
 or_false a b e f = rw (e, f) refl
@@ -172,11 +172,6 @@ one_silent (x ∷ text) b e =
     or_false_right : (t : Bool) → (t || false) ≡ t
     or_false_right true = refl
     or_false_right false = refl
-
--- the whole lines of the first n bytes are the first k of them
-pub record AreWholeTo (text : List ℕ) (n k : ℕ) : Type 0 where
-  pub whole : whole_lines (take n text) ≡ take k text
-  pub within : k ≤ n
 
 pub none_yet : (text : List ℕ) → AreWholeTo text 0 0
 none_yet text = record { whole = refl; within = omega arith }

@@ -1,7 +1,7 @@
 //! The whole lines of a text.
 
-ghost use Rattle.std.specs.Prelude.{◌≡◌};
-ghost use Rattle.nd_journal.specs.WholeLines.{whole_lines};
+ghost use Rattle.std.specs.Prelude.{◌≡◌, ◌+◌, ◌<◌, length};
+ghost use Rattle.nd_journal.specs.WholeLines.{AreWholeTo, whole_lines};
 
 /// The text without the bytes behind its last newline: nothing where it has none.
 #[tactic(auto, using(crate::proofs::LinesKept::cuttings))]
@@ -10,10 +10,18 @@ pub fn whole_lines(text: &[u8]) -> &[u8]
 {
     let mut end = 0;
     for at in 0..text.len() {
-        if text[at] == b'\n' {
-            end = at + 1;
-        }
+        end = end_behind(text, at, end);
     }
     let (whole, _) = text.split_at(end);
     whole
+}
+
+/// How many bytes the whole lines have up to the byte with number `at`, where those before it have `end`.
+#[tactic(auto, using(crate::proofs::LinesKept::cuttings))]
+fn end_behind(text: &[u8], at: usize, end: usize) -> usize
+    requires there { at < length text.now }
+    requires so_far { AreWholeTo text.now at end }
+    ensures { AreWholeTo text.now (at + 1) result }
+{
+    if text[at] == b'\n' { at + 1 } else { end }
 }

@@ -91,9 +91,9 @@ fn begins_second(text: &[u8]) -> bool
     }
 }
 
-/// The first line of the second version, with its newline.
+/// The line that a journal begins with, with its newline: that of a history text of the second version.
 #[tactic(auto, unfolding(nd_history_text::specs::HistoryTexts::first_line))]
-fn first_line() -> &'static [u8]
+pub fn first_line() -> &'static [u8]
     ensures { result.now ≡ first_line Version.Second }
 {
     b"nix-dispatch-history 2\n"

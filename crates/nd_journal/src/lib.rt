@@ -6,4 +6,4 @@ pub mod journal;
 pub mod laws;
 
 pub use cutting::whole_lines;
-pub use journal::{Journal, JournalError, read_journal};
+pub use journal::{Journal, JournalError, first_line, read_journal};

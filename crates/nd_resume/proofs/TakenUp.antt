@@ -1,16 +1,19 @@
 -- The history of a journal.
-use Rattle.std.proofs.Common.{◌≡◌, ℕ, List, reverse, refl, sym, subst}
+use Rattle.std.proofs.Common.{◌≡◌, ℕ, List, ◌∷◌, ◌++◌, reverse, refl, sym, subst}
 use Rattle.nd_history.specs.declared.entry.Entry.{Entry}
 use Rattle.nd_history.specs.declared.rule.Rule.{Rule}
 use Rattle.nd_history.specs.Premises.{Premises}
 use Rattle.nd_history.specs.Legal.{IsLegal}
-use Rattle.nd_report.specs.Audits.{IsFirstIllegal, IsAuditRefused}
+use Rattle.nd_ledger.specs.Worlds.{World}
+use Rattle.nd_ledger.specs.Admitting.{IsAdmitRefused}
+use Rattle.nd_ledger.specs.declared.refusal.AdmitError.{AdmitError}
+use Rattle.nd_report.specs.Audits.{IsFirstIllegal, IsAuditRefused, answer_at}
 use Rattle.nd_report.specs.declared.audit_error.AuditError.{AuditError}
 use Rattle.nd_report.specs.declared.audit_error.AuditError.TheVariants.{Illegal as NotAllowed}
-use Rattle.nd_report.proofs.Admitting.{none_illegal}
+use Rattle.nd_report.proofs.Admitting.{IsAdmitted, none_illegal, refused_at}
 use Rattle.nd_journal.specs.JournalTexts.{IsReadAs}
 use Rattle.nd_journal.proofs.OneAnswer.{read_once, not_refused}
-use Rattle.nd_resume.specs.Resumes.{IsResumable, IsIllegalJournal, IsResumeRefused}
+use Rattle.nd_resume.specs.Resumes.{IsRefusedAt, IsResumable, IsIllegalJournal, IsResumeRefused}
 use Rattle.nd_resume.specs.declared.resume_error.ResumeError.{ResumeError}
 use Rattle.nd_resume.specs.declared.resume_error.ResumeError.TheVariants.{BadLine, Illegal, Memory}
 
@@ -24,6 +27,16 @@ pub journal_illegal : (i : Premises) (bytes : List ℕ) (entries : List Entry) (
 journal_illegal i bytes entries index rule read illegal = record { entries = entries; read = read; illegal = illegal }
 
 pub ruleset resumings = (history_resumed, journal_illegal)
+
+-- ---- an entry that isn't admitted
+
+pub refused_there : (i : Premises) (past : List Entry) (e : Entry) (index : ℕ) (fault : AdmitError) (answer : AuditError) → IsAdmitRefused i past e fault → answer ≡ answer_at index fault
+    → IsRefusedAt i past e index answer
+refused_there i past e index fault answer refused is = record { fault = fault; refused = refused; is = is }
+
+pub entry_refused : (i : Premises) (entries seen after : List Entry) (world : World) (n : ℕ) (e : Entry) (answer : AuditError) → IsAdmitted i seen world n → entries ≡ seen ++ e ∷ after
+    → IsRefusedAt world.inputs (reverse world.history) e n answer → IsAuditRefused i entries answer
+entry_refused i entries seen after world n e answer h whole refused = refused_at i entries seen after world n e refused.fault answer h whole refused.refused refused.is
 
 -- ---- a journal that can be gone on from
 

@@ -1,11 +1,11 @@
 //! The history of a journal, entry by entry.
 
-ghost use Rattle.std.specs.Prelude.{◌≡◌, [], List, length, reverse, IfOk, IfErr, OnOk};
+ghost use Rattle.std.specs.Prelude.{◌≡◌, [], ◌∷◌, ◌++◌, List, length, reverse, IfOk, IfErr, OnOk, OnErr};
 ghost use Rattle.nd_history.specs.declared.entry.Entry.{Entry};
-ghost use Rattle.nd_history.specs.Legal.{IsLegal};
+ghost use Rattle.nd_history.specs.Legal.{IsAllowed, IsLegal};
 ghost use Rattle.nd_report.specs.Audits.{IsAuditRefused, answer_at};
 ghost use Rattle.nd_journal.specs.WholeLines.{whole_lines};
-ghost use Rattle.nd_resume.specs.Resumes.{IsResumable, IsResumeRefused, ResumesUnlessMemory};
+ghost use Rattle.nd_resume.specs.Resumes.{IsRefusedAt, IsResumable, IsResumeRefused, ResumesUnlessMemory};
 
 use crate::resume_error::ResumeError;
 use nd_history::Entry;
@@ -43,7 +43,7 @@ pub fn resume(alloc: Global, dispatch: &mut Dispatch, bytes: &[u8]) -> Result<us
 }
 
 /// Appends these entries to the history of a dispatch that has none, up to the first that isn't allowed.
-#[tactic(auto, using(nd_report::proofs::Admitting::audits))]
+#[tactic(auto, using(nd_report::proofs::Admitting::audits, crate::proofs::TakenUp::entry_refused))]
 fn admit_all(alloc: Global, dispatch: &mut Dispatch, entries: Vec<Entry>) -> Result<(), AuditError>
     requires { dispatch.old.history ≡ [] }
     ensures inputs { dispatch.new.inputs ≡ dispatch.old.inputs }
@@ -53,13 +53,32 @@ fn admit_all(alloc: Global, dispatch: &mut Dispatch, entries: Vec<Entry>) -> Res
 {
     let mut index = 0;
     'admitting: for entry in entries {
-        match dispatch.admit(alloc, entry) {
+        match admit_at(alloc, dispatch, index, entry) {
             Ok(()) => {}
-            Err(fault) => return Err(refusal_at(index, fault)),
+            Err(error) => return Err(error),
         }
         index += 1;
     }
     Ok(())
+}
+
+/// Appends an entry that is to have this place to the history of a dispatch, if it is allowed there.
+#[tactic(auto, using(crate::proofs::TakenUp::refused_there))]
+fn admit_at(
+    alloc: Global,
+    dispatch: &mut Dispatch,
+    index: usize,
+    entry: Entry,
+) -> Result<(), AuditError>
+    ensures appended { OnOk result (dispatch.new ≡ record dispatch.old { history = dispatch.old.history ++ entry ∷ [] }) }
+    ensures allowed { OnOk result (IsAllowed dispatch.old.inputs entry (reverse dispatch.old.history)) }
+    ensures refused { IfErr result (IsRefusedAt dispatch.old.inputs (reverse dispatch.old.history) entry index) }
+    ensures kept { OnErr result (dispatch.new ≡ dispatch.old) }
+{
+    match dispatch.admit(alloc, entry) {
+        Ok(()) => Ok(()),
+        Err(fault) => Err(refusal_at(index, fault)),
+    }
 }
 
 /// What is answered where the entry at this place is refused.

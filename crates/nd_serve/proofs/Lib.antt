@@ -1,5 +1,6 @@
 pub mod JobLines
 pub mod JobRows
+pub mod Looked
 pub mod Prepares
 pub mod Serving
 pub mod SessionRuns

@@ -1,10 +1,11 @@
 -- What a turn comes to before it is handed over.
 use Rattle.std.proofs.Common.{◌≡◌, ◌∙◌, ℕ, ◌≤◌, List, [], ◌∷◌, ◌++◌, length, drop, Some, refl, sym, ap, subst, append-nil, append_assoc}
-use Rattle.std.specs.List.{flat_map}
+use Rattle.std.specs.List.{All, flat_map}
 use Rattle.nd_history.specs.declared.entry.Entry.{Entry}
 use Rattle.nd_history.specs.Premises.{Premises}
 use Rattle.nd_history.specs.Choices.{machines_in}
 use Rattle.nd_history_text.specs.HistoryTexts.{line_of}
+use Rattle.nd_history_text.specs.Sound.{IsSound}
 use Rattle.nd_script.specs.declared.command.Command.{Command}
 use Rattle.nd_sim.specs.declared.answer.Answer.{Answer}
 use Rattle.nd_sim.specs.declared.answer.Answer.TheVariants.{Added, Refused, Replied}
@@ -17,7 +18,7 @@ use Rattle.nd_serve.specs.declared.request.Request.{Request}
 use Rattle.nd_serve.specs.declared.request.Request.TheVariants.{Call, Job, Report, Unknown}
 use Rattle.nd_serve.specs.Asked.{Asks}
 use Rattle.nd_serve.specs.Turns.{IsReply, ready_line}
-use Rattle.nd_serve.specs.Steps.{IsRequestNamed, WritesReply, IsAnswer, IsOpeningAnswer, IsPrepared, IsOpeningPrepared}
+use Rattle.nd_serve.specs.Steps.{IsRequestNamed, WritesReply, AreLinesSince, IsAnswer, IsOpeningAnswer, IsPrepared, IsOpeningPrepared}
 
 -- ---- what is asked for
 
@@ -64,16 +65,25 @@ reply_grown i old new Unknown text reply = kept old new reply.kept
 pub answer_past : (i : Premises) (old new : List Entry) (request : Request) (answer : List ℕ) (n : ℕ) → n ≡ length old → IsAnswer i old new request answer → n ≤ length new
 answer_past i old new request answer n is h = let grown = reply_grown i old new request h.text h.reply in behind old new grown.added n is grown.grown
 
+-- the lines of the last entries, and that these read back
+pub lines_since : (n : ℕ) (history added : List Entry) (first before lines : List ℕ) → added ≡ drop n history → All IsSound added → before ≡ first
+    → lines ≡ before ++ flat_map line_of (drop n history) → AreLinesSince n history first lines
+lines_since n history added first before lines same sound begun are = record {
+  text = are ∙ ap (λ (f : List ℕ). f ++ flat_map line_of (drop n history)) begun;
+  sound = subst (All IsSound) same sound;
+}
+
 pub turn_prepared : (i : Premises) (old new : List Entry) (line : List ℕ) (request : Request) (answer lines : List ℕ) (n : ℕ) → n ≡ length old
-    → Asks (length i.graph.paths) (machines_in i) line request → IsAnswer i old new request answer → lines ≡ [] ++ flat_map line_of (drop n new) → IsPrepared i old new line answer lines
-turn_prepared i old new line request answer lines n is asks h lines_are =
+    → Asks (length i.graph.paths) (machines_in i) line request → IsAnswer i old new request answer → AreLinesSince n new [] lines → IsPrepared i old new line answer lines
+turn_prepared i old new line request answer lines n is asks h since =
     let grown = reply_grown i old new request h.text h.reply in
+    let new_ones = new_entries old new grown.added n is grown.grown in
     record {
       turn = record { line = line; request = request; added = grown.added; text = h.text };
-      taken = record { asks = asks; replies = h.reply; grown = grown.grown };
+      taken = record { asks = asks; replies = h.reply; grown = grown.grown; sound = subst (All IsSound) new_ones since.sound };
       heard = refl;
       says = h.is;
-      keeps = lines_are ∙ ap (flat_map line_of) (new_entries old new grown.added n is grown.grown);
+      keeps = since.text ∙ ap (flat_map line_of) new_ones;
     }
 
 pub ruleset prepared = (answer_past, turn_prepared)
@@ -104,16 +114,15 @@ pub opening_past : (i : Premises) (old new : List Entry) (answer : List ℕ) (n 
 opening_past i old new answer n is h = behind old new h.pumped.pumping.steps n is h.pumped.pumping.grown
 
 pub opening_prepared : (i : Premises) (old new : List Entry) (first last answer lines : List ℕ) (n : ℕ) → n ≡ length old → IsOpeningAnswer i old new answer → first ≡ last
-    → lines ≡ first ++ flat_map line_of (drop n new) → IsOpeningPrepared i old new last answer lines
-opening_prepared i old new first last answer lines n is h same lines_are =
+    → AreLinesSince n new first lines → IsOpeningPrepared i old new last answer lines
+opening_prepared i old new first last answer lines n is h same since =
     let pumping = h.pumped.pumping in
+    let new_ones = new_entries old new pumping.steps n is pumping.grown in
     record {
       opening = record { added = pumping.steps; text = h.text };
-      opens = record { pumped = h.pumped; grown = pumping.grown };
+      opens = record { pumped = h.pumped; grown = pumping.grown; sound = subst (All IsSound) new_ones since.sound };
       says = h.is;
-      keeps =
-          lines_are ∙ ap (λ (f : List ℕ). f ++ flat_map line_of (drop n new)) same
-          ∙ ap (λ (l : List Entry). last ++ flat_map line_of l) (new_entries old new pumping.steps n is pumping.grown);
+      keeps = since.text ∙ (λ j. same j ++ flat_map line_of (new_ones j));
     }
 
 pub ruleset opened = (opening_past, opening_prepared)

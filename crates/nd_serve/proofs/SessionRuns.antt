@@ -20,7 +20,7 @@ use Rattle.nd_serve.specs.SessionLaws.{command_of, commands_of, simulated_of, si
 
 -- ---- what is answered
 
-kept_silent : (lines : List ℕ) → answered (kept lines) ≡ []
+pub kept_silent : (lines : List ℕ) → answered (kept lines) ≡ []
 kept_silent [] = refl
 kept_silent (b ∷ lines) = refl
 

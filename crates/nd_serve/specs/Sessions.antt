@@ -3,7 +3,7 @@
 -- first.
 -- Public clauses cite this.
 use Rattle.std.specs.Prelude.{◌≡◌, ◌⊎◌, ℕ, ◌≤◌, Bool, true, false, List, [], ◌∷◌, ◌++◌, length, Option}
-use Rattle.std.specs.List.{flat_map}
+use Rattle.std.specs.List.{All, flat_map}
 use Rattle.nd_desk.specs.declared.event.Event.{Event}
 use Rattle.nd_desk.specs.declared.event.Event.TheVariants.{Heard, Ended, Unheard}
 use Rattle.nd_desk.specs.declared.fault.SessionFault.{SessionFault}
@@ -13,6 +13,7 @@ use Rattle.nd_desk.specs.Notes.{Notes}
 use Rattle.nd_history.specs.declared.entry.Entry.{Entry}
 use Rattle.nd_history.specs.Premises.{Premises}
 use Rattle.nd_history_text.specs.HistoryTexts.{line_of, first_line}
+use Rattle.nd_history_text.specs.Sound.{IsSound}
 use Rattle.nd_history_text.specs.declared.kinds.Version.TheVariants.{Second}
 use Rattle.nd_sim.specs.Runs.{IsPumped}
 use Rattle.nd_serve.specs.Turns.{Turn, IsTaken, kept_text, answer_text, ready_line}
@@ -34,6 +35,7 @@ pub record Opening : Type 0 where
 pub record IsOpening (i : Premises) (old new : List Entry) (opening : Opening) : Type 0 where
   pub pumped : IsPumped i old new opening.text
   pub grown : new ≡ old ++ opening.added
+  pub sound : All IsSound opening.added
 
 -- what the journal gets of it: the line that a journal begins with, where it has none yet, and a line for each entry
 abbrev pub first_text : List ℕ → Opening → List ℕ
@@ -49,7 +51,9 @@ turn_events turn = Heard turn.line ∷ handed (kept_text turn) (answer_text turn
 -- and all that was done
 pub data IsSession (i : Premises) (start : List Entry) (first : List ℕ) (opening : Opening) : List Turn → List Entry → List Event → Type 0 where
   opened : (history : List Entry) → IsOpening i start history opening → IsSession i start first opening [] history (opening_events first opening)
-  turned : (turns : List Turn) (old new : List Entry) (turn : Turn) (events : List Event) → IsSession i start first opening turns old events → IsTaken i old new turn
+  turned :
+      (turns : List Turn) (old new : List Entry) (turn : Turn) (events : List Event)
+      → IsSession i start first opening turns old events → IsTaken i old new turn
       → IsSession i start first opening (turns ++ turn ∷ []) new (events ++ turn_events turn)
 
 -- ---- a session that ends early

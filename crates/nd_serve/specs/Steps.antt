@@ -1,5 +1,6 @@
 -- What the parts of a turn come to, before they are put together. No public clause cites this: it serves private clauses alone.
-use Rattle.std.specs.Prelude.{◌≡◌, ℕ, ◌<◌, Bool, true, false, List, [], ◌∷◌, ◌++◌, length, Option}
+use Rattle.std.specs.Prelude.{◌≡◌, ℕ, ◌<◌, Bool, true, false, List, [], ◌∷◌, ◌++◌, drop, length, Option}
+use Rattle.std.specs.List.{All, flat_map}
 use Rattle.std.specs.Io.KnownBytes.{Appends}
 use Rattle.nd_desk.specs.declared.event.Event.{Event}
 use Rattle.nd_desk.specs.declared.event.Event.TheVariants.{Ended}
@@ -8,6 +9,9 @@ use Rattle.nd_desk.specs.Handing.{handed}
 use Rattle.nd_desk.specs.Notes.{Notes}
 use Rattle.nd_history.specs.declared.entry.Entry.{Entry}
 use Rattle.nd_history.specs.Premises.{Premises}
+use Rattle.nd_history_text.specs.HistoryTexts.{line_of}
+use Rattle.nd_history_text.specs.Sound.{IsSound}
+use Rattle.nd_ledger.specs.Worlds.{World}
 use Rattle.nd_sim.specs.Answers.{IsNamed}
 use Rattle.nd_sim.specs.Runs.{IsPumped}
 use Rattle.nd_path.specs.PathSets.{IsRising}
@@ -31,6 +35,10 @@ pub record WritesReply (i : Premises) (old new : List Entry) (request : Request)
   pub reply : IsReply i old new request text
   pub appended : Appends before written text
 
+-- .. of two dispatches
+abbrev pub RepliesBetween : World → World → Request → Option (List ℕ) → Option (List ℕ) → Type 0
+RepliesBetween old new request before written = WritesReply old.inputs old.history new.history request before written
+
 pub record WritesJob (i : Premises) (past : List Entry) (d : ℕ) (before written : Option (List ℕ)) : Type 0 where
   pub text : List ℕ
   pub is : IsJobText i past d text
@@ -42,6 +50,11 @@ pub record WritesJobOf (i : Premises) (past : List Entry) (ticket : Ticket) (bef
   pub missing : IsMissing i past ticket.drv ticket.machine paths
   pub rising : IsRising paths
   pub appended : Appends before written (job_row i ticket paths)
+
+-- these bytes, and the lines of the entries from the n-th on, each of which reads back from its line
+pub record AreLinesSince (n : ℕ) (history : List Entry) (first lines : List ℕ) : Type 0 where
+  pub text : lines ≡ first ++ flat_map line_of (drop n history)
+  pub sound : All IsSound (drop n history)
 
 -- a reply, and the line that ends it
 pub record IsAnswer (i : Premises) (old new : List Entry) (request : Request) (answer : List ℕ) : Type 0 where
@@ -68,6 +81,10 @@ pub record IsOpeningPrepared (i : Premises) (old new : List Entry) (first answer
   pub opens : IsOpening i old new opening
   pub says : answer ≡ opening.text ++ ready_line
   pub keeps : lines ≡ first_text first opening
+
+-- .. of two dispatches
+abbrev pub PreparesOpening : World → World → List ℕ → List ℕ → List ℕ → Type 0
+PreparesOpening old new first answer lines = IsOpeningPrepared old.inputs old.history new.history first answer lines
 
 -- what a desk has of the opening
 pub record Opens (i : Premises) (old new : List Entry) (first : List ℕ) (before after : Option (List Event)) : Type 0 where

@@ -3,7 +3,7 @@
 -- Public clauses cite this.
 use Rattle.std.specs.Prelude.{◌≡◌, ◌⊎◌, ℕ, List, [], ◌∷◌, ◌++◌, length, reverse, slice_index_or, Some, codes}
 use Rattle.std.specs.Fmt.{decimal}
-use Rattle.std.specs.List.{flat_map}
+use Rattle.std.specs.List.{All, flat_map}
 use Rattle.nd_path.specs.PathSets.{IsRising}
 use Rattle.nd_hook.specs.ReplyText.{line}
 use Rattle.nd_history.specs.declared.entry.Entry.{Entry}
@@ -16,6 +16,7 @@ use Rattle.nd_provision.specs.Stored.{IsMissing}
 use Rattle.nd_ledger.specs.declared.refusal.Refusal.{Refusal}
 use Rattle.nd_history_text.specs.HistoryTexts.{line_of}
 use Rattle.nd_history_text.specs.Rows.{row}
+use Rattle.nd_history_text.specs.Sound.{IsSound}
 use Rattle.nd_report.specs.Reports.{IsReport}
 use Rattle.nd_sim.specs.Answers.{HasNoLease}
 use Rattle.nd_sim.specs.Runs.{IsTurn, refused_line}
@@ -78,11 +79,12 @@ pub record Turn : Type 0 where
   pub added : List Entry
   pub text : List ℕ
 
--- .. between two histories
+-- .. between two histories; each entry reads back from its line
 pub record IsTaken (i : Premises) (old new : List Entry) (turn : Turn) : Type 0 where
   pub asks : Asks (length i.graph.paths) (machines_in i) turn.line turn.request
   pub replies : IsReply i old new turn.request turn.text
   pub grown : new ≡ old ++ turn.added
+  pub sound : All IsSound turn.added
 
 -- what the journal gets of a turn: a line for each entry
 abbrev pub kept_text : Turn → List ℕ

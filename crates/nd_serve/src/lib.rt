@@ -3,6 +3,7 @@
 #![tactic(auto)]
 
 mod asking;
+mod entries;
 mod jobs;
 pub mod laws;
 mod preparing;

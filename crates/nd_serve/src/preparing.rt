@@ -1,18 +1,18 @@
 //! What a line does and what is written of it, before any of that leaves the program.
 
-ghost use Rattle.std.specs.Prelude.{◌≡◌, ◌≤◌, ◌++◌, length, drop, IfOk, OnOk};
-ghost use Rattle.std.specs.List.{flat_map};
-ghost use Rattle.nd_history_text.specs.HistoryTexts.{line_of};
+ghost use Rattle.std.specs.Prelude.{◌≡◌, ◌≤◌, ◌++◌, length, IfOk, OnOk};
 ghost use Rattle.nd_history.specs.Choices.{machines_in};
 ghost use Rattle.nd_serve.specs.Asked.{Asks};
 ghost use Rattle.nd_serve.specs.Sessions.{first_of};
 ghost use Rattle.nd_serve.specs.Turns.{ready_line, unknown_line};
-ghost use Rattle.nd_serve.specs.Steps.{IsRequestNamed, WritesReply, IsAnswer, IsPrepared, IsOpeningAnswer, IsOpeningPrepared};
+ghost use Rattle.nd_serve.specs.Steps.{AreLinesSince, IsRequestNamed, IsAnswer, IsPrepared, IsOpeningAnswer, PreparesOpening, RepliesBetween};
 
 use crate::asking::read_request;
+use crate::entries::look_at;
 use crate::jobs::write_job;
 use crate::request::Request;
 use nd_devices::{Fault, Told, WriteError};
+use nd_journal::first_line;
 use nd_ledger::Dispatch;
 use nd_report::write_report;
 use nd_sim::{pump, turn, write_added};
@@ -61,7 +61,7 @@ pub(crate) fn prepare_opening(
     fresh: bool,
 ) -> Result<Prepared, AllocError>
     ensures inputs { dispatch.new.inputs ≡ dispatch.old.inputs }
-    ensures prepared { IfOk result (λ p. IsOpeningPrepared dispatch.old.inputs dispatch.old.history dispatch.new.history (first_of fresh) p.answer.items p.lines.items) }
+    ensures prepared { IfOk result (λ p. PreparesOpening dispatch.old dispatch.new (first_of fresh) p.answer.items p.lines.items) }
 {
     let before = dispatch.history().len();
     let answer = match opening_answer(alloc, dispatch) {
@@ -136,7 +136,7 @@ fn reply<W: io::Write>(
 ) -> Result<(), AllocError>
     requires { IsRequestNamed dispatch.old.inputs request }
     ensures inputs { dispatch.new.inputs ≡ dispatch.old.inputs }
-    ensures written { OnOk result (WritesReply dispatch.old.inputs dispatch.old.history dispatch.new.history request (W.contents out.old.device) (W.contents out.new.device)) }
+    ensures written { OnOk result (RepliesBetween dispatch.old dispatch.new request (W.contents out.old.device) (W.contents out.new.device)) }
 {
     match request {
         Request::Call(command) => match turn(alloc, dispatch, command, out) {
@@ -156,6 +156,7 @@ fn reply<W: io::Write>(
 }
 
 /// These bytes, and the lines of the entries from the one with number `before` on.
+#[tactic(auto, using(crate::proofs::Prepares::lines_since))]
 fn lines_since(
     alloc: Global,
     first: &[u8],
@@ -163,8 +164,10 @@ fn lines_since(
     before: usize,
 ) -> Result<Vec<u8>, AllocError>
     requires { before ≤ length dispatch.now.history }
-    ensures { IfOk result (λ v. v.items ≡ first.now ++ flat_map line_of (drop before dispatch.now.history)) }
+    ensures { IfOk result (λ v. AreLinesSince before dispatch.now.history first.now v.items) }
 {
+    let (_, added) = dispatch.history().split_at(before);
+    look_at(added);
     let mut out = Told::new(Vec::from_slice(alloc, first)?);
     match write_added(dispatch, before, &mut out) {
         Ok(()) => Ok(out.into_inner()),
@@ -173,15 +176,10 @@ fn lines_since(
 }
 
 /// What a journal begins with, where it has nothing yet.
-#[tactic(auto, unfolding(nd_history_text::specs::HistoryTexts::first_line))]
 fn first_bytes(fresh: bool) -> &'static [u8]
     ensures { result.now ≡ first_of fresh }
 {
-    if fresh {
-        b"nix-dispatch-history 2\n"
-    } else {
-        b""
-    }
+    if fresh { first_line() } else { b"" }
 }
 
 /// The line that ends each answer.

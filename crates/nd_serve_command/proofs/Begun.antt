@@ -5,9 +5,12 @@ use Rattle.nd_history.specs.declared.entry.Entry.{Entry}
 use Rattle.nd_history.specs.declared.rule.Rule.{Rule}
 use Rattle.nd_history.specs.Premises.{Premises}
 use Rattle.nd_ledger.specs.Worlds.{World}
-use Rattle.nd_resume.specs.Resumes.{IsResumeRefused}
+use Rattle.nd_journal.specs.WholeLines.{whole_lines}
+use Rattle.nd_resume.specs.Resumes.{IsResumable, IsResumeRefused}
 use Rattle.nd_resume.specs.declared.resume_error.ResumeError.{ResumeError}
 use Rattle.nd_resume.specs.declared.resume_error.ResumeError.TheVariants.{BadLine, Illegal, Memory as NoRoom}
+use Rattle.nd_crashes.specs.Crashes.{IsBegunWith}
+use Rattle.nd_crashes.proofs.Begun.{journals_begin}
 use Rattle.nd_serve_command.specs.Faults.{fault_of_journal}
 use Rattle.nd_serve_command.specs.Sessions.{MayHold, HoldsSome, IsJournalFault}
 use Rattle.nd_serve_command.specs.declared.fault.ServeFault.{ServeFault}
@@ -30,6 +33,14 @@ pub holds_some : (resumes : Bool) (journal : List ℕ) (none : Bool) → none �
 holds_some resumes journal none is h same = (same, some_held journal (sym is ∙ h))
 
 pub ruleset beginnings = (may_resume, may_be_new, holds_some)
+
+-- ---- what the journal holds then
+
+pub journal_begun : (i j : Premises) (journal : List ℕ) (history : List Entry) (kept : ℕ) → j ≡ i → IsResumable i journal history → kept ≡ length (whole_lines journal)
+    → IsBegunWith j (kept == 0) (whole_lines journal) history
+journal_begun i j journal history kept inputs resumable is =
+    subst (λ (n : ℕ). IsBegunWith j (n == 0) (whole_lines journal) history) (sym is)
+    (journals_begin j journal history (subst (λ (p : Premises). IsResumable p journal history) (sym inputs) resumable))
 
 -- ---- why a journal isn't begun with
 

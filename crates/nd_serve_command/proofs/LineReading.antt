@@ -1,9 +1,8 @@
 -- A line of a reader.
-use Rattle.std.proofs.Common.{◌≡◌, ◌∙◌, ◌==◌, ℕ, Bool, true, false, List, [], ◌∷◌, ◌++◌, length, take, Option, None, Some, refl, sym, ap, subst, arith}
+use Rattle.std.proofs.Common.{◌≡◌, ◌∙◌, ◌==◌, ℕ, Bool, true, false, List, [], ◌∷◌, ◌++◌, length, take, Option, None, Some, refl, ap}
 use Rattle.std.specs.Prelude.{IfSome}
-use Rattle.std.specs.Io.BufRead.{take_through, drop_through, DropsThrough}
+use Rattle.std.specs.Io.BufRead.{take_through, DropsThrough}
 use Rattle.std.specs.Io.KnownBytes.{IsAtEnd}
-use Rattle.nd_bytes.specs.Cut.{until}
 use Rattle.nd_serve_command.specs.Lines.{front, line_start, IsLineRead}
 
 -- ---- what stands before the first newline

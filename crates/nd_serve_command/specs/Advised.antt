@@ -5,7 +5,7 @@ use Rattle.nd_explain.specs.AdviceWords.{advice_words as words_on}
 use Rattle.nd_resume.specs.declared.resume_error.ResumeError.{ResumeError}
 use Rattle.nd_resume.specs.declared.resume_error.ResumeError.TheVariants.{BadLine, Illegal, Memory}
 use Rattle.nd_serve_command.specs.declared.fault.ServeFault.{ServeFault}
-use Rattle.nd_serve_command.specs.declared.fault.ServeFault.TheVariants.{Cli, NotEmpty, Journal, JournalFailed}
+use Rattle.nd_serve_command.specs.declared.fault.ServeFault.TheVariants.{Cli, NotEmpty, InUse, Journal, JournalFailed}
 
 abbrev pub advice_words_of_journal : ResumeError → List ℕ × List ℕ
 advice_words_of_journal (BadLine number) = (
@@ -28,6 +28,10 @@ advice_words NotEmpty = (
   codes "the journal holds something already, and --resume isn't given",
   codes "give --resume to go on from it, or name another file",
 )
+advice_words InUse = (
+  codes "another session has the journal open",
+  codes "wait until that session has ended, or name another file",
+)
 advice_words (Journal refusal) = advice_words_of_journal refusal
 advice_words JournalFailed = (
   codes "the journal can't be opened, or the system refused to read, cut or write it or to make it durable",
@@ -43,5 +47,6 @@ line_of_journal Memory = None
 abbrev pub line_named : ServeFault → Option ℕ
 line_named (Cli fault) = None
 line_named NotEmpty = None
+line_named InUse = None
 line_named (Journal refusal) = line_of_journal refusal
 line_named JournalFailed = None

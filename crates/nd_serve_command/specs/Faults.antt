@@ -8,12 +8,13 @@ use Rattle.nd_desk.specs.declared.fault.SessionFault.TheVariants.{Read, Journal 
 use Rattle.nd_resume.specs.declared.resume_error.ResumeError.{ResumeError}
 use Rattle.nd_resume.specs.declared.resume_error.ResumeError.TheVariants.{BadLine, Illegal, Memory as NoRoom}
 use Rattle.nd_serve_command.specs.declared.fault.ServeFault.{ServeFault}
-use Rattle.nd_serve_command.specs.declared.fault.ServeFault.TheVariants.{Cli, NotEmpty, Journal, JournalFailed}
+use Rattle.nd_serve_command.specs.declared.fault.ServeFault.TheVariants.{Cli, NotEmpty, InUse, Journal, JournalFailed}
 
 -- 3 where an input or the journal is refused, 5 where a device or the memory failed
 abbrev pub fault_status : ServeFault → ℕ
 fault_status (Cli fault) = exit_status fault
 fault_status NotEmpty = 3
+fault_status InUse = 3
 fault_status (Journal refusal) = 3
 fault_status JournalFailed = 5
 

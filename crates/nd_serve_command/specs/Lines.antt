@@ -1,5 +1,5 @@
 -- The next line of a reader, as far as what it has left is known. No public clause cites this: it serves private clauses alone.
-use Rattle.std.specs.Prelude.{◌≡◌, ◌==◌, ℕ, List, [], ◌∷◌, length, take, Option, Some, None}
+use Rattle.std.specs.Prelude.{◌≡◌, ◌==◌, ℕ, List, [], ◌∷◌, length, Option, Some, None}
 use Rattle.std.specs.Io.BufRead.{drop_through}
 use Rattle.nd_bytes.specs.Cut.{until}
 

@@ -1,6 +1,6 @@
 -- What `serve` begins with, and what it comes to. Histories stand oldest first.
--- Public clauses cite this, but for `IsJournalFault`, `HoldsSome`, `ReadsAccepted` and `TakesUnlessMemory`, which serve private ones.
-use Rattle.std.specs.Prelude.{◌≡◌, ◌≢◌, ℕ, ◌<◌, Bool, true, false, List, [], length, reverse, Option, Some, Result, Ok, Err, MatchResult}
+-- Public clauses cite this, but for `IsJournalFault`, `HoldsSome`, `ReadsAccepted` and `TakesResumable`, which serve private ones.
+use Rattle.std.specs.Prelude.{◌≡◌, ◌≢◌, ℕ, ◌<◌, Bool, true, false, List, [], ◌++◌, length, reverse, Option, Some, Result, Ok, Err, MatchResult}
 use Rattle.nd_desk.specs.declared.event.Event.{Event}
 use Rattle.nd_desk.specs.declared.fault.SessionFault.{SessionFault}
 use Rattle.nd_devices.specs.Watched.{Watched}
@@ -13,6 +13,7 @@ use Rattle.nd_resume.specs.Resumes.{IsResumable, IsResumeRefused}
 use Rattle.nd_resume.specs.declared.resume_error.ResumeError.TheVariants.{Memory as NoRoom}
 use Rattle.nd_serve.specs.Sessions.{Serves, ServesPart, first_of}
 use Rattle.nd_serve.specs.SessionLaws.{IsSimulated}
+use Rattle.nd_crashes.specs.Crashes.{IsBegunWith, SurvivesCrashes}
 use Rattle.nd_cli.specs.Asked.{IsAskFault}
 use Rattle.nd_cli.specs.Inputs.{ReadsWhole, is_read_fault}
 use Rattle.nd_cli.specs.declared.options.ParkOptions.{ParkOptions}
@@ -21,7 +22,7 @@ use Rattle.nd_cli.specs.declared.fault.CliFault.TheVariants.{Read, Memory}
 use Rattle.nd_commands.specs.Opened.{HasInputs, ReadsInputs}
 use Rattle.nd_serve_command.specs.Faults.{fault_of}
 use Rattle.nd_serve_command.specs.declared.fault.ServeFault.{ServeFault}
-use Rattle.nd_serve_command.specs.declared.fault.ServeFault.TheVariants.{Cli, NotEmpty, Journal, JournalFailed}
+use Rattle.nd_serve_command.specs.declared.fault.ServeFault.TheVariants.{Cli, NotEmpty, InUse, Journal, JournalFailed}
 use Rattle.nd_serve_command.specs.declared.opening.Opened.{Opened}
 
 -- ---- the opening
@@ -42,15 +43,19 @@ pub record AcceptsSession (options : ParkOptions) (text journal : List ℕ) (res
   pub history : IsResumable world.inputs journal world.history
 
 -- .. of a bundle that was read whole
-pub record BeginsSession {R : Type 0} (options : ParkOptions) (journal : List ℕ) (resumes : Bool) (remaining : R → Option (List ℕ)) (reader reader_after : Watched R) (world : World) : Type 0 where
+pub record BeginsSession (options : ParkOptions) (journal : List ℕ) (resumes : Bool) (unread left : Option (List ℕ)) (world : World) : Type 0 where
   pub text : List ℕ
-  pub read : ReadsWhole (remaining reader.device) (remaining reader_after.device) text
+  pub read : ReadsWhole unread left text
   pub accepts : AcceptsSession options text journal resumes world
+
+abbrev pub OpensSession : ParkOptions → List ℕ → Bool → Option (List ℕ) → Option (List ℕ) → Opened → Type 0
+OpensSession options journal resumes unread left opened = BeginsSession options journal resumes unread left opened.dispatch
 
 -- Why the journal isn't begun with: it holds something, or it tells no legal history. Want of memory is no refusal of it.
 abbrev pub IsJournalFault : Premises → List ℕ → Bool → ServeFault → Type 0
 IsJournalFault i journal resumes (Cli fault) = fault ≡ Memory
 IsJournalFault i journal resumes NotEmpty = HoldsSome resumes journal
+IsJournalFault i journal resumes InUse = ⊥
 IsJournalFault i journal resumes (Journal e) = MayHold resumes journal × (e ≢ NoRoom) × IsResumeRefused i journal e
 IsJournalFault i journal resumes JournalFailed = ⊥
 
@@ -66,6 +71,7 @@ abbrev pub IsOpenFault : {R : Type 0} → ParkOptions → List ℕ → Bool → 
 IsOpenFault options journal resumes remaining reader reader_after (Cli fault) = IsAskFault options remaining reader reader_after false fault
 IsOpenFault options journal resumes remaining reader reader_after NotEmpty =
     RefusesJournal options journal resumes (remaining reader.device) (remaining reader_after.device) NotEmpty
+IsOpenFault options journal resumes remaining reader reader_after InUse = ⊥
 IsOpenFault options journal resumes remaining reader reader_after (Journal e) =
     RefusesJournal options journal resumes (remaining reader.device) (remaining reader_after.device) (Journal e)
 IsOpenFault options journal resumes remaining reader reader_after JournalFailed = ⊥
@@ -85,6 +91,7 @@ IsDeviceFault _ = ⊥
 abbrev pub IsNoRefusal : ServeFault → Type 0
 IsNoRefusal (Cli fault) = IsDeviceFault fault
 IsNoRefusal NotEmpty = ⊥
+IsNoRefusal InUse = ⊥
 IsNoRefusal (Journal e) = ⊥
 IsNoRefusal JournalFailed = ⊥
 
@@ -108,19 +115,30 @@ ReadsAccepted options unread answer = (text : List ℕ) (inputs : Premises) → 
 abbrev pub TakesUnlessMemory : Result Opened ServeFault → List Entry → Type 0
 TakesUnlessMemory answer entries = MatchResult answer (λ opened. opened.dispatch.history ≡ entries) (λ e. e ≡ Cli Memory)
 
+abbrev pub TakesResumable : Premises → List ℕ → Bool → Result Opened ServeFault → Type 0
+TakesResumable i journal resumes answer = (entries : List Entry) → MayHold resumes journal → IsResumable i journal entries → TakesUnlessMemory answer entries
+
 -- ---- the session
 
+-- whatever the journal held when these events began, it survives a crash at any moment of them
+abbrev pub Survives : World → Bool → List Event → Type 0
+Survives start fresh events =
+    (base : List ℕ) → IsBegunWith start.inputs fresh base start.history → SurvivesCrashes start.inputs start.history fresh base events
+
 -- A session from this dispatch on, with a journal that is begun or not, up to the end of the input. One that began with the empty history is
--- the simulation of its commands, with a line `ready` behind the text of the opening and of each of them; and the history stays legal.
+-- the simulation of its commands, with a line `ready` behind the text of the opening and of each of them; the history stays legal; and
+-- whenever a crash comes, the journal is gone on from with a legal history that begins with every entry that was answered.
 pub record EndsSession (start : World) (fresh : Bool) (status : ℕ) (old new : Option (List Event)) : Type 0 where
   pub history : List Entry
   pub serves : Serves start.inputs start.history history (first_of fresh) old new
   pub simulated : start.history ≡ [] → IsSimulated start.inputs serves.opening serves.turns history serves.events
   pub legal : IsLegal start.inputs (reverse start.history) → IsLegal start.inputs (reverse history)
   pub exit : IsExitStatus start.inputs (reverse history) status
+  pub survives : Survives start fresh (serves.events ++ serves.last)
 
 -- .. up to a turn that ends early: nothing of that is answered, but for a part of the answer where the output refused it
 pub record CutsSession (start : World) (fresh : Bool) (fault : ServeFault) (old new : Option (List Event)) : Type 0 where
   pub cause : SessionFault
   pub is : fault ≡ fault_of cause
   pub part : ServesPart start.inputs start.history (first_of fresh) old new cause
+  pub survives : Survives start fresh part.events

@@ -94,6 +94,10 @@ pub fn journal_advice(fault: &ServeFault) -> Advice
             cause: "the journal holds something already, and --resume isn't given",
             cure: "give --resume to go on from it, or name another file",
         },
+        ServeFault::InUse => Advice {
+            cause: "another session has the journal open",
+            cure: "wait until that session has ended, or name another file",
+        },
         ServeFault::Journal(refusal) => of_journal(refusal),
         ServeFault::JournalFailed => Advice {
             cause: "the journal can't be opened, or the system refused to read, cut or write it or to make it durable",

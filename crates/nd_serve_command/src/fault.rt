@@ -18,6 +18,9 @@ pub enum ServeFault {
     /// The journal holds something, and isn't to be gone on from. Status 3.
     #[error("nix-dispatch: journal: NotEmpty")]
     NotEmpty,
+    /// Another session has the journal. Status 3.
+    #[error("nix-dispatch: journal: InUse")]
+    InUse,
     /// The journal that is to be gone on from is none. Status 3.
     #[error("nix-dispatch: journal: {0}")]
     Journal(ResumeError),
@@ -35,6 +38,7 @@ impl ServeFault {
         match self {
             ServeFault::Cli(fault) => fault.status(),
             ServeFault::NotEmpty => 3,
+            ServeFault::InUse => 3,
             ServeFault::Journal(_) => 3,
             ServeFault::JournalFailed => 5,
         }

@@ -1,11 +1,11 @@
 //! What a session begins with.
 
-ghost use Rattle.std.specs.Prelude.{◌≡◌, List, [], false, length, IfOk, IfErr, OnOk, MatchBool};
-ghost use Rattle.nd_history.specs.declared.entry.Entry.{Entry};
+ghost use Rattle.std.specs.Prelude.{◌≡◌, ◌==◌, [], false, length, IfOk, IfErr, OnOk, MatchBool};
+ghost use Rattle.nd_crashes.specs.Crashes.{IsBegunWith};
 ghost use Rattle.nd_journal.specs.WholeLines.{whole_lines};
 ghost use Rattle.nd_resume.specs.Resumes.{IsResumable};
-ghost use Rattle.nd_serve_command.specs.Sessions.{AnswersAcceptedSession, BeginsSession, IsOpenFault, is_unread};
-ghost use Rattle.nd_serve_command.specs.Sessions.{HoldsSome, IsJournalFault, MayHold, TakesUnlessMemory};
+ghost use Rattle.nd_serve_command.specs.Sessions.{AnswersAcceptedSession, OpensSession, IsOpenFault, is_unread};
+ghost use Rattle.nd_serve_command.specs.Sessions.{HoldsSome, IsJournalFault, MayHold, TakesResumable};
 
 use crate::fault::{ServeFault, journal_fault};
 use crate::reading::read_dispatch;
@@ -29,7 +29,8 @@ pub struct Opened {
 }
 
 /// Reads the bundle on the input and what the options name, and then the journal with these bytes, which
-/// has to be empty where it isn't to be resumed from. The journal itself isn't touched.
+/// has to be empty where it isn't to be resumed from. The journal itself isn't touched. Cut to the bytes
+/// that are gone on from, it is what a session of [`serve_engine`](crate::serve_engine) begins with.
 ///
 /// The first refusal in this order is answered: `Read`; `TooLarge` or `Drvs` for the bundle; `TooLarge` or
 /// `Builders` for the builders list; `TooLarge` or `Info` for the info text; `NotEmpty`, or else `BadLine`
@@ -43,8 +44,9 @@ pub fn open_session<R: Read>(
     input: &mut Told<R>,
 ) -> Result<Opened, ServeFault>
     requires reader { input.old.is_marked ≡ false }
-    ensures opened { IfOk result (λ opened. BeginsSession options.now journal.now resumes R.remaining input.old input.new opened.dispatch) }
+    ensures opened { IfOk result (OpensSession options.now journal.now resumes (R.remaining input.old.device) (R.remaining input.new.device)) }
     ensures kept { IfOk result (λ opened. opened.kept ≡ length (whole_lines journal.now)) }
+    ensures begun { IfOk result (λ opened. IsBegunWith opened.dispatch.inputs (opened.kept == 0) (whole_lines journal.now) opened.dispatch.history) }
     ensures fault { IfErr result (IsOpenFault options.now journal.now resumes R.remaining input.old input.new) }
     ensures mark { input.new.is_marked ≡ is_unread result }
     ensures exactly { AnswersAcceptedSession options.now journal.now resumes (R.remaining input.old.device) result }
@@ -72,7 +74,7 @@ fn take_journal(
     ensures history { IfOk result (λ opened. IsResumable dispatch.inputs journal.now opened.dispatch.history) }
     ensures kept { IfOk result (λ opened. opened.kept ≡ length (whole_lines journal.now)) }
     ensures refused { IfErr result (IsJournalFault dispatch.inputs journal.now resumes) }
-    ensures exactly { (entries : List Entry) → MayHold resumes journal.now → IsResumable dispatch.inputs journal.now entries → TakesUnlessMemory result entries }
+    ensures exactly { TakesResumable dispatch.inputs journal.now resumes result }
 {
     if !may_begin(journal, resumes) {
         close_dispatch(dispatch);

@@ -16,6 +16,9 @@ use std::alloc::Global;
 /// Ends with `Read`, `Write` and `Memory`, as the other commands, and with `JournalFailed` where the journal
 /// refused an append or a sync. Of the turn that it ends in nothing is answered, but for a part of the
 /// answer at `Write`.
+///
+/// At whatever moment the program or the machine stops, and whatever part of what wasn't durable is lost: the
+/// journal's file is then gone on from with a legal history, which begins with every entry that was answered.
 #[tactic(auto, using(crate::proofs::Ended::sessions))]
 pub fn serve_engine<D: Desk>(alloc: Global, opened: Opened, desk: &mut D) -> Result<u8, ServeFault>
     ensures ended { IfOk result (λ status. EndsSession opened.dispatch (opened.kept == 0) status (D.log desk.old) (D.log desk.new)) }

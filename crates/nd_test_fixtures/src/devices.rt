@@ -1,4 +1,4 @@
-//! Readers and writers in memory that fail.
+//! Readers and writers in memory that fail, or have no end.
 
 use std::alloc::Global;
 use std::io::{self, Read, Write};
@@ -26,6 +26,34 @@ impl Read for CountedReader<'_> {
         }
         self.good -= 1;
         let given = self.bytes.len().min(room.len()).min(self.most);
+        let (front, rest) = self.bytes.split_at(given);
+        room[..given].copy_from_slice(front);
+        self.bytes = rest;
+        Ok(given)
+    }
+}
+
+/// A reader that gives the bytes of a text, and behind them one byte for ever.
+#[derive(Drop)]
+pub struct EndlessReader<'a> {
+    bytes: &'a [u8],
+    byte: u8,
+}
+
+impl<'a> EndlessReader<'a> {
+    /// A reader of these bytes, and then of this one without an end.
+    pub fn new(bytes: &'a [u8], byte: u8) -> Self {
+        EndlessReader { bytes, byte }
+    }
+}
+
+impl Read for EndlessReader<'_> {
+    fn read(&mut self, room: &mut [u8]) -> io::Result<usize> {
+        let given = self.bytes.len().min(room.len());
+        if given == 0 {
+            room.fill(self.byte);
+            return Ok(room.len());
+        }
         let (front, rest) = self.bytes.split_at(given);
         room[..given].copy_from_slice(front);
         self.bytes = rest;

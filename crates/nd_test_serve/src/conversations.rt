@@ -1,6 +1,7 @@
 //! Conversations of the worked examples.
 
 use crate::holding::{End, Place, hold, simulated};
+use crate::journals::Grants;
 use crate::texts::{newline_count, ready_count, without_ready};
 use nd_test_fixtures::bundles::{
     CHAIN, DIAMOND, FLIGHT, PLAIN_1, PLAIN_2, PLAIN_3, PREFER_2, SHARED, STRUCTURED,
@@ -17,7 +18,7 @@ fn answers<R: Threads + Sync>(
     text: &str,
     status: u8,
 ) -> bool {
-    match hold(rt, alloc, place, b"", usize::MAX, lines.as_bytes()) {
+    match hold(rt, alloc, place, b"", Grants::ALL, lines.as_bytes()) {
         Some(held) => held.end == End::Status(status) && held.text.as_slice() == text.as_bytes(),
         None => false,
     }
@@ -116,7 +117,7 @@ fn simulates<R: Threads + Sync>(rt: &R, alloc: Global, place: Place<'_>, script:
     let Some(wanted) = simulated(rt, alloc, place, script.as_bytes()) else {
         return false;
     };
-    let Some(held) = hold(rt, alloc, place, b"", usize::MAX, lines.as_bytes()) else {
+    let Some(held) = hold(rt, alloc, place, b"", Grants::ALL, lines.as_bytes()) else {
         return false;
     };
     let Ok(rest) = without_ready(alloc, held.text.as_slice()) else {

@@ -1,6 +1,6 @@
 //! A session over memory.
 
-use crate::journals::MemoryJournal;
+use crate::journals::{Grants, MemoryJournal, MemoryOutput};
 use nd_bytes::ByteString;
 use nd_cli::{CliFault, ParkOptions};
 use nd_commands::sim_engine;
@@ -56,6 +56,7 @@ fn end_of(fault: ServeFault) -> End {
         ServeFault::Cli(CliFault::Write) => End::Device,
         ServeFault::Cli(_) => End::Other,
         ServeFault::NotEmpty => End::NotEmpty,
+        ServeFault::InUse => End::Other,
         ServeFault::Journal(refusal) => End::Refused(refusal),
         ServeFault::JournalFailed => End::JournalFailed,
     }
@@ -101,13 +102,13 @@ fn opened<R: Threads + Sync>(
 }
 
 /// Holds a session with these lines over a journal that begins with these bytes, cut to its whole lines, and
-/// grants so many calls.
+/// over devices that grant so much.
 pub(crate) fn hold<R: Threads + Sync>(
     rt: &R,
     alloc: Global,
     place: Place<'_>,
     journal: &[u8],
-    grants: usize,
+    grants: Grants,
     lines: &[u8],
 ) -> Option<Held> {
     let opened = match opened(rt, alloc, place, journal, true) {
@@ -119,23 +120,28 @@ pub(crate) fn hold<R: Threads + Sync>(
         drop(opened);
         return None;
     };
-    Some(end_of_session(alloc, opened, MemoryJournal::holding(bytes, grants), lines))
+    let devices = Devices {
+        input: lines,
+        output: MemoryOutput::taking(alloc, grants.bytes),
+        journal: MemoryJournal::holding(bytes, grants.calls),
+    };
+    Some(end_of_session(alloc, opened, devices))
 }
 
 /// The same, once it is opened.
-fn end_of_session(alloc: Global, opened: Opened, journal: MemoryJournal, lines: &[u8]) -> Held {
-    let mut devices = Devices {
-        input: lines,
-        output: Vec::new(alloc),
-        journal,
-    };
+fn end_of_session(
+    alloc: Global,
+    opened: Opened,
+    devices: Devices<&[u8], MemoryOutput, MemoryJournal>,
+) -> Held {
+    let mut devices = devices;
     let end = match serve_engine(alloc, opened, &mut devices) {
         Ok(status) => End::Status(status),
         Err(fault) => end_of(fault),
     };
     Held {
         end,
-        text: devices.output,
+        text: devices.output.bytes,
         journal: devices.journal,
     }
 }

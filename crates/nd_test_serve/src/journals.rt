@@ -1,8 +1,8 @@
-//! A journal in memory that stops.
+//! A journal and an output in memory that stop.
 
 use nd_serve_command::Journal;
 use std::alloc::Global;
-use std::io;
+use std::io::{self, Write};
 
 /// A journal in memory that refuses its calls once it has granted a number of them, and then keeps a part of
 /// what wasn't synced.
@@ -34,8 +34,14 @@ impl MemoryJournal {
         self.bytes.as_slice()
     }
 
-    /// What a crash leaves: all that was synced, and of the rest this number of bytes where it has as many.
-    pub fn left(&self, kept: usize) -> &[u8] {
+    /// What a crash leaves: all that was synced, and of the rest so many quarters.
+    pub fn left(&self, quarters: usize) -> &[u8] {
+        let rest = self.bytes.len().saturating_sub(self.durable);
+        let kept = if quarters < 4 {
+            (rest / 4).saturating_mul(quarters)
+        } else {
+            rest
+        };
         let end = self.durable.saturating_add(kept).min(self.bytes.len());
         let (left, _) = self.bytes.as_slice().split_at(end);
         left
@@ -59,6 +65,56 @@ impl Journal for MemoryJournal {
         }
         self.grants -= 1;
         self.durable = self.bytes.len();
+        Ok(())
+    }
+}
+
+/// What a session has to do with: how many calls its journal grants, and how many bytes its output takes.
+#[derive(Clone, Copy)]
+pub struct Grants {
+    /// Of the journal: appends and syncs.
+    pub calls: usize,
+    /// Of the output.
+    pub bytes: usize,
+}
+
+impl Grants {
+    /// As many as are asked for.
+    pub const ALL: Grants = Grants {
+        calls: usize::MAX,
+        bytes: usize::MAX,
+    };
+}
+
+/// An output in memory that refuses a write beyond the bytes that it takes.
+#[derive(Drop)]
+pub struct MemoryOutput {
+    /// What was written.
+    pub bytes: Vec<u8>,
+    room: usize,
+}
+
+impl MemoryOutput {
+    /// An output that takes this number of bytes.
+    pub fn taking(alloc: Global, room: usize) -> Self {
+        MemoryOutput {
+            bytes: Vec::new(alloc),
+            room,
+        }
+    }
+}
+
+impl Write for MemoryOutput {
+    fn write(&mut self, bytes: &[u8]) -> io::Result<usize> {
+        if bytes.len() > self.room {
+            return Err(io::Error::from(io::ErrorKind::Other));
+        }
+        self.bytes.extend_from_slice(bytes)?;
+        self.room -= bytes.len();
+        Ok(bytes.len())
+    }
+
+    fn flush(&mut self) -> io::Result<()> {
         Ok(())
     }
 }

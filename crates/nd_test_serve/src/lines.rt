@@ -1,6 +1,7 @@
 //! Lines that ask for nothing, and sessions that end within a line.
 
 use crate::holding::{End, Place, hold};
+use crate::journals::Grants;
 use crate::texts::{first_lines, newline_count, ready_count};
 use nd_test_fixtures::bundles::DIAMOND;
 use std::alloc::Global;
@@ -22,7 +23,7 @@ fn is_passed_over<R: Threads + Sync>(rt: &R, alloc: Global, line: &[u8]) -> bool
         return false;
     }
     let wanted = b"chosen 0 1 0\nready\nrefused BadLine\nready\nstarted 0\nready\n".as_slice();
-    match hold(rt, alloc, PLACE, b"", usize::MAX, lines.as_slice()) {
+    match hold(rt, alloc, PLACE, b"", Grants::ALL, lines.as_slice()) {
         Some(held) => held.end == End::Status(0) && held.text.as_slice() == wanted,
         None => false,
     }
@@ -70,7 +71,7 @@ fn ends_within<R: Threads + Sync>(
     whole: &[u8],
 ) -> bool {
     let (cut, _) = lines.split_at(end.min(lines.len()));
-    let Some(held) = hold(rt, alloc, PLACE, b"", usize::MAX, cut) else {
+    let Some(held) = hold(rt, alloc, PLACE, b"", Grants::ALL, cut) else {
         return false;
     };
     let full = newline_count(cut);
@@ -97,7 +98,7 @@ fn ready_prefix(text: &[u8], before: usize) -> &[u8] {
 #[test]
 fn end_at_each_byte(rt: HostRuntime) {
     let lines = b"start 0\nbuilt 0\njob 1\nstart 2\nask 3\nfail 2 1\n".as_slice();
-    let Some(whole) = hold(&rt, rt.alloc(), PLACE, b"", usize::MAX, lines) else {
+    let Some(whole) = hold(&rt, rt.alloc(), PLACE, b"", Grants::ALL, lines) else {
         assert!(rt; false);
         return;
     };

@@ -1,4 +1,4 @@
-use Rattle.nd_journal.proofs.LinesKept.{AreWholeTo}
+use Rattle.nd_journal.specs.WholeLines.{AreWholeTo}
 use Rattle.nd_journal.proofs.cutting.whole_lines.Given as goal
 
 -- the whole lines of what was gone through
