@@ -1,10 +1,12 @@
 -- What a reader had left, by what was read of it.
-use Rattle.std.proofs.Common.{◌≡◌, ℕ, suc, ◌+◌, ◌<◌, List, [], ◌∷◌, ◌++◌, Option, Some, None, sym, ap, subst, ◌∙◌, arith, take, drop, length, get_or}
+use Rattle.std.proofs.Common.{◌≡◌, ℕ, suc, ◌+◌, ◌<◌, List, [], ◌∷◌, ◌++◌, Option, Some, None, sym, ap, subst, ◌∙◌, arith, take, drop, length, get_or, ◌≤◌, ◌≢◌, append_assoc, append-nil, length-append}
 use Rattle.std.proofs.KnownBytes.{Consumes-trans}
 use Rattle.std.proofs.Math.Seq.{drop-cons}
 use Rattle.std.proofs.lemmas.List.{take_more}
 use Rattle.std.specs.Io.KnownBytes.{Consumes, IsAtEnd}
-use Rattle.nd_agents.specs.Heard.{NeverBegins}
+use Rattle.std.proofs.lemmas.List.Elements.{All-head, All-tail, All-push}
+use Rattle.nd_agents.specs.CallTexts.{line_with}
+use Rattle.nd_agents.specs.Heard.{NeverBegins, IsPlain, longest, HasNoLine, ReadsOpening}
 
 some_is : (x y : List ℕ) → Some x ≡ Some y → x ≡ y
 some_is x y e = cc
@@ -49,3 +51,54 @@ onward_more mid new bytes i b within same read none =
     let next : i + 1 ≡ suc i = omega arith in
     let whole : drop i bytes ≡ b ∷ drop (suc i) bytes = drop-cons bytes i 0 within ∙ ap (λ (x : ℕ). x ∷ drop (suc i) bytes) (sym same) in
     subst (λ (text : List ℕ). NeverBegins mid text) (sym whole) (behind mid new b (drop (suc i) bytes) read (subst (λ (n : ℕ). NeverBegins new (drop n bytes)) next none))
+
+-- ---- a line that never ends
+
+tail_same : (b c : ℕ) (xs ys : List ℕ) → b ∷ xs ≡ c ∷ ys → xs ≡ ys
+tail_same b c xs ys e = cc
+
+head_same : (b c : ℕ) (xs ys : List ℕ) → b ∷ xs ≡ c ∷ ys → b ≡ c
+head_same b c xs ys e = cc
+
+below : (a b c : ℕ) → a ≤ b → b < c → a < c
+below a b c h k = omega arith
+
+-- plain bytes have no newline among them
+newline_within : (plain rest line more : List ℕ) → IsPlain plain → length line < length plain → plain ++ rest ≡ line ++ 10 ∷ more → ⊥
+newline_within [] rest line more is short e = absurd (omega arith)
+newline_within (b ∷ plain) rest [] more is short e = All-head (λ b. b ≢ 10) b plain is (head_same b 10 (plain ++ rest) more e)
+newline_within (b ∷ plain) rest (c ∷ line) more is short e =
+    newline_within plain rest line more (All-tail (λ b. b ≢ 10) b plain is) (omega arith) (tail_same b c (plain ++ rest) (line ++ 10 ∷ more) e)
+
+newline_in : (plain line more : List ℕ) → IsPlain plain → plain ≡ line ++ 10 ∷ more → ⊥
+newline_in plain line more is e =
+    newline_within plain [] line more is (omega (arith, ap length e, length-append line (10 ∷ more))) (append-nil plain ∙ e)
+
+split_line : (line more : List ℕ) → line_with line ++ more ≡ line ++ 10 ∷ more
+split_line line more = append_assoc line (10 ∷ []) more
+
+pub ended_unended : (old new : Option (List ℕ)) (read : List ℕ) → Consumes old new read → IsPlain read → IsAtEnd new → HasNoLine old
+ended_unended None new read took plain end = record { never = λ line more is within e. cc }
+ended_unended (Some xs) None read took plain end = absurd took
+ended_unended (Some xs) (Some ys) read took plain end = record {
+  never = λ line more is within e.
+      let all : xs ≡ read = took ∙ ap (λ (l : List ℕ). read ++ l) end ∙ append-nil read in
+      newline_in read line more plain (sym all ∙ some_is xs (line_with line ++ more) e ∙ split_line line more);
+}
+
+pub long_unended : (old new : Option (List ℕ)) (read : List ℕ) → Consumes old new read → IsPlain read → longest < length read → HasNoLine old
+long_unended None new read took plain long = record { never = λ line more is within e. cc }
+long_unended (Some xs) None read took plain long = absurd took
+long_unended (Some xs) (Some ys) read took plain long = record {
+  never = λ line more is within e.
+      newline_within read ys line more plain (below (length line) longest (length read) within long) (sym took ∙ some_is xs (line_with line ++ more) e ∙ split_line line more);
+}
+
+pub opening_more : (old mid new : Option (List ℕ)) (read : List ℕ) (b : ℕ) → Consumes old mid read → IsPlain read → Consumes mid new (b ∷ []) → (b ≡ 10 → ⊥) → ReadsOpening old new
+opening_more old mid new read b took plain more other = record {
+  opening = read ++ b ∷ [];
+  consumed = Consumes-trans old mid new read (b ∷ []) took more;
+  plain = All-push (λ b. b ≢ 10) read b plain other;
+}
+
+pub ruleset unended = (ended_unended, long_unended, opening_more)

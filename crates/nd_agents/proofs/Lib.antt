@@ -2,3 +2,4 @@ pub mod Relays
 pub mod Once
 pub mod Asking
 pub mod Hearings
+pub mod Lives

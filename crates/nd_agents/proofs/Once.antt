@@ -11,7 +11,7 @@ use Rattle.nd_script.proofs.Lists.{nothing_listed}
 use Rattle.nd_transports.specs.declared.kinds.Answer.{Answer}
 use Rattle.nd_agents.specs.declared.ending.Ending.{Ending}
 use Rattle.nd_agents.specs.declared.ending.Ending.TheVariants.{Built, Failed, Lost}
-use Rattle.nd_agents.specs.AnswerTexts.{ending_of, IsListed, IsBuilt, IsEnding, IsAnswer, OkUnlessMemory}
+use Rattle.nd_agents.specs.AnswerTexts.{ending_of, IsListed, IsBuilt, IsEnding, IsAnswer, HasLists, IsAnswerFor, OkUnlessMemory}
 
 same_some : {X : Type 0} (x y : X) → Some x ≡ Some y → x ≡ y
 same_some x y e = cc
@@ -60,16 +60,29 @@ ended_once Built words a b h k = built_once words a b h k
 ended_once Failed words a b h k = h.is ∙ ap Answer.Status (same_number 256 words h.number k.number [] [] h.operand k.operand) ∙ sym k.is
 ended_once Lost words a b h k = h.1 ∙ sym k.1
 
-answer_once : (line : List ℕ) (a b : Answer) → IsAnswer line a → IsAnswer line b → a ≡ b
+pub answer_once : (line : List ℕ) (a b : Answer) → IsAnswer line a → IsAnswer line b → a ≡ b
 answer_once line a b h k =
     let first : h.first ≡ k.first = cc (h.words, k.words) in
     let rest : h.others ≡ k.others = cc (h.words, k.words) in
     let ending = same_some h.verb k.verb (sym h.names ∙ ap ending_of first ∙ k.names) in
     ended_once k.verb k.others a b (subst (λ (e : Ending). IsEnding e k.others a) ending (subst (λ (ws : List (List ℕ)). IsEnding h.verb ws a) rest h.said)) k.said
 
--- so what is found and refused rightly is that answer, or want of memory
-pub exactly_that : (line : List ℕ) (result : Result Answer LineError) → IfOk result (IsAnswer line) → IfErr result (RulesOut (IsAnswer line))
-    → (answer : Answer) → IsAnswer line answer → OkUnlessMemory result (λ read. read ≡ answer)
-exactly_that line (Ok read) found refused answer is = answer_once line read answer found is
-exactly_that line (Err Bad) found refused answer is = absurd (refused answer is)
-exactly_that line (Err Memory) found refused answer is = refl
+-- .. so it answers a build of so many outputs in one way at most
+for_once : (outputs : ℕ) (line : List ℕ) (a b : Answer) → IsAnswerFor outputs line a → IsAnswerFor outputs line b → a ≡ b
+for_once outputs line a b h k = answer_once line a b h.says k.says
+
+-- what it says has another number of lists, so it is no answer
+pub other_lists : (outputs : ℕ) (line : List ℕ) (a : Answer) → IsAnswer line a → (HasLists outputs a → ⊥) → RulesOut (IsAnswerFor outputs line) Bad
+other_lists outputs line a says other = λ b is. other (subst (HasLists outputs) (answer_once line b a is.says says) is.lists)
+
+-- it says nothing, so it is no answer
+pub none_for : (outputs : ℕ) (line : List ℕ) (fault : LineError) → RulesOut (IsAnswer line) fault → RulesOut (IsAnswerFor outputs line) fault
+none_for outputs line Bad none = λ b is. none b is.says
+none_for outputs line Memory none = tt
+
+-- what is found and refused rightly is that answer, or want of memory
+pub exactly_that : (outputs : ℕ) (line : List ℕ) (result : Result Answer LineError) → IfOk result (IsAnswerFor outputs line)
+    → IfErr result (RulesOut (IsAnswerFor outputs line)) → (answer : Answer) → IsAnswerFor outputs line answer → OkUnlessMemory result (λ read. read ≡ answer)
+exactly_that outputs line (Ok read) found refused answer is = for_once outputs line read answer found is
+exactly_that outputs line (Err Bad) found refused answer is = absurd (refused answer is)
+exactly_that outputs line (Err Memory) found refused answer is = refl

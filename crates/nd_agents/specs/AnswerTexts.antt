@@ -1,7 +1,7 @@
 -- What an agent's answers say. A connect and a copy are answered yes or no; a build by how it ended, where the references stand in
 -- the form that scripts and stand texts have for them. The form is this project's own.
 -- Public clauses cite this.
-use Rattle.std.specs.Prelude.{◌≡◌, ◌⊎◌, ℕ, Bool, true, false, List, [], codes, if◌then◌else◌, Option, None, Some, Result, MatchResult}
+use Rattle.std.specs.Prelude.{◌≡◌, ◌⊎◌, ℕ, Bool, true, false, List, [], length, codes, if◌then◌else◌, Option, None, Some, Result, MatchResult}
 use Rattle.nd_bytes.specs.Compared.{bytes_eq}
 use Rattle.nd_script.specs.declared.line_error.LineError.{LineError}
 use Rattle.nd_script.specs.declared.line_error.LineError.TheVariants.{Memory}
@@ -9,14 +9,19 @@ use Rattle.nd_script.specs.Words.{AreLists}
 use Rattle.nd_script.specs.Calls.{IsCallWith}
 use Rattle.nd_script.specs.Lines.{IsLineOf}
 use Rattle.nd_transports.specs.declared.kinds.Answer.{Answer}
+use Rattle.nd_transports.specs.declared.kinds.Answer.TheVariants.{Built as WasBuilt, Status as HadStatus, Lost as WasLost}
 use Rattle.nd_agents.specs.declared.ending.Ending.{Ending}
 use Rattle.nd_agents.specs.declared.ending.Ending.TheVariants.{Built, Failed, Lost}
 use Rattle.nd_agents.specs.CallTexts.{line_with}
 
--- the line of a yes or no
+-- a yes or no
+abbrev pub word : Bool → List ℕ
+word true = codes "yes"
+word false = codes "no"
+
+-- .. and its line
 abbrev pub word_line : Bool → List ℕ
-word_line true = line_with (codes "yes")
-word_line false = line_with (codes "no")
+word_line answered = line_with (word answered)
 
 -- how a build ended, by the first word of its answer
 abbrev pub ending_of : List ℕ → Option Ending
@@ -41,9 +46,20 @@ IsEnding Built words answer = IsBuilt words answer
 IsEnding Failed words answer = IsCallWith 256 Answer.Status words answer
 IsEnding Lost words answer = (words ≡ []) × (answer ≡ Answer.Lost)
 
--- the line of an answer to a build, without its newline
+-- what a line, without its newline, says of a build
 abbrev pub IsAnswer : List ℕ → Answer → Type 0
 IsAnswer = IsLineOf ending_of IsEnding
+
+-- a build that ended with its outputs reports a list for each of so many
+abbrev pub HasLists : ℕ → Answer → Type 0
+HasLists outputs (WasBuilt refs) = length refs ≡ outputs
+HasLists outputs (HadStatus code) = Unit {0}
+HasLists outputs WasLost = Unit {0}
+
+-- the line, without its newline, answers a build of so many outputs: with another number of lists it is no answer
+pub record IsAnswerFor (outputs : ℕ) (line : List ℕ) (answer : Answer) : Type 0 where
+  pub says : IsAnswer line answer
+  pub lists : HasLists outputs answer
 
 -- the answer is so, unless memory runs out
 abbrev pub OkUnlessMemory : {A : Type 0} → Result A LineError → (A → Type 0) → Type 0

@@ -19,6 +19,6 @@ connect_line = line_with (codes "connect")
 abbrev pub copy_line : List (List ℕ) → List ℕ
 copy_line paths = line_with (codes "copy" ++ spaced paths)
 
--- the derivation with this path is to be built
-abbrev pub build_line : List ℕ → List ℕ
-build_line path = line_with (codes "build " ++ path)
+-- the derivation with this path is to be built, whose outputs have these paths, in the order of the outputs' names
+abbrev pub build_line : List ℕ → List (List ℕ) → List ℕ
+build_line path outputs = line_with (codes "build " ++ path ++ spaced outputs)

@@ -1,11 +1,13 @@
 -- What is read of an agent's answers.
--- Private clauses cite this, and `IsNeither` public ones.
-use Rattle.std.specs.Prelude.{◌≡◌, ◌≢◌, ℕ, ◌≤◌, true, false, List, ◌++◌, length, Option, Some}
+-- Private clauses cite this, and `IsNeither`, `HasNoLine` and `ReadsOpening` public ones.
+use Rattle.std.specs.Prelude.{◌≡◌, ◌≢◌, ℕ, ◌+◌, ◌≤◌, true, false, List, ◌++◌, length, Option, Some}
 use Rattle.std.specs.List.{All}
 use Rattle.std.specs.Io.KnownBytes.{Consumes, IsAtEnd}
 use Rattle.nd_devices.specs.Watched.{Watched}
 use Rattle.nd_agents.specs.declared.hearing.Silence.{Silence}
 use Rattle.nd_agents.specs.declared.hearing.Silence.TheVariants.{Ended, Refused}
+use Rattle.nd_agents.specs.declared.hearing.Unheard.{Unheard}
+use Rattle.nd_agents.specs.declared.hearing.Unheard.TheVariants.{NoLine, Refused as DeviceRefused, Memory}
 use Rattle.nd_agents.specs.AnswerTexts.{word_line}
 use Rattle.nd_agents.specs.CallTexts.{line_with}
 
@@ -27,8 +29,31 @@ IsSilent remaining old new Refused = new.is_marked ≡ true
 abbrev pub longest : ℕ
 longest = 16777216
 
+-- bytes without a newline
+abbrev pub IsPlain : List ℕ → Type 0
+IsPlain bytes = All (λ b. b ≢ 10) bytes
+
 -- a line was read, with its newline
 pub record ReadsLine (old new : Option (List ℕ)) (line : List ℕ) : Type 0 where
   pub consumed : Consumes old new (line_with line)
-  pub plain : All (λ b. b ≢ 10) line
+  pub plain : IsPlain line
   pub within : length line ≤ longest
+
+-- where it is known what a reader has left, it begins with no line of at most so many bytes
+pub record HasNoLine (known : Option (List ℕ)) : Type 0 where
+  pub never : (line more : List ℕ) → IsPlain line → length line ≤ longest → known ≡ Some (line_with line ++ more) → ⊥
+
+-- so much was read of a line, and its newline wasn't
+pub record ReadsOpening (old new : Option (List ℕ)) : Type 0 where
+  pub opening : List ℕ
+  pub consumed : Consumes old new opening
+  pub plain : IsPlain opening
+
+-- why no line came: there is none, the reader refused and is marked, or there was no memory for the line
+abbrev pub IsCause : {R : Type 0} → (R → Option (List ℕ)) → Watched R → Watched R → Unheard → Type 0
+IsCause remaining old new NoLine = HasNoLine (remaining old.device)
+IsCause remaining old new DeviceRefused = new.is_marked ≡ true
+IsCause remaining old new Memory = ReadsOpening (remaining old.device) (remaining new.device)
+
+pub record IsUnheard {R : Type 0} (remaining : R → Option (List ℕ)) (old new : Watched R) (why : Unheard) : Type 0 where
+  pub cause : IsCause remaining old new why

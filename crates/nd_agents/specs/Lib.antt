@@ -4,3 +4,4 @@ pub mod Relayed
 pub mod Heard
 pub mod Wires
 pub mod Agents
+pub mod Spoken

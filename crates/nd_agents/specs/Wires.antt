@@ -1,14 +1,13 @@
 -- What a call of an agent does to the two devices between it and its caller: one line is written, and one is read.
 -- Public clauses cite this.
-use Rattle.std.specs.Prelude.{◌≡◌, ◌⊎◌, ℕ, Bool, true, false, List, Option}
+use Rattle.std.specs.Prelude.{◌≡◌, ◌⊎◌, ℕ, Bool, true, false, List, [], ◌++◌, Option}
 use Rattle.std.specs.Io.KnownBytes.{Appends, Consumes}
 use Rattle.nd_devices.specs.Watched.{Watched}
-use Rattle.nd_devices.specs.Written.{WritesPart}
 use Rattle.nd_transports.specs.declared.kinds.Answer.{Answer}
 use Rattle.nd_transports.specs.declared.kinds.Answer.TheVariants.{Lost}
 use Rattle.nd_agents.specs.CallTexts.{line_with}
-use Rattle.nd_agents.specs.AnswerTexts.{word_line, IsAnswer}
-use Rattle.nd_agents.specs.Heard.{IsNeither}
+use Rattle.nd_agents.specs.AnswerTexts.{word_line, IsAnswerFor}
+use Rattle.nd_agents.specs.Heard.{IsNeither, ReadsLine, HasNoLine, ReadsOpening}
 
 -- the way to an agent: the reader of its answers, the writer of its calls, and whether it is gone
 pub record Wired (R W : Type 0) : Type 0 where
@@ -30,9 +29,13 @@ pub record Exchanges {R W : Type 0} (remaining : R → Option (List ℕ)) (conte
   pub read : Consumes (remaining old.answers.device) (remaining new.answers.device) answer
   pub here : new.is_gone ≡ false
 
--- of the line of the call a part was written, from its beginning, and maybe all of it; the agent is gone
+-- Of the line of the call a part was written, from its beginning, and all of it where no write was refused; the agent is gone.
 pub record BreaksOff {R W : Type 0} (contents : W → Option (List ℕ)) (old new : Wired R W) (call : List ℕ) : Type 0 where
-  pub written : WritesPart (contents old.calls.device) (contents new.calls.device) call
+  pub part : List ℕ
+  pub rest : List ℕ
+  pub split : call ≡ part ++ rest
+  pub written : Appends (contents old.calls.device) (contents new.calls.device) part
+  pub whole : new.calls.is_marked ≡ false → rest ≡ []
   pub gone : new.is_gone ≡ true
 
 -- why there is neither a yes nor a no: a device refused and is marked, or what the reader had left begins with neither
@@ -40,7 +43,7 @@ abbrev pub HasNoWord : {R W : Type 0} → (R → Option (List ℕ)) → Wired R 
 HasNoWord remaining old new = (new.calls.is_marked ≡ true) ⊎ (new.answers.is_marked ≡ true) ⊎ IsNeither (remaining old.answers.device)
 
 -- the answer is no, since the agent broke off
-pub record IsUnheard {R W : Type 0} (remaining : R → Option (List ℕ)) (contents : W → Option (List ℕ)) (old new : Wired R W) (call : List ℕ) (answered : Bool) : Type 0 where
+pub record IsUnworded {R W : Type 0} (remaining : R → Option (List ℕ)) (contents : W → Option (List ℕ)) (old new : Wired R W) (call : List ℕ) (answered : Bool) : Type 0 where
   pub no : answered ≡ false
   pub broken : BreaksOff contents old new call
   pub cause : HasNoWord remaining old new
@@ -49,12 +52,12 @@ pub record IsUnheard {R W : Type 0} (remaining : R → Option (List ℕ)) (conte
 -- it is no and the agent is gone.
 pub record IsAsked {R W : Type 0} (remaining : R → Option (List ℕ)) (contents : W → Option (List ℕ)) (old new : Wired R W) (call : List ℕ) (answered : Bool) : Type 0 where
   pub gone : old.is_gone ≡ true → (answered ≡ false) × (new ≡ old)
-  pub here : old.is_gone ≡ false → Exchanges remaining contents old new call (word_line answered) ⊎ IsUnheard remaining contents old new call answered
+  pub here : old.is_gone ≡ false → Exchanges remaining contents old new call (word_line answered) ⊎ IsUnworded remaining contents old new call answered
 
--- the answer to a build is what the line that was read says
-pub record IsToldBy {R W : Type 0} (remaining : R → Option (List ℕ)) (contents : W → Option (List ℕ)) (old new : Wired R W) (call : List ℕ) (answer : Answer) : Type 0 where
+-- the answer to a build of so many outputs is what the line that was read says
+pub record IsToldBy {R W : Type 0} (remaining : R → Option (List ℕ)) (contents : W → Option (List ℕ)) (outputs : ℕ) (old new : Wired R W) (call : List ℕ) (answer : Answer) : Type 0 where
   pub line : List ℕ
-  pub says : IsAnswer line answer
+  pub says : IsAnswerFor outputs line answer
   pub exchanged : Exchanges remaining contents old new call (line_with line)
 
 -- the build is lost since there was no memory for what the line that was read says; the agent is there
@@ -63,14 +66,31 @@ pub record IsForgotten {R W : Type 0} (remaining : R → Option (List ℕ)) (con
   pub lost : answer ≡ Lost
   pub exchanged : Exchanges remaining contents old new call (line_with line)
 
+-- the line that was read is no answer to a build of so many outputs
+pub record IsNoAnswer (outputs : ℕ) (old new : Option (List ℕ)) : Type 0 where
+  pub line : List ℕ
+  pub read : ReadsLine old new line
+  pub never : (answer : Answer) → IsAnswerFor outputs line answer → ⊥
+
+-- Why a build is lost with its agent: a write was refused; or a read; or what the reader had left begins with no line within the
+-- limit; or the line that was read is no answer; or there was no memory for the line.
+abbrev pub HasNoAnswer : {R W : Type 0} → (R → Option (List ℕ)) → ℕ → Wired R W → Wired R W → Type 0
+HasNoAnswer remaining outputs old new =
+    (new.calls.is_marked ≡ true)
+    ⊎ (new.answers.is_marked ≡ true)
+    ⊎ HasNoLine (remaining old.answers.device)
+    ⊎ IsNoAnswer outputs (remaining old.answers.device) (remaining new.answers.device)
+    ⊎ ReadsOpening (remaining old.answers.device) (remaining new.answers.device)
+
 -- the build is lost since the agent broke off
-pub record IsBroken {R W : Type 0} (contents : W → Option (List ℕ)) (old new : Wired R W) (call : List ℕ) (answer : Answer) : Type 0 where
+pub record IsBroken {R W : Type 0} (remaining : R → Option (List ℕ)) (contents : W → Option (List ℕ)) (outputs : ℕ) (old new : Wired R W) (call : List ℕ) (answer : Answer) : Type 0 where
   pub lost : answer ≡ Lost
   pub broken : BreaksOff contents old new call
+  pub cause : HasNoAnswer remaining outputs old new
 
--- What the call of a build comes to. An agent that is gone isn't called, and the build is lost. Else the answer is what the line that
--- was read says, or the build is lost: the agent is gone, or there was no memory for what the line says.
-pub record IsBuildAsked {R W : Type 0} (remaining : R → Option (List ℕ)) (contents : W → Option (List ℕ)) (old new : Wired R W) (call : List ℕ) (answer : Answer) : Type 0 where
+-- What the call of a build of so many outputs comes to. An agent that is gone isn't called, and the build is lost. Else the answer is
+-- what the line that was read says; or the build is lost, and there was no memory for what the line says, or the agent is gone.
+pub record IsBuildAsked {R W : Type 0} (remaining : R → Option (List ℕ)) (contents : W → Option (List ℕ)) (outputs : ℕ) (old new : Wired R W) (call : List ℕ) (answer : Answer) : Type 0 where
   pub gone : old.is_gone ≡ true → (answer ≡ Lost) × (new ≡ old)
   pub here : old.is_gone ≡ false
-      → IsToldBy remaining contents old new call answer ⊎ IsForgotten remaining contents old new call answer ⊎ IsBroken contents old new call answer
+      → IsToldBy remaining contents outputs old new call answer ⊎ IsForgotten remaining contents old new call answer ⊎ IsBroken remaining contents outputs old new call answer

@@ -22,10 +22,11 @@ use std::marker::Model;
 /// |---|---|
 /// | `connect` | `yes` or `no` |
 /// | `copy PATH ..`, the paths that the machine lacks | `yes` or `no` |
-/// | `build DRV`, the derivation's path | as [`read_answer`](crate::read_answer) takes it |
+/// | `build DRV OUT ..`, the paths of the derivation and of its outputs by name | as [`read_answer`](crate::read_answer) takes it |
 ///
-/// Where a device refuses, where an answer is none of these or has more than 16,777,216 bytes, and at the end
-/// of the answers, the call is answered no, and a build is lost; the agent counts as gone then. Of an agent
+/// Where a device refuses, where an answer is none of these or has more than 16,777,216 bytes, where a build
+/// is answered with another number of lists than it has outputs, and at the end of the answers, the call is
+/// answered no, and a build is lost; the agent counts as gone then. Of an agent
 /// that is gone each later connect is answered no, with nothing written or read. A build whose answer finds no
 /// memory is lost; where the line couldn't be read to its end for that, the agent is gone too.
 ///
@@ -39,6 +40,7 @@ pub struct Agent<R, W> {
     ready: bool,
     copy_call: Vec<u8>,
     build_call: Vec<u8>,
+    outputs: usize,
     wire: Wire<R, W>,
 }
 
@@ -47,7 +49,7 @@ impl<R, W> Model for Agent<R, W> {
 
     ghost Value = { Agency R W };
 
-    ghost view = { λ a. record { state = standing a.ready a.log; build_call = a.build_call.items; wire = a.wire } };
+    ghost view = { λ a. record { state = standing a.ready a.log; build_call = a.build_call.items; outputs = a.outputs; wire = a.wire } };
 
     ghost invariant = { λ a. IsFitted a.ready a.log a.copy_call.items };
 }
@@ -63,6 +65,7 @@ impl<R, W> Agent<R, W> {
             ready: false,
             copy_call: Vec::new(alloc),
             build_call: Vec::new(alloc),
+            outputs: 0,
             wire: Wire::new(answers, calls),
         }
     }
@@ -86,16 +89,17 @@ impl<R: Read + Send + Drop, W: Write + Send + Drop> Transport for Agent<R, W> {
     ghost state = { λ a. a.state };
 
     fn prepare(&mut self, job: &Job) -> Result<(), AllocError>
-        ensures ok { OnOk result (self.new ≡ readied self.old job.now.ticket.drv job.now.path job.now.paths) }
+        ensures ok { OnOk result (self.new ≡ readied self.old job.now.ticket.drv job.now.path job.now.output_paths job.now.paths) }
         ensures err { OnErr result (IsIdleAgain self.old.state self.new.state) }
         ensures kept { OnErr result (self.new.wire ≡ self.old.wire) }
     {
         self.ready = false;
         let copy_call = copy_line(self.alloc, job.paths.as_slice())?;
-        let build_call = build_line(self.alloc, &job.path)?;
+        let build_call = build_line(self.alloc, &job.path, job.output_paths.as_slice())?;
         self.log.prepare(job)?;
         self.copy_call = copy_call;
         self.build_call = build_call;
+        self.outputs = job.output_paths.len();
         self.ready = true;
         Ok(())
     }
@@ -105,6 +109,7 @@ impl<R: Read + Send + Drop, W: Write + Send + Drop> Transport for Agent<R, W> {
         ensures after { self.new.state ≡ connected self.old.state result }
         ensures asked { IsAsked R.remaining W.contents self.old.wire self.new.wire connect_line result }
         ensures kept { self.new.build_call ≡ self.old.build_call }
+        ensures outputs { self.new.outputs ≡ self.old.outputs }
     {
         let answered = self.wire.ask(CONNECT_LINE);
         self.log.connected(answered);
@@ -116,6 +121,7 @@ impl<R: Read + Send + Drop, W: Write + Send + Drop> Transport for Agent<R, W> {
         ensures after { self.new.state ≡ copied self.old.state result }
         ensures asked { IsAsked R.remaining W.contents self.old.wire self.new.wire (copy_line self.old.state.paths) result }
         ensures kept { self.new.build_call ≡ self.old.build_call }
+        ensures outputs { self.new.outputs ≡ self.old.outputs }
     {
         let done = self.wire.ask(self.copy_call.as_slice());
         self.log.copied(self.alloc, done);
@@ -126,7 +132,9 @@ impl<R: Read + Send + Drop, W: Write + Send + Drop> Transport for Agent<R, W> {
         requires { self.old.state.phase ≡ Phase.Copied }
         ensures { AgentBuilds R.remaining W.contents self.old result self.new }
     {
-        let answer = self.wire.ask_build(self.alloc, self.build_call.as_slice());
+        let answer = self
+            .wire
+            .ask_build(self.alloc, self.build_call.as_slice(), self.outputs);
         let ended = answer.ended();
         self.log.built(answer);
         ended

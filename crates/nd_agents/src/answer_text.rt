@@ -1,11 +1,11 @@
 //! Reading the answer to a build.
 
-ghost use Rattle.std.specs.Prelude.{◌≡◌, ◌++◌, List, Some, None, codes, IfOk, IfErr};
+ghost use Rattle.std.specs.Prelude.{◌≡◌, ◌++◌, List, Some, None, true, false, codes, IfOk, IfErr};
 ghost use Rattle.nd_closure.specs.Info.{words_of};
 ghost use Rattle.nd_script.specs.Words.{words_left, AreLists};
 ghost use Rattle.nd_script.specs.Faults.{RulesOut};
 ghost use Rattle.nd_transports.specs.declared.kinds.Answer.{Answer};
-ghost use Rattle.nd_agents.specs.AnswerTexts.{IsAnswer, IsEnding, IsBuilt, OkUnlessMemory};
+ghost use Rattle.nd_agents.specs.AnswerTexts.{IsAnswer, IsAnswerFor, HasLists, IsEnding, IsBuilt, OkUnlessMemory};
 ghost use Rattle.nd_agents.specs.Relayed.{refs_in};
 
 use crate::ending::{Ending, ending_named};
@@ -15,20 +15,49 @@ use nd_script::{Command, LineError, only_operand, read_line};
 use nd_transports::Answer;
 use std::alloc::{AllocError, Global};
 
-/// What this line, without its newline, says of a build. Its words are separated by single spaces:
+/// What this line, without its newline, answers to a build of so many outputs. Its words are separated by
+/// single spaces:
 ///
-/// `built`, `built o PATH .. o ..`, `failed C`, `lost`
+/// `built o PATH .. o ..`, `failed C`, `lost`
 ///
 /// with a status C of 0 to 255, written without needless zeros, and a word `o` with the references of an
 /// output, for each output in the order of their names. References may come in any order and may repeat:
-/// they are made sets. `built` reports no list at all. The form is this project's own; lists have the form
-/// that they have in a script ([`nd_script::parse_script`]).
+/// they are made sets. `built` alone reports no list at all. The form is this project's own; lists have the
+/// form that they have in a script ([`nd_script::parse_script`]).
 ///
-/// `Bad`: the line is none of these. `Memory`: an allocation was refused.
-pub fn read_answer(alloc: Global, line: &[u8]) -> Result<Answer, LineError>
+/// `Bad`: the line is none of these, or has another number of lists. `Memory`: an allocation was refused.
+pub fn read_answer(alloc: Global, line: &[u8], outputs: usize) -> Result<Answer, LineError>
+    ensures found { IfOk result (IsAnswerFor outputs line.now) }
+    ensures refused { IfErr result (RulesOut (IsAnswerFor outputs line.now)) }
+    ensures exactly { (answer : Answer) → IsAnswerFor outputs line.now answer → OkUnlessMemory result (λ read. read ≡ answer) }
+{
+    match line_answer(alloc, line) {
+        Ok(answer) => {
+            if has_lists(&answer, outputs) {
+                return Ok(answer);
+            }
+            Err(LineError::Bad)
+        }
+        Err(fault) => Err(fault),
+    }
+}
+
+/// Whether an answer that reports lists has so many of them.
+fn has_lists(answer: &Answer, outputs: usize) -> bool
+    ensures yes { result ≡ true → HasLists outputs answer.now }
+    ensures no { result ≡ false → HasLists outputs answer.now → ⊥ }
+{
+    match answer {
+        Answer::Built(refs) => refs.lists().len() == outputs,
+        Answer::Status(_) => true,
+        Answer::Lost => true,
+    }
+}
+
+/// What this line says of a build, with whatever number of lists.
+fn line_answer(alloc: Global, line: &[u8]) -> Result<Answer, LineError>
     ensures found { IfOk result (IsAnswer line.now) }
     ensures refused { IfErr result (RulesOut (IsAnswer line.now)) }
-    ensures exactly { (answer : Answer) → IsAnswer line.now answer → OkUnlessMemory result (λ read. read ≡ answer) }
 {
     let (first, words) = cut(line, b' ');
     let Some(ending) = ending_named(first) else {

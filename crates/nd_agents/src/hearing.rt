@@ -3,7 +3,7 @@
 ghost use Rattle.std.specs.Prelude.{◌≡◌, ◌∷◌, ◌⊎◌, [], None, true, false, IfSome, IfOk, IfErr, IsTrue};
 ghost use Rattle.std.specs.Io.KnownBytes.{Consumes};
 ghost use Rattle.nd_agents.specs.AnswerTexts.{word_line};
-ghost use Rattle.nd_agents.specs.Heard.{IsSilent, IsNeither, NeverBegins, ReadsLine};
+ghost use Rattle.nd_agents.specs.Heard.{IsSilent, IsNeither, NeverBegins, ReadsLine, IsUnheard};
 
 use nd_devices::Told;
 use std::alloc::Global;
@@ -19,6 +19,17 @@ pub enum Silence {
     Ended,
     /// The reader refused, and is marked.
     Refused,
+}
+
+/// Why no line came.
+#[derive(Clone, Copy, Debug, PartialEq, Eq)]
+pub enum Unheard {
+    /// The line has more than 16,777,216 bytes, or the reader is at its end before the newline.
+    NoLine,
+    /// The reader refused, and is marked.
+    Refused,
+    /// There was no memory for the line.
+    Memory,
 }
 
 /// The next byte.
@@ -81,22 +92,25 @@ pub(crate) fn hear_word<R: Read>(answers: &mut Told<R>) -> Option<bool>
     }
 }
 
-/// The next line, without its newline. `None` where it has more than 16,777,216 bytes, where the reader is at
-/// its end before the newline, or where it refused and is marked; and where there is no memory for it.
-pub(crate) fn hear_line<R: Read>(alloc: Global, answers: &mut Told<R>) -> Option<Vec<u8>>
-    ensures { IfSome result (λ line. ReadsLine (R.remaining answers.old.device) (R.remaining answers.new.device) line.items) }
+/// The next line, without its newline.
+#[tactic(auto, using(crate::proofs::Hearings::unended))]
+pub(crate) fn hear_line<R: Read>(alloc: Global, answers: &mut Told<R>) -> Result<Vec<u8>, Unheard>
+    ensures heard { IfOk result (λ line. ReadsLine (R.remaining answers.old.device) (R.remaining answers.new.device) line.items) }
+    ensures unheard { IfErr result (IsUnheard R.remaining answers.old answers.new) }
 {
     let mut line = Vec::new(alloc);
     while line.len() <= LONGEST {
-        let Ok(byte) = take_byte(answers) else {
-            return None;
+        let byte = match take_byte(answers) {
+            Ok(byte) => byte,
+            Err(Silence::Ended) => return Err(Unheard::NoLine),
+            Err(Silence::Refused) => return Err(Unheard::Refused),
         };
         if byte == b'\n' {
-            return Some(line);
+            return Ok(line);
         }
         if line.push(byte).is_err() {
-            return None;
+            return Err(Unheard::Memory);
         }
     }
-    None
+    Err(Unheard::NoLine)
 }

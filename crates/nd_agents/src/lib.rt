@@ -7,6 +7,7 @@ pub mod answer_text;
 mod call_text;
 pub mod ending;
 mod hearing;
+pub mod laws;
 mod wire;
 
 pub use agent::Agent;

@@ -91,10 +91,10 @@ impl<R: Read, W: Write> Wire<R, W> {
         }
     }
 
-    /// Calls for a build with this line, and answers what the line that is read says.
+    /// Calls for a build of so many outputs with this line, and answers what the line that is read says.
     #[tactic(auto, using(crate::proofs::Asking::builds))]
-    pub(crate) fn ask_build(&mut self, alloc: Global, call: &[u8]) -> Answer
-        ensures { IsBuildAsked R.remaining W.contents self.old self.new call.now result }
+    pub(crate) fn ask_build(&mut self, alloc: Global, call: &[u8], outputs: usize) -> Answer
+        ensures { IsBuildAsked R.remaining W.contents outputs self.old self.new call.now result }
     {
         if self.gone {
             return Answer::Lost;
@@ -106,11 +106,14 @@ impl<R: Read, W: Write> Wire<R, W> {
                 return Answer::Lost;
             }
         }
-        let Some(line) = hear_line(alloc, &mut self.answers) else {
-            self.gone = true;
-            return Answer::Lost;
+        let line = match hear_line(alloc, &mut self.answers) {
+            Ok(line) => line,
+            Err(_) => {
+                self.gone = true;
+                return Answer::Lost;
+            }
         };
-        match read_answer(alloc, line.as_slice()) {
+        match read_answer(alloc, line.as_slice(), outputs) {
             Ok(answer) => answer,
             Err(LineError::Bad) => {
                 self.gone = true;

@@ -21,7 +21,7 @@ ghost use Rattle.nd_ledger.specs.Worlds.{GoesOnFrom};
 ghost use Rattle.nd_ledger.specs.Refusals.{IsLive, IsTicketOf, IsFailRefused, IsDownRefused, IsStopRefused};
 
 use crate::following::{enter, record_step};
-use crate::job::Job;
+use crate::job::{Job, copy_paths};
 use crate::moving::{is_live, prepare_end, prepare_start};
 use crate::refusal::{AdmitError, Refusal, Refused, admit_error};
 use nd_bytes::Items;
@@ -194,8 +194,8 @@ impl Dispatch {
         )
     }
 
-    /// What a worker needs to know of a lease: its ticket, the derivation's path, the number of its
-    /// outputs, and the paths that [`Dispatch::missing`] gives.
+    /// What a worker needs to know of a lease: its ticket, the derivation's path, the paths of its
+    /// outputs by their names, and the paths that [`Dispatch::missing`] gives.
     ///
     /// Refuses with `NotLive` (1) where the ticket is not a live lease's, and with `Memory` (8) where an
     /// allocation is refused.
@@ -203,7 +203,7 @@ impl Dispatch {
         ensures ticket { IfOk result (λ job. job.ticket ≡ ticket.now) }
         ensures live { OnOk result (IsLive (reverse self.now.history) ticket.now) }
         ensures path { IfOk result (λ job. job.path ≡ slice_index_or self.now.inputs.graph.paths ticket.now.drv []) }
-        ensures outputs { IfOk result (λ job. job.outputs ≡ length (outputs_of self.now.inputs ticket.now.drv)) }
+        ensures outputs { IfOk result (λ job. job.output_paths ≡ outputs_of self.now.inputs ticket.now.drv) }
         ensures paths { IfOk result (λ job. IsMissing self.now.inputs (reverse self.now.history) ticket.now.drv ticket.now.machine job.paths) }
         ensures refused { IfErr result (IsJobRefused (reverse self.now.history) ticket.now) }
     {
@@ -212,7 +212,7 @@ impl Dispatch {
         Ok(Job {
             ticket: *ticket,
             path: self.inputs.graph.path(drv).try_clone()?,
-            outputs: self.inputs.graph.outputs(drv).len(),
+            output_paths: copy_paths(alloc, self.inputs.graph.outputs(drv))?,
             paths,
         })
     }

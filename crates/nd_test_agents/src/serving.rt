@@ -1,23 +1,30 @@
 //! One lease served by an agent.
 
 use nd_agents::Agent;
+use nd_bytes::Items;
 use nd_closure::Refs;
 use nd_leases::Ticket;
 use nd_ledger::Job;
 use nd_path::{PathSet, StorePath};
 use nd_test_fixtures::bundles::S1;
-use nd_test_fixtures::devices::{CountedReader, CountedWriter};
-use nd_transports::{Fetch, Outcome, serve_build, serve_copy};
+use nd_test_fixtures::devices::{CountedReader, CountedWriter, EndlessReader};
+use nd_transports::{Fetch, Outcome, Transport, serve_build, serve_copy};
 use std::alloc::Global;
 use std::test::Fail;
 
 const DRV: &str = "/nix/store/00000000000000000000000000000000-n0.drv";
 
+/// The paths of its outputs, in the order of the outputs' names.
+const OUTPUTS: [&str; 2] = [
+    "/nix/store/bbbbbbbbbbbbbbbbbbbbbbbbbbbbbbbb-n0-doc",
+    "/nix/store/aaaaaaaaaaaaaaaaaaaaaaaaaaaaaaaa-n0",
+];
+
 /// The lines of the calls of a lease of that derivation, which wants one path.
 const CALLS: &[u8] = b"\
     connect\n\
     copy /nix/store/pppppppppppppppppppppppppppppppp-s1\n\
-    build /nix/store/00000000000000000000000000000000-n0.drv\n";
+    build /nix/store/00000000000000000000000000000000-n0.drv /nix/store/bbbbbbbbbbbbbbbbbbbbbbbbbbbbbbbb-n0-doc /nix/store/aaaaaaaaaaaaaaaaaaaaaaaaaaaaaaaa-n0\n";
 
 /// What an agent answers that builds it.
 const ANSWERS: &[u8] = b"yes\nyes\nbuilt o /nix/store/pppppppppppppppppppppppppppppppp-s1 o\n";
@@ -33,11 +40,20 @@ fn one_path(alloc: Global) -> Option<PathSet> {
     PathSet::from_vec(paths).ok()
 }
 
-/// Derivation 0, leased on slot 0 of machine 1, with one path to copy.
-fn job(alloc: Global) -> Option<Job> {
-    let paths = one_path(alloc)?;
+/// The paths of its outputs.
+fn output_paths(alloc: Global) -> Option<Items<StorePath>> {
+    let mut paths = Vec::new(alloc);
+    for text in OUTPUTS {
+        paths.push(path(alloc, text)?).ok()?;
+    }
+    Some(Items::new(paths))
+}
+
+/// Derivation 0, leased on slot 0 of machine 1, with these paths of its outputs and to copy.
+fn job_of(alloc: Global, output_paths: Items<StorePath>, paths: PathSet) -> Option<Job> {
     let Some(path) = path(alloc, DRV) else {
         drop(paths);
+        drop(output_paths);
         return None;
     };
     Some(Job {
@@ -48,9 +64,19 @@ fn job(alloc: Global) -> Option<Job> {
             serial: 0,
         },
         path,
-        outputs: 2,
+        output_paths,
         paths,
     })
+}
+
+/// Derivation 0 with two outputs and one path to copy.
+fn job(alloc: Global) -> Option<Job> {
+    let paths = one_path(alloc)?;
+    let Some(output_paths) = output_paths(alloc) else {
+        drop(paths);
+        return None;
+    };
+    job_of(alloc, output_paths, paths)
 }
 
 /// How a lease went, as far as it came.
@@ -81,8 +107,8 @@ fn first_length(refs: &Refs) -> usize {
     }
 }
 
-/// How the lease goes where these are the answers.
-fn served(job: &Job, agent: &mut Agent<CountedReader<'_>, &mut CountedWriter>) -> Went {
+/// How the lease goes through this agent.
+fn served<T: Transport>(job: &Job, agent: &mut T) -> Went {
     match serve_copy(agent, job) {
         Fetch::Copied => came_to(serve_build(agent)),
         Fetch::Refused(calls) => Went::Refused(calls),
@@ -138,7 +164,15 @@ fn each_answer(rt: HostRuntime) -> Result<(), Fail> {
     assert!(rt; goes(alloc, b"yes\nno\n", most, Went::Refused(2), false));
     assert!(rt; goes(alloc, b"yes\nyes\nfailed 3\n", most, Went::Status(3), false));
     assert!(rt; goes(alloc, b"yes\nyes\nlost\n", most, Went::Lost, false));
-    assert!(rt; goes(alloc, b"yes\nyes\nbuilt\n", most, Went::Built(0, 0), false));
+    assert!(rt;
+        goes(
+            alloc,
+            b"yes\nyes\nbuilt o o\n",
+            most,
+            Went::Built(2, 0),
+            false
+        )
+    );
     Ok(())
 }
 
@@ -152,6 +186,39 @@ fn other_answers(rt: HostRuntime) -> Result<(), Fail> {
     assert!(rt; goes(alloc, b"yes\nyes\nfailed\n", most, Went::Lost, true));
     assert!(rt; goes(alloc, b"yes\nyes\nbuilt o x\n", most, Went::Lost, true));
     assert!(rt; goes(alloc, b"yes\nyes\nlost \n", most, Went::Lost, true));
+    Ok(())
+}
+
+/// Another number of lists than the derivation has outputs is no answer.
+#[test]
+fn other_numbers_of_lists(rt: HostRuntime) -> Result<(), Fail> {
+    let alloc = rt.alloc();
+    let most = usize::MAX;
+    assert!(rt; goes(alloc, b"yes\nyes\nbuilt\n", most, Went::Lost, true));
+    assert!(rt; goes(alloc, b"yes\nyes\nbuilt o\n", most, Went::Lost, true));
+    assert!(rt; goes(alloc, b"yes\nyes\nbuilt o o o\n", most, Went::Lost, true));
+    Ok(())
+}
+
+/// How the lease goes where the answers have no end, and whether the agent is gone then.
+fn answered_endlessly(alloc: Global, answers: &[u8], byte: u8) -> Option<(Went, bool)> {
+    let job = job(alloc)?;
+    let calls = CountedWriter::new(alloc, 4096, usize::MAX, false);
+    let mut agent = Agent::new(alloc, EndlessReader::new(answers, byte), calls);
+    let how = served(&job, &mut agent);
+    Some((how, agent.is_gone()))
+}
+
+/// A line without an end is read to the limit, and none of it where no answer begins so.
+#[test]
+fn endless_lines(rt: HostRuntime) -> Result<(), Fail> {
+    let alloc = rt.alloc();
+    let connect = answered_endlessly(alloc, b"", b'y');
+    assert!(rt; connect == Some((Went::Refused(1), true)));
+    let copy = answered_endlessly(alloc, b"yes\nno", b' ');
+    assert!(rt; copy == Some((Went::Refused(2), true)));
+    let build = answered_endlessly(alloc, b"yes\nyes\nbuilt o ", b'o');
+    assert!(rt; build == Some((Went::Lost, true)));
     Ok(())
 }
 

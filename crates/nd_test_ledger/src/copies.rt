@@ -32,7 +32,7 @@ fn is_missing(alloc: Global, dispatch: &Dispatch, ticket: &Ticket, texts: &[&str
 /// Whether the job of a lease has just these paths and one output.
 fn is_job(alloc: Global, dispatch: &Dispatch, ticket: &Ticket, texts: &[&str]) -> bool {
     match dispatch.job(alloc, ticket) {
-        Ok(job) => holds(&job.paths, texts) && job.outputs == 1,
+        Ok(job) => holds(&job.paths, texts) && job.output_paths.len() == 1,
         Err(_) => false,
     }
 }

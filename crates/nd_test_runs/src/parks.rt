@@ -68,7 +68,7 @@ pub(crate) fn ran<T: Transport, R: Threads + Wait + Sync>(
 }
 
 /// Lets go of what came back of a run.
-pub(crate) fn close_run(end: Ran<StandIn>) {
+pub(crate) fn close_run<T: Transport>(end: Ran<T>) {
     let Ran {
         dispatch,
         workers: _,
@@ -79,7 +79,7 @@ pub(crate) fn close_run(end: Ran<StandIn>) {
 }
 
 /// Lets go of what a refused run handed back.
-pub(crate) fn close_refused(refused: NotRun<StandIn>) {
+pub(crate) fn close_refused<T: Transport>(refused: NotRun<T>) {
     let NotRun {
         why: _,
         dispatch,

@@ -15,7 +15,7 @@ use std::test::Fail;
 use std::thread::Threads;
 
 /// Whether these are the history's lines.
-fn has_lines(alloc: Global, dispatch: &Dispatch, lines: &str) -> bool {
+pub(crate) fn has_lines(alloc: Global, dispatch: &Dispatch, lines: &str) -> bool {
     match told(alloc, dispatch.history()) {
         Ok(found) => found.as_slice() == lines.as_bytes(),
         Err(_) => false,
@@ -366,7 +366,7 @@ fn drained_run(rt: HostRuntime) {
 }
 
 /// The history of the stored run where so many calls pass.
-fn blown(passes: u32) -> &'static str {
+pub(crate) fn blown(passes: u32) -> &'static str {
     match passes {
         0 | 1 => "chosen 0 1 0\ndown 0\nnobuilder 0\n",
         2 => "chosen 0 1 0\nstarted 0 s1\nfailed 0 lost\n",

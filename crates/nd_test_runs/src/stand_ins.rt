@@ -1,5 +1,6 @@
 //! What one stand-in answers.
 
+use nd_bytes::Items;
 use nd_closure::Refs;
 use nd_leases::Ticket;
 use nd_ledger::Job;
@@ -11,12 +12,19 @@ use std::test::Fail;
 
 const DRV: &str = "/nix/store/00000000000000000000000000000000-n0.drv";
 
+const OUTPUT: &str = "/nix/store/aaaaaaaaaaaaaaaaaaaaaaaaaaaaaaaa-n0";
+
 fn path(alloc: Global, text: &str) -> Result<StorePath, Fail> {
     Ok(StorePath::parse(alloc, text.as_bytes())?)
 }
 
 fn one_path(alloc: Global) -> Result<PathSet, Fail> {
     Ok(PathSet::from_vec(vec![in alloc; path(alloc, S1)?]?)?)
+}
+
+/// The path of its one output.
+fn output_paths(alloc: Global) -> Result<Items<StorePath>, Fail> {
+    Ok(Items::new(vec![in alloc; path(alloc, OUTPUT)?]?))
 }
 
 /// Derivation 0 with one output, leased on slot 0 of machine 1, with one path to copy.
@@ -29,7 +37,7 @@ fn job(alloc: Global) -> Result<Job, Fail> {
             serial: 0,
         },
         path: path(alloc, DRV)?,
-        outputs: 1,
+        output_paths: output_paths(alloc)?,
         paths: one_path(alloc)?,
     })
 }

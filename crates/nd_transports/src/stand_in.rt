@@ -1,6 +1,6 @@
 //! A transport that follows rules.
 
-ghost use Rattle.std.specs.Prelude.{◌≡◌, ◌++◌, ◌∷◌, [], ℕ, List, Option, Some, None, IfOk, OnOk, OnErr, replicate, not};
+ghost use Rattle.std.specs.Prelude.{◌≡◌, ◌++◌, ◌∷◌, [], ℕ, List, Option, Some, None, IfOk, OnOk, OnErr, length, replicate, not};
 ghost use Rattle.std.specs.List.{find, list_any};
 ghost use Rattle.nd_transports.specs.Answers.{ended_of};
 ghost use Rattle.nd_transports.specs.Calls.{prepared, connected, copied, built, Reports, IsIdleAgain};
@@ -154,12 +154,12 @@ impl Transport for StandIn {
     ghost state = { λ s. s.state };
 
     fn prepare(&mut self, job: &Job) -> Result<(), AllocError>
-        ensures ok { OnOk result (self.new ≡ readied self.old job.now.outputs job.now.ticket.drv job.now.paths) }
+        ensures ok { OnOk result (self.new ≡ readied self.old (length job.now.output_paths) job.now.ticket.drv job.now.paths) }
         ensures err { OnErr result (IsIdleAgain self.old.state self.new.state) }
         ensures kept { OnErr result (self.new ≡ record self.old { state = self.new.state }) }
     {
         self.log.prepare(job)?;
-        self.outputs = job.outputs;
+        self.outputs = job.output_paths.len();
         Ok(())
     }
 

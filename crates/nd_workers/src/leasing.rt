@@ -308,10 +308,11 @@ fn into_paths(job: Job) -> PathSet
     let Job {
         ticket: _,
         path,
-        outputs: _,
+        output_paths,
         paths,
     } = job;
     drop(path);
+    drop(output_paths);
     paths
 }
 
