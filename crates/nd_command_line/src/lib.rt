@@ -5,11 +5,13 @@
 pub mod bundles;
 mod failing;
 mod files;
+mod inputs;
 mod options;
 mod words;
 
 pub use bundles::{Bundle, bundle_of, bundle_source};
 pub use failing::{Given, failure, heard, path_failure, placed, write_failure};
 pub use files::{file_or_nothing, read_file, text_or_file};
+pub use inputs::{Inputs, answered, read_inputs};
 pub use options::park_options;
 pub use words::command_line;

@@ -17,6 +17,3 @@ pub use hearing::Heard;
 pub use parts::{Part, part_of, place_of};
 pub use pieces::{entry_of, line_of, piece_of};
 pub use sources::Source;
-
-#[cfg(test)]
-mod tests;

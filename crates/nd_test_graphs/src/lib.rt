@@ -1,5 +1,5 @@
 //! Tests of graphs, boards and closures, by their public calls: the worked examples, and sizes that no
-//! contract speaks of.
+//! contract speaks of; and of what is said of a refused text.
 #![tactic(auto)]
 
 #[cfg(test)]
@@ -8,6 +8,8 @@ mod boards;
 mod bundles;
 #[cfg(test)]
 mod closures;
+#[cfg(test)]
+mod explaining;
 #[cfg(test)]
 mod lines;
 #[cfg(test)]

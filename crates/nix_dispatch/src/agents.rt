@@ -3,19 +3,19 @@
 
 ghost use Rattle.nd_workers.specs.Runs.{AreManned};
 
+use crate::running::run_workers;
 use crate::stand_ins::{inputs, run_stand_ins};
 use clap::ArgMatches;
 use nd_agents::Agent;
 use nd_cli::CliFault;
-use nd_command_line::{placed, write_failure};
-use nd_devices::Told;
-use nd_explain::{Failure, Heard, Source};
+use nd_command_line::placed;
+use nd_explain::{Failure, Source};
 use nd_ledger::Dispatch;
-use nd_run_command::{RunInputs, places, run_engine};
+use nd_run_command::{RunInputs, places};
 use nd_workers::{Transport, Worker};
 use std::alloc::{AllocError, Global};
 use std::fs::{File, OpenOptions};
-use std::io::{self, BufReader, BufWriter};
+use std::io::BufReader;
 use std::rt::Files;
 use std::sync::Wait;
 use std::thread::Threads;
@@ -94,17 +94,7 @@ fn run_placed<'a, R: Files<File = File> + Print + AllocGlobal + Threads + Wait +
             return Err(Failure::of(CliFault::Memory));
         }
     }
-    let Ok(buffer) = BufWriter::new(alloc, io::writer(rt)) else {
-        drop(workers);
-        drop(dispatch);
-        return Err(Failure::of(CliFault::Memory));
-    };
-    let mut output = Told::new(Heard::new(buffer));
-    match run_engine(rt, dispatch, workers, report, &mut output) {
-        Ok(status) => Ok(status),
-        Err(CliFault::Write) => Err(write_failure(&output.into_inner())),
-        Err(fault) => Err(Failure::of(fault)),
-    }
+    run_workers(rt, alloc, dispatch, workers, report)
 }
 
 /// The agent of this machine's slot, which is called by its file `M.S.calls` and answers by `M.S.answers`.

@@ -6,17 +6,14 @@ use crate::serving::serve;
 use clap::ArgMatches;
 use clap::error::ErrorKind;
 use nd_cli::{CliFault, ask_engine, path_engine};
-use nd_command_line::{
-    Given, bundle_of, command_line, failure, heard, park_options, path_failure, read_file,
-    write_failure,
-};
+use nd_command_line::{answered, command_line, heard, path_failure, read_inputs, write_failure};
 use nd_commands::{audit_engine, sim_engine};
 use nd_devices::Told;
-use nd_explain::{Failure, Heard, Source};
+use nd_explain::{Failure, Heard};
 use std::alloc::Global;
 use std::fmt;
 use std::fs::File;
-use std::io::{self, BufWriter, Read, Write};
+use std::io::{self, BufWriter};
 use std::rt::Files;
 use std::sync::Wait;
 use std::thread::Threads;
@@ -121,39 +118,17 @@ fn ask<'a, R: Files + Input + Print + AllocGlobal + Threads + Sync>(
     alloc: Global,
     options: &ArgMatches<'a>,
 ) -> Result<u8, Failure<'a>> {
-    let park = match park_options(rt, alloc, options) {
-        Ok(park) => park,
+    let mut inputs = match read_inputs(rt, alloc, options, None) {
+        Ok(inputs) => inputs,
         Err(failure) => return Err(failure),
     };
-    let bundle = match bundle_of(rt, options) {
-        Ok(bundle) => bundle,
-        Err(failure) => {
-            drop(park);
-            return Err(failure);
-        }
-    };
-    let Ok(buffered) = BufWriter::new(alloc, io::writer(rt)) else {
-        drop(bundle);
-        drop(park);
+    let Ok(buffer) = BufWriter::new(alloc, io::writer(rt)) else {
+        drop(inputs);
         return Err(Failure::of(CliFault::Memory));
     };
-    let mut output = Told::new(Heard::new(buffered));
-    let mut input = Told::new(heard(alloc, options, bundle));
-    let answer = ask_engine(rt, alloc, &park, &mut input, &mut output);
-    let given = Given {
-        options,
-        park: &park,
-        other: &[],
-    };
-    let answer = answer_or_failure(
-        alloc,
-        answer,
-        given,
-        input.into_inner(),
-        output.into_inner(),
-    );
-    drop(park);
-    answer
+    let mut output = Told::new(Heard::new(buffer));
+    let answer = ask_engine(rt, alloc, &inputs.park, &mut inputs.bundle, &mut output);
+    answered(alloc, options, inputs, answer, output)
 }
 
 fn sim<'a, R: Files + Input + Print + AllocGlobal + Threads + Sync>(
@@ -161,50 +136,25 @@ fn sim<'a, R: Files + Input + Print + AllocGlobal + Threads + Sync>(
     alloc: Global,
     options: &ArgMatches<'a>,
 ) -> Result<u8, Failure<'a>> {
-    let park = match park_options(rt, alloc, options) {
-        Ok(park) => park,
+    let mut inputs = match read_inputs(rt, alloc, options, Some("script")) {
+        Ok(inputs) => inputs,
         Err(failure) => return Err(failure),
     };
-    let name = options.get_str("script").unwrap_or("");
-    let script = match read_file(rt, alloc, "script", name) {
-        Ok(script) => script,
-        Err(failure) => {
-            drop(park);
-            return Err(failure);
-        }
-    };
-    let bundle = match bundle_of(rt, options) {
-        Ok(bundle) => bundle,
-        Err(failure) => {
-            drop(script);
-            drop(park);
-            return Err(failure);
-        }
-    };
-    let Ok(buffered) = BufWriter::new(alloc, io::writer(rt)) else {
-        drop(bundle);
-        drop(script);
-        drop(park);
+    let Ok(buffer) = BufWriter::new(alloc, io::writer(rt)) else {
+        drop(inputs);
         return Err(Failure::of(CliFault::Memory));
     };
-    let mut output = Told::new(Heard::new(buffered));
-    let mut input = Told::new(heard(alloc, options, bundle));
-    let answer = sim_engine(rt, alloc, &park, script.as_slice(), &mut input, &mut output);
-    let given = Given {
-        options,
-        park: &park,
-        other: script.as_slice(),
-    };
-    let answer = answer_or_failure(
+    let mut output = Told::new(Heard::new(buffer));
+    let script = inputs.own.as_slice();
+    let answer = sim_engine(
+        rt,
         alloc,
-        answer,
-        given,
-        input.into_inner(),
-        output.into_inner(),
+        &inputs.park,
+        script,
+        &mut inputs.bundle,
+        &mut output,
     );
-    drop(script);
-    drop(park);
-    answer
+    answered(alloc, options, inputs, answer, output)
 }
 
 fn audit<'a, R: Files + Input + Print + AllocGlobal + Threads + Sync>(
@@ -212,64 +162,19 @@ fn audit<'a, R: Files + Input + Print + AllocGlobal + Threads + Sync>(
     alloc: Global,
     options: &ArgMatches<'a>,
 ) -> Result<u8, Failure<'a>> {
-    let park = match park_options(rt, alloc, options) {
-        Ok(park) => park,
+    let mut inputs = match read_inputs(rt, alloc, options, Some("history")) {
+        Ok(inputs) => inputs,
         Err(failure) => return Err(failure),
     };
-    let name = options.get_str("history").unwrap_or("");
-    let history = match read_file(rt, alloc, "history", name) {
-        Ok(history) => history,
-        Err(failure) => {
-            drop(park);
-            return Err(failure);
-        }
-    };
-    let bundle = match bundle_of(rt, options) {
-        Ok(bundle) => bundle,
-        Err(failure) => {
-            drop(history);
-            drop(park);
-            return Err(failure);
-        }
-    };
     let mut output = Told::new(Heard::new(io::writer(rt)));
-    let mut input = Told::new(heard(alloc, options, bundle));
+    let history = inputs.own.as_slice();
     let verdict = audit_engine(
         rt,
         alloc,
-        &park,
-        history.as_slice(),
-        &mut input,
+        &inputs.park,
+        history,
+        &mut inputs.bundle,
         &mut output,
     );
-    let given = Given {
-        options,
-        park: &park,
-        other: history.as_slice(),
-    };
-    let answer = answer_or_failure(
-        alloc,
-        verdict,
-        given,
-        input.into_inner(),
-        output.into_inner(),
-    );
-    drop(history);
-    drop(park);
-    answer
-}
-
-/// What a command over a bundle answers, with what is known of its fault where it gave no answer.
-fn answer_or_failure<'a, R: Read + Drop, W: Write + Drop>(
-    alloc: Global,
-    answer: Result<u8, CliFault>,
-    given: Given<'a, '_>,
-    input: Heard<R>,
-    output: Heard<W>,
-) -> Result<u8, Failure<'a>> {
-    match answer {
-        Ok(status) => Ok(status),
-        Err(CliFault::Write) => Err(write_failure(&output)),
-        Err(fault) => Err(failure(alloc, fault, given, &input)),
-    }
+    answered(alloc, options, inputs, verdict, output)
 }

@@ -3,8 +3,8 @@
 use nd_explain::Heard;
 use nd_serve_command::{Journal, JournalFailure, ServeFault};
 use std::alloc::Global;
-use std::fs::{self, OpenFile, OpenOptions};
-use std::io::{self, Read, Write};
+use std::fs::{self, File, OpenFile, OpenOptions};
+use std::io::{self, ErrorKind, Read, Write};
 use std::path::Path;
 use std::rt::Files;
 
@@ -22,13 +22,15 @@ pub(crate) enum Kept<'a, F> {
     },
 }
 
-/// A journal, and what it holds when it is opened.
+/// A journal as it is found: nothing of it is made or changed yet.
 #[derive(Drop)]
-pub(crate) struct JournalFile<'a, F> {
-    /// Where entries are kept.
-    pub kept: Kept<'a, F>,
+pub(crate) struct Found<'a> {
+    /// Its name, where there is to be one.
+    pub(crate) name: Option<&'a str>,
+    /// The file of this name, where it is there. It is locked until the program ends.
+    pub(crate) file: Option<File>,
     /// The bytes that it holds.
-    pub bytes: Vec<u8>,
+    pub(crate) bytes: Vec<u8>,
 }
 
 impl<'a, F: OpenFile + Drop> Kept<'a, F> {
@@ -89,43 +91,105 @@ impl<F: Write + OpenFile> Journal for Kept<'_, F> {
     }
 }
 
-/// Opens the journal of this name, which is made where it isn't there, and reads what it holds. Without a
-/// name there is none, and it holds nothing.
-pub(crate) fn open_journal<'a, R: Files>(
+/// Looks for the journal of this name, and reads what it holds. Without a name there is none, and it holds
+/// nothing, and so does one whose file isn't there.
+pub(crate) fn find_journal<'a, R: Files<File = File>>(
     rt: &R,
     alloc: Global,
     name: Option<&'a str>,
-) -> Result<JournalFile<'a, R::File>, JournalFailure<'a>> {
+) -> Result<Found<'a>, JournalFailure<'a>> {
     let Some(name) = name else {
-        return Ok(JournalFile {
-            kept: Kept::Nowhere,
+        return Ok(Found {
+            name: None,
+            file: None,
             bytes: Vec::new(alloc),
         });
     };
     match read_journal(rt, alloc, name) {
-        Ok((file, bytes)) => Ok(JournalFile {
-            kept: Kept::InFile {
-                name,
-                file,
-                refusal: None,
-            },
+        Ok((file, bytes)) => Ok(Found {
+            name: Some(name),
+            file,
             bytes,
         }),
-        Err(error) => Err(JournalFailure::of_file(ServeFault::JournalFailed, name, Some(error))),
+        Err(error) => Err(failure_of(name, error)),
     }
 }
 
-/// Opens the file for appending, makes durable that its folder has it, and reads it whole.
-fn read_journal<R: Files>(rt: &R, alloc: Global, name: &str) -> io::Result<(R::File, Vec<u8>)> {
-    let mut file = OpenOptions::new()
-        .read(true)
-        .append(true)
-        .create(true)
-        .open(rt, name)?;
-    sync_folder(rt, name)?;
+/// Where the entries of a session go whose journal was found so: a file that isn't there is made. That its folder
+/// has it is durable then.
+pub(crate) fn begin_journal<'a, R: Files<File = File>>(
+    rt: &R,
+    name: Option<&'a str>,
+    file: Option<File>,
+) -> Result<Kept<'a, File>, JournalFailure<'a>> {
+    let Some(name) = name else {
+        drop(file);
+        return Ok(Kept::Nowhere);
+    };
+    let answer = match file {
+        Some(file) => Ok(file),
+        None => make_journal(rt, name),
+    };
+    match answer {
+        Ok(file) => in_folder(rt, name, file),
+        Err(error) => Err(failure_of(name, error)),
+    }
+}
+
+/// The journal in this file, once it is durable that the file's folder has it.
+fn in_folder<'a, R: Files<File = File>>(
+    rt: &R,
+    name: &'a str,
+    file: File,
+) -> Result<Kept<'a, File>, JournalFailure<'a>> {
+    match sync_folder(rt, name) {
+        Ok(()) => Ok(Kept::InFile {
+            name,
+            file,
+            refusal: None,
+        }),
+        Err(error) => {
+            drop(file);
+            Err(failure_of(name, error))
+        }
+    }
+}
+
+/// What is known of a file that isn't opened, locked or read: a lock that is another session's is told as one.
+fn failure_of(name: &str, error: io::Error) -> JournalFailure<'_> {
+    let fault = if error.kind() == ErrorKind::WouldBlock {
+        ServeFault::InUse
+    } else {
+        ServeFault::JournalFailed
+    };
+    JournalFailure::of_file(fault, name, Some(error))
+}
+
+/// Opens the file for appending, locks it and reads it whole, where it is there.
+fn read_journal<R: Files<File = File>>(
+    rt: &R,
+    alloc: Global,
+    name: &str,
+) -> io::Result<(Option<File>, Vec<u8>)> {
     let mut bytes = Vec::new(alloc);
+    let mut file = match OpenOptions::new().read(true).append(true).open(rt, name) {
+        Ok(file) => file,
+        Err(error) if error.kind() == ErrorKind::NotFound => return Ok((None, bytes)),
+        Err(error) => return Err(error),
+    };
+    file.try_lock()?;
     file.read_to_end(&mut bytes)?;
-    Ok((file, bytes))
+    Ok((Some(file), bytes))
+}
+
+/// Makes the file, which nobody else may have made meanwhile, and locks it.
+fn make_journal<R: Files<File = File>>(rt: &R, name: &str) -> io::Result<File> {
+    let file = OpenOptions::new()
+        .append(true)
+        .create_new(true)
+        .open(rt, name)?;
+    file.try_lock()?;
+    Ok(file)
 }
 
 /// Makes durable which files the folder of this file has.

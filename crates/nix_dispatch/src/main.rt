@@ -9,6 +9,7 @@ mod agents;
 mod commands;
 mod journal_files;
 mod listing;
+mod running;
 mod serving;
 mod stand_ins;
 

@@ -1,7 +1,7 @@
 //! The command `serve`: a session over standard input and output, with a journal in a file.
 
 use crate::commands::{say, told_why};
-use crate::journal_files::{JournalFile, Kept, open_journal};
+use crate::journal_files::{Found, Kept, begin_journal, find_journal};
 use clap::ArgMatches;
 use nd_cli::CliFault;
 use nd_command_line::{Given, bundle_of, failure, heard, park_options, write_failure};
@@ -9,6 +9,7 @@ use nd_devices::Told;
 use nd_explain::{Failure, Heard, Source};
 use nd_serve_command::{Devices, JournalFailure, Opened, ServeFault, open_session, serve_engine};
 use std::alloc::Global;
+use std::fs::File;
 use std::io::{self, BufReader, Read, Write};
 use std::rt::Files;
 use std::thread::Threads;
@@ -23,11 +24,10 @@ pub(crate) enum Ending<'a> {
 }
 
 /// Holds a session, and answers the exit status. A fault that it ends by is said here.
-pub(crate) fn serve<'a, R: Files + Input + Print + Eprint + AllocGlobal + Threads + Sync>(
-    rt: &R,
-    alloc: Global,
-    options: &ArgMatches<'a>,
-) -> u8 {
+pub(crate) fn serve<
+    'a,
+    R: Files<File = File> + Input + Print + Eprint + AllocGlobal + Threads + Sync,
+>(rt: &R, alloc: Global, options: &ArgMatches<'a>) -> u8 {
     let ending = match begin(rt, alloc, options) {
         Ok(status) => return status,
         Err(ending) => ending,
@@ -45,27 +45,33 @@ pub(crate) fn serve<'a, R: Files + Input + Print + Eprint + AllocGlobal + Thread
     }
 }
 
-/// Opens the journal, and then a session with it.
-fn begin<'a, R: Files + Input + Print + AllocGlobal + Threads + Sync>(
+/// Looks at the journal, opens a session with it, and only then makes or changes anything of it.
+fn begin<'a, R: Files<File = File> + Input + Print + AllocGlobal + Threads + Sync>(
     rt: &R,
     alloc: Global,
     options: &ArgMatches<'a>,
 ) -> Result<u8, Ending<'a>> {
-    let journal = match open_journal(rt, alloc, options.get_str("journal")) {
-        Ok(journal) => journal,
+    let found = match find_journal(rt, alloc, options.get_str("journal")) {
+        Ok(found) => found,
         Err(failure) => return Err(Ending::Journal(failure)),
     };
-    let opened = match open(rt, alloc, options, journal.bytes.as_slice()) {
+    let opened = match open(rt, alloc, options, found.bytes.as_slice()) {
         Ok(opened) => opened,
         Err(ending) => {
-            drop(journal);
+            drop(found);
             return Err(ending);
         }
     };
-    let JournalFile { kept, bytes } = journal;
+    let Found { name, file, bytes } = found;
     let length = bytes.len();
     drop(bytes);
-    hold(rt, alloc, opened, kept, length)
+    match begin_journal(rt, name, file) {
+        Ok(kept) => hold(rt, alloc, opened, kept, length),
+        Err(failure) => {
+            drop(opened);
+            Err(Ending::Journal(failure))
+        }
+    }
 }
 
 /// Reads the bundle and the park, and the journal with these bytes.

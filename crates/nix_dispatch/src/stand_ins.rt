@@ -3,18 +3,15 @@
 ghost use Rattle.std.specs.Prelude.{map};
 ghost use Rattle.nd_workers.specs.Runs.{AreManned};
 
+use crate::running::run_workers;
 use clap::ArgMatches;
 use nd_cli::CliFault;
-use nd_command_line::{
-    Given, bundle_of, failure, file_or_nothing, heard, park_options, placed, write_failure,
-};
-use nd_devices::Told;
-use nd_explain::{Failure, Heard};
+use nd_command_line::{placed, read_inputs};
+use nd_explain::Failure;
 use nd_ledger::Dispatch;
-use nd_run_command::{RunInputs, run_engine, run_inputs, stand_ins};
+use nd_run_command::{RunInputs, run_inputs, stand_ins};
 use nd_workers::{Seat, StandIn, Transport, Worker};
 use std::alloc::Global;
-use std::io::{self, BufWriter};
 use std::rt::Files;
 use std::sync::Wait;
 use std::thread::Threads;
@@ -47,39 +44,18 @@ pub(crate) fn inputs<'a, R: Files + Input + Threads + Sync>(
     alloc: Global,
     options: &ArgMatches<'a>,
 ) -> Result<RunInputs, Failure<'a>> {
-    let park = match park_options(rt, alloc, options) {
-        Ok(park) => park,
+    let mut inputs = match read_inputs(rt, alloc, options, Some("stand")) {
+        Ok(inputs) => inputs,
         Err(failure) => return Err(failure),
     };
-    let stand = match file_or_nothing(rt, alloc, "stand", options.get_str("stand")) {
-        Ok(stand) => stand,
-        Err(failure) => {
-            drop(park);
-            return Err(failure);
+    let stand = inputs.own.as_slice();
+    match run_inputs(rt, alloc, &inputs.park, stand, &mut inputs.bundle) {
+        Ok(given) => {
+            drop(inputs);
+            Ok(given)
         }
-    };
-    let bundle = match bundle_of(rt, options) {
-        Ok(bundle) => bundle,
-        Err(failure) => {
-            drop(stand);
-            drop(park);
-            return Err(failure);
-        }
-    };
-    let mut input = Told::new(heard(alloc, options, bundle));
-    let inputs = run_inputs(rt, alloc, &park, stand.as_slice(), &mut input);
-    let given = Given {
-        options,
-        park: &park,
-        other: stand.as_slice(),
-    };
-    let inputs = match inputs {
-        Ok(inputs) => Ok(inputs),
-        Err(fault) => Err(failure(alloc, fault, given, &input.into_inner())),
-    };
-    drop(stand);
-    drop(park);
-    inputs
+        Err(fault) => Err(inputs.failure(alloc, options, fault)),
+    }
 }
 
 /// A run by these stand-ins.
@@ -111,15 +87,5 @@ fn run_seated<'a, R: Print + AllocGlobal + Threads + Wait + Sync>(
             return Err(Failure::of(CliFault::Memory));
         }
     }
-    let Ok(buffer) = BufWriter::new(alloc, io::writer(rt)) else {
-        drop(workers);
-        drop(dispatch);
-        return Err(Failure::of(CliFault::Memory));
-    };
-    let mut output = Told::new(Heard::new(buffer));
-    match run_engine(rt, dispatch, workers, report, &mut output) {
-        Ok(status) => Ok(status),
-        Err(CliFault::Write) => Err(write_failure(&output.into_inner())),
-        Err(fault) => Err(Failure::of(fault)),
-    }
+    run_workers(rt, alloc, dispatch, workers, report)
 }

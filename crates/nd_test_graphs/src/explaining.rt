@@ -1,7 +1,7 @@
 //! What is printed of a fault, and what is remembered of a device.
 
-use crate::{Failure, Heard, Source, entry_of, excerpt, line_of};
 use nd_cli::{CliFault, HistoryTextError};
+use nd_explain::{Failure, Heard, Source, entry_of, excerpt, line_of};
 use nd_machines::MachineError;
 use std::alloc::Global;
 use std::fmt;

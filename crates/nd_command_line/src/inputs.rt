@@ -1,0 +1,127 @@
+//! What a command over a bundle reads before it begins, and what it answers in the end.
+
+ghost use Rattle.std.specs.Prelude.{◌≡◌, IfErr, IfOk};
+ghost use Rattle.nd_command_line.specs.Failures.{IsUnread};
+ghost use Rattle.nd_command_line.specs.Options.{AreOptionsIn};
+
+use crate::bundles::{Bundle, bundle_of};
+use crate::failing::{Given, failure, heard, write_failure};
+use crate::files::file_or_nothing;
+use crate::options::park_options;
+use clap::ArgMatches;
+use nd_bytes::ByteString;
+use nd_cli::{CliFault, ParkOptions};
+use nd_devices::Told;
+use nd_explain::{Failure, Heard};
+use std::alloc::Global;
+use std::io::{Read, Write};
+use std::rt::Files;
+
+/// What a command over a bundle is given.
+#[derive(Drop)]
+pub struct Inputs<I, F> {
+    /// What its options say of the park.
+    pub park: ParkOptions,
+    /// The bytes of the file that its own option names, as the script of `sim`; none without one.
+    pub own: ByteString,
+    /// The bundle, of which nothing was read.
+    pub bundle: Told<Heard<Bundle<I, F>>>,
+}
+
+/// Reads what the options of a command over a bundle name: the files of the park, then the file of the
+/// command's own option, where `own` names one; and opens the bundle.
+///
+/// `Read`: a file can't be opened, or a read was refused. `Memory`.
+pub fn read_inputs<'a, R: Files + Input>(
+    rt: &R,
+    alloc: Global,
+    options: &ArgMatches<'a>,
+    own: Option<&'a str>,
+) -> Result<Inputs<R::Reader, R::File>, Failure<'a>>
+    ensures options { IfOk result (λ inputs. AreOptionsIn options.now inputs.park) }
+    ensures unread { IfErr result IsUnread }
+{
+    let park = match park_options(rt, alloc, options) {
+        Ok(park) => park,
+        Err(failure) => return Err(failure),
+    };
+    let own = match own_file(rt, alloc, options, own) {
+        Ok(own) => own,
+        Err(failure) => {
+            drop(park);
+            return Err(failure);
+        }
+    };
+    match bundle_of(rt, options) {
+        Ok(bundle) => Ok(Inputs {
+            park,
+            own,
+            bundle: Told::new(heard(alloc, options, bundle)),
+        }),
+        Err(failure) => {
+            drop(own);
+            drop(park);
+            Err(failure)
+        }
+    }
+}
+
+/// The bytes of the file that the option of this name names, and none where there is no such option.
+fn own_file<'a, R: Files>(
+    rt: &R,
+    alloc: Global,
+    options: &ArgMatches<'a>,
+    own: Option<&'a str>,
+) -> Result<ByteString, Failure<'a>>
+    ensures unread { IfErr result IsUnread }
+{
+    match own {
+        Some(option) => file_or_nothing(rt, alloc, option, options.get_str(option)),
+        None => Ok(ByteString::new(Vec::new(alloc))),
+    }
+}
+
+/// What a command over a bundle answers: the status of its engine, and else what is known of the fault that
+/// it ended with over these inputs and this output.
+pub fn answered<'a, I: Read + Drop, F: Read + Drop, W: Write + Drop>(
+    alloc: Global,
+    options: &ArgMatches<'a>,
+    inputs: Inputs<I, F>,
+    answer: Result<u8, CliFault>,
+    output: Told<Heard<W>>,
+) -> Result<u8, Failure<'a>>
+    ensures status { IfOk result (λ status. answer ≡ Ok status) }
+    ensures fault { IfErr result (λ failure. answer ≡ Err failure.fault) }
+{
+    match answer {
+        Ok(status) => {
+            drop(inputs);
+            Ok(status)
+        }
+        Err(CliFault::Write) => {
+            drop(inputs);
+            Err(write_failure(&output.into_inner()))
+        }
+        Err(fault) => Err(inputs.failure(alloc, options, fault)),
+    }
+}
+
+impl<I: Read + Drop, F: Read + Drop> Inputs<I, F> {
+    /// What is known of a fault over these inputs.
+    pub fn failure<'a>(
+        self,
+        alloc: Global,
+        options: &ArgMatches<'a>,
+        fault: CliFault,
+    ) -> Failure<'a>
+        ensures { result.fault ≡ fault }
+    {
+        let Inputs { park, own, bundle } = self;
+        let given = Given {
+            options,
+            park: &park,
+            other: own.as_slice(),
+        };
+        failure(alloc, fault, given, &bundle.into_inner())
+    }
+}
