@@ -1,6 +1,6 @@
 //! What a command over a bundle reads before it begins, and what it answers in the end.
 
-ghost use Rattle.std.specs.Prelude.{◌≡◌, IfErr, IfOk};
+ghost use Rattle.std.specs.Prelude.{◌≡◌, false, IfErr, IfOk};
 ghost use Rattle.nd_command_line.specs.Failures.{IsUnread};
 ghost use Rattle.nd_command_line.specs.Options.{AreOptionsIn};
 
@@ -39,6 +39,7 @@ pub fn read_inputs<'a, R: Files + Input>(
     own: Option<&'a str>,
 ) -> Result<Inputs<R::Reader, R::File>, Failure<'a>>
     ensures options { IfOk result (λ inputs. AreOptionsIn options.now inputs.park) }
+    ensures mark { IfOk result (λ inputs. inputs.bundle.is_marked ≡ false) }
     ensures unread { IfErr result IsUnread }
 {
     let park = match park_options(rt, alloc, options) {

@@ -24,7 +24,7 @@ pub(crate) fn run_workers<'a, R: Print + AllocGlobal + Threads + Wait + Sync>(
     workers: Vec<Worker>,
     report: bool,
 ) -> Result<u8, Failure<'a>>
-    requires { AreManned dispatch.inputs (map (λ w. (w.machine, w.slot)) workers.items) }
+    requires manned { AreManned dispatch.inputs (map (λ w. (w.machine, w.slot)) workers.items) }
 {
     let Ok(buffer) = BufWriter::new(alloc, io::writer(rt)) else {
         drop(workers);
