@@ -39,13 +39,9 @@ fn run_agents<'a, R: Files<File = File> + Input + Print + AllocGlobal + Threads 
     options: &ArgMatches<'a>,
     folder: &'a str,
 ) -> Result<u8, Failure<'a>> {
-    let RunInputs { dispatch, rules } = match inputs(rt, alloc, options) {
-        Ok(given) => given,
-        Err(failure) => return Err(failure),
-    };
+    let RunInputs { dispatch, rules } = inputs(rt, alloc, options)?;
     drop(rules);
-    let places = places(alloc, &dispatch);
-    match places {
+    match places(alloc, &dispatch) {
         Ok(places) => run_placed(
             rt,
             alloc,

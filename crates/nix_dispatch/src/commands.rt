@@ -118,10 +118,7 @@ fn ask<'a, R: Files + Input + Print + AllocGlobal + Threads + Sync>(
     alloc: Global,
     options: &ArgMatches<'a>,
 ) -> Result<u8, Failure<'a>> {
-    let mut inputs = match read_inputs(rt, alloc, options, None) {
-        Ok(inputs) => inputs,
-        Err(failure) => return Err(failure),
-    };
+    let mut inputs = read_inputs(rt, alloc, options, None)?;
     let Ok(buffer) = BufWriter::new(alloc, io::writer(rt)) else {
         drop(inputs);
         return Err(Failure::of(CliFault::Memory));
@@ -136,10 +133,7 @@ fn sim<'a, R: Files + Input + Print + AllocGlobal + Threads + Sync>(
     alloc: Global,
     options: &ArgMatches<'a>,
 ) -> Result<u8, Failure<'a>> {
-    let mut inputs = match read_inputs(rt, alloc, options, Some("script")) {
-        Ok(inputs) => inputs,
-        Err(failure) => return Err(failure),
-    };
+    let mut inputs = read_inputs(rt, alloc, options, Some("script"))?;
     let Ok(buffer) = BufWriter::new(alloc, io::writer(rt)) else {
         drop(inputs);
         return Err(Failure::of(CliFault::Memory));
@@ -162,10 +156,7 @@ fn audit<'a, R: Files + Input + Print + AllocGlobal + Threads + Sync>(
     alloc: Global,
     options: &ArgMatches<'a>,
 ) -> Result<u8, Failure<'a>> {
-    let mut inputs = match read_inputs(rt, alloc, options, Some("history")) {
-        Ok(inputs) => inputs,
-        Err(failure) => return Err(failure),
-    };
+    let mut inputs = read_inputs(rt, alloc, options, Some("history"))?;
     let mut output = Told::new(Heard::new(io::writer(rt)));
     let history = inputs.own.as_slice();
     let verdict = audit_engine(

@@ -17,10 +17,7 @@ pub(crate) fn list_park<'a, R: Files + Print + AllocGlobal + Threads + Sync>(
     alloc: Global,
     options: &ArgMatches<'a>,
 ) -> Result<u8, Failure<'a>> {
-    let park = match park_options(rt, alloc, options) {
-        Ok(park) => park,
-        Err(failure) => return Err(failure),
-    };
+    let park = park_options(rt, alloc, options)?;
     let mut output = Told::new(Heard::new(io::writer(rt)));
     let answer = match park_engine(rt, alloc, &park, &mut output) {
         Ok(status) => Ok(status),

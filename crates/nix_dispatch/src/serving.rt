@@ -4,8 +4,7 @@ use crate::commands::{say, told_why};
 use crate::journal_files::{Found, Kept, begin_journal, find_journal};
 use clap::ArgMatches;
 use nd_cli::CliFault;
-use nd_command_line::{Given, bundle_of, failure, heard, park_options, write_failure};
-use nd_devices::Told;
+use nd_command_line::{read_inputs, write_failure};
 use nd_explain::{Failure, Heard, Source};
 use nd_serve_command::{Devices, JournalFailure, Opened, ServeFault, open_session, serve_engine};
 use std::alloc::Global;
@@ -81,37 +80,30 @@ fn open<'a, R: Files + Input + Threads + Sync>(
     options: &ArgMatches<'a>,
     journal: &[u8],
 ) -> Result<Opened, Ending<'a>> {
-    let park = match park_options(rt, alloc, options) {
-        Ok(park) => park,
+    let mut inputs = match read_inputs(rt, alloc, options, None) {
+        Ok(inputs) => inputs,
         Err(failure) => return Err(Ending::Common(failure)),
     };
-    let bundle = match bundle_of(rt, options) {
-        Ok(bundle) => bundle,
-        Err(failure) => {
-            drop(park);
-            return Err(Ending::Common(failure));
-        }
-    };
-    let mut input = Told::new(heard(alloc, options, bundle));
     let resumes = options.get_flag("resume");
-    let answer = open_session(rt, alloc, &park, journal, resumes, &mut input);
-    let given = Given {
-        options,
-        park: &park,
-        other: &[],
-    };
-    let answer = match answer {
-        Ok(opened) => Ok(opened),
-        Err(ServeFault::Cli(fault)) => {
-            Err(Ending::Common(failure(alloc, fault, given, &input.into_inner())))
+    match open_session(
+        rt,
+        alloc,
+        &inputs.park,
+        journal,
+        resumes,
+        &mut inputs.bundle,
+    ) {
+        Ok(opened) => {
+            drop(inputs);
+            Ok(opened)
         }
+        Err(ServeFault::Cli(fault)) => Err(Ending::Common(inputs.failure(alloc, options, fault))),
         Err(fault) => {
+            drop(inputs);
             let name = options.get_str("journal").unwrap_or("");
             Err(Ending::Journal(JournalFailure::of_bytes(alloc, fault, name, journal)))
         }
-    };
-    drop(park);
-    answer
+    }
 }
 
 /// Cuts the journal to the whole lines that are gone on from, and holds the session.

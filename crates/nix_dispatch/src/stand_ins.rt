@@ -44,10 +44,7 @@ pub(crate) fn inputs<'a, R: Files + Input + Threads + Sync>(
     alloc: Global,
     options: &ArgMatches<'a>,
 ) -> Result<RunInputs, Failure<'a>> {
-    let mut inputs = match read_inputs(rt, alloc, options, Some("stand")) {
-        Ok(inputs) => inputs,
-        Err(failure) => return Err(failure),
-    };
+    let mut inputs = read_inputs(rt, alloc, options, Some("stand"))?;
     let stand = inputs.own.as_slice();
     match run_inputs(rt, alloc, &inputs.park, stand, &mut inputs.bundle) {
         Ok(given) => {
