@@ -11,6 +11,7 @@
 #                  gone on from; needs the built program and Python 3
 # real-park.sh     a graph on real Nix stores; needs the built program, Nix 2.8 or later, a static busybox, Python 3
 #                  and root
+# ssh-park.sh      the same graph on machines behind ssh; needs what real-park.sh needs, and OpenSSH's sshd
 # allocations.sh   each allocation refused in turn; needs the built program, a C compiler, and the tests of
 #                  `nd_test_ledger` that `rt test` leaves in its folder
 # worlds.py        2,048 random worlds by the plain rules, beside the table of the tests and the program; needs
@@ -38,6 +39,7 @@ needs_of() {
     allocations.sh) echo program cc tests ;;
     runs.py|worlds.py|serve.sh) echo program python3 ;;
     real-park.sh) echo program nix-store busybox python3 root ;;
+    ssh-park.sh) echo program nix-store busybox python3 root ssh-keygen sshd ;;
     wrong-bodies.sh) echo rt git time ;;
     *) echo program ;;
   esac

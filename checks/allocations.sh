@@ -6,7 +6,7 @@
 # `allocations_refused` of `nd_test_ledger`, which looks at what a refused call on a dispatch leaves: each
 # run of it must pass. It needs a C compiler, the program, and the tests that `rt test` leaves.
 set -u
-cd "$(dirname "$0")/.."
+cd "$(dirname "$0")/.." || exit 2
 program=crates/nix_dispatch/out/nix_dispatch
 work=$(mktemp -d)
 trap 'rm -rf "$work"' EXIT
