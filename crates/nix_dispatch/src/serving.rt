@@ -106,7 +106,8 @@ fn open<'a, R: Files + Input + Threads + Sync>(
     }
 }
 
-/// Cuts the journal to the whole lines that are gone on from, and holds the session.
+/// Cuts the journal to the whole lines that are gone on from, makes durable what stays, cut or not, and holds the
+/// session.
 fn hold<'a, R: Files + Input + Print + AllocGlobal>(
     rt: &R,
     alloc: Global,
@@ -115,7 +116,7 @@ fn hold<'a, R: Files + Input + Print + AllocGlobal>(
     length: usize,
 ) -> Result<u8, Ending<'a>> {
     let mut kept = kept;
-    if opened.kept < length && kept.cut(opened.kept).is_err() {
+    if length > 0 && kept.cut(opened.kept).is_err() {
         drop(opened);
         return Err(Ending::Journal(kept.into_failure()));
     }
