@@ -1,7 +1,7 @@
 //! What holds over an agent's whole life: what was written to it is the text of the calls that are recorded, and
-//! what was read of it is what they are recorded as answered with. A new agent is so, and each call leaves it
-//! so, by what the clauses of [`Agent`](crate::Agent) say of that call. Each function does nothing, and its
-//! contract is the law.
+//! what was read of it is what they are recorded as answered with, but that a build is recorded as lost too
+//! where no memory was found for its answer. A new agent is so, and each call leaves it so, by what the clauses
+//! of [`Agent`](crate::Agent) say of that call. Each function does nothing, and its contract is the law.
 
 ghost use Rattle.nd_agents.specs.Spoken.{NewLives, PrepareLives, RefusedLives, ConnectLives, CopyLives, BuildLives, LifeIsWritten};
 

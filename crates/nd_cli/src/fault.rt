@@ -122,7 +122,7 @@ pub enum CliFault {
     /// An input has more than 67,108,864 bytes. Status 3.
     #[error("nix-dispatch: {0}: TooLarge")]
     TooLarge(Place),
-    /// The machines have more than 1,024 slots, and a run has a stand-in for each. Status 3.
+    /// The machines have more than 1,024 slots, and a run has a worker for each. Status 3.
     #[error("nix-dispatch: builders: TooManySlots")]
     TooManySlots,
     /// A reader refused a read, or a file can't be opened. Status 5.

@@ -31,8 +31,8 @@ impl<I: Read, F: Read> Read for Bundle<I, F> {
     }
 }
 
-/// The bundle of a command with these options: the file that `--bundle` names, which is opened, and
-/// standard input without the option.
+/// The bundle of a command with these options: a file where `--bundle` names one, which is opened, and
+/// standard input without the option. That it is the file of that name is only tested.
 ///
 /// `Read`: the file can't be opened.
 pub fn bundle_of<'a, R: Files + Input>(

@@ -1,4 +1,5 @@
-//! The files that the command line names.
+//! The files that the command line names. That what is read of a file is what the file of that name holds is
+//! only tested: contracts say nothing of what files hold.
 
 ghost use Rattle.std.specs.Prelude.{◌≡◌, [], None, IfOk, IfErr};
 ghost use Rattle.nd_command_line.specs.Failures.{IsUnread};

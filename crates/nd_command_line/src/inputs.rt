@@ -22,7 +22,8 @@ use std::rt::Files;
 pub struct Inputs<I, F> {
     /// What its options say of the park.
     pub park: ParkOptions,
-    /// The bytes of the file that its own option names, as the script of `sim`; none without one.
+    /// The bytes of the file that its own option names, as the script of `sim`; none without one. That they
+    /// are that file's is only tested.
     pub own: ByteString,
     /// The bundle, of which nothing was read.
     pub bundle: Told<Heard<Bundle<I, F>>>,

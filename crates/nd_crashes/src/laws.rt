@@ -2,8 +2,9 @@
 
 ghost use Rattle.nd_crashes.specs.CrashLaws.{SessionsSurvive, PartsSurvive, JournalsBegin};
 
-/// After a crash at any moment of a session its journal is gone on from with a legal history, which begins with
-/// every entry that was answered.
+/// After a crash at any moment of a session that began with a durable journal, if the crash leaves what was made
+/// durable and a beginning of the rest: the journal is gone on from with a legal history, which begins with every
+/// entry that was answered.
 pub fn sessions_survive()
     ensures { SessionsSurvive }
 {}

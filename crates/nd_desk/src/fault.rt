@@ -10,7 +10,7 @@ use std::fmt;
 pub enum DeskFault {
     /// 1: the device refused. That is noted.
     Refused,
-    /// 2: an allocation was refused. Nothing was done, and nothing is noted.
+    /// 2: an allocation was refused before anything was done, and nothing is noted.
     Memory,
 }
 
@@ -19,11 +19,12 @@ pub enum DeskFault {
 pub enum SessionFault {
     /// 1: the input refused a read.
     Read,
-    /// 2: the journal refused an append or a sync. Nothing of that turn was answered.
+    /// 2: the journal refused an append or a sync. Nothing of that turn was answered; its entries may stand
+    /// in the journal.
     Journal,
     /// 3: the output refused an answer. A part of it, from its beginning, may be out.
     Write,
-    /// 4: an allocation was refused. Nothing of that turn was answered.
+    /// 4: an allocation was refused. Nothing of that turn was answered; its entries may stand in the journal.
     Memory,
 }
 

@@ -68,7 +68,7 @@ pub fn advice_on(fault: &CliFault) -> Advice
         CliFault::Stand(refusal) => of_stand(refusal),
         CliFault::History(refusal) => of_history(refusal),
         CliFault::TooManySlots => Advice {
-            cause: "the machines have more than 1,024 slots together, and a run has a stand-in for each",
+            cause: "the machines have more than 1,024 slots together, and a run has a worker for each",
             cure: "lower --jobs or the jobs of builders",
         },
         CliFault::TooLarge(_) => Advice {
@@ -89,7 +89,7 @@ pub fn advice_on(fault: &CliFault) -> Advice
             cure: "allow the program more threads, or give it fewer slots",
         },
         CliFault::Receipts => Advice {
-            cause: "the history of the run isn't the one that its workers say they made",
+            cause: "the run didn't come to its end, or its history isn't the one that its workers say they made",
             cure: "report it: the program is to blame, and none of its inputs",
         },
     }

@@ -13,7 +13,7 @@ pub enum Why {
     Status(u8),
     /// The transport was lost.
     Lost,
-    /// The build reported references that it may not have.
+    /// As whoever built it tells, it reported references that it may not have.
     BadReferences,
     /// No worker serves the lease's slot.
     NoWorker,

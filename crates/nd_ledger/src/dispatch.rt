@@ -195,7 +195,7 @@ impl Dispatch {
     }
 
     /// What a worker needs to know of a lease: its ticket, the derivation's path, the paths of its
-    /// outputs by their names, and the paths that [`Dispatch::missing`] gives.
+    /// outputs in the order in which the graph has them, and the paths that [`Dispatch::missing`] gives.
     ///
     /// Refuses with `NotLive` (1) where the ticket is not a live lease's, and with `Memory` (8) where an
     /// allocation is refused.

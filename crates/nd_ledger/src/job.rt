@@ -14,7 +14,8 @@ pub struct Job {
     pub ticket: Ticket,
     /// The derivation's path.
     pub path: StorePath,
-    /// The paths of its outputs, in the order of the outputs' names.
+    /// The paths of its outputs, in the order in which the graph has them: for a bundle's, that of the
+    /// outputs' names.
     pub output_paths: Items<StorePath>,
     /// The paths to copy first: those of the input closure that the machine doesn't hold.
     pub paths: PathSet,

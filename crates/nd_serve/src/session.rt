@@ -10,13 +10,13 @@ use nd_ledger::Dispatch;
 use std::alloc::{AllocError, Global};
 
 /// Takes the steps of the pump that are due and answers them; then reads one line after another, does what
-/// each asks for with the steps of the pump behind it, and answers, until the input ends. An answer ends
-/// with the line `ready`.
+/// each asks for with the steps of the pump behind it, and answers, until the input ends or 2^64 − 1 lines
+/// were read. An answer ends with the line `ready`.
 ///
 /// Before an answer is written, the lines of the entries that it tells of are appended to the journal and
-/// made durable; and before the next line is read, the answer is passed on. A journal that is `fresh` has
-/// nothing yet and gets the first line of a history text of the second version. One that isn't holds the
-/// text of the dispatch's history in that version.
+/// made durable; and before the next line is read, the answer is passed on. A journal that is `fresh` is to
+/// hold nothing yet, and gets the first line of a history text of the second version. One that isn't is to
+/// hold the text of the dispatch's history in that version.
 ///
 /// A line that asks for nothing that is known is answered `refused BadLine`, a refused command `refused`
 /// and the refusal's name, and the session goes on.

@@ -1,16 +1,18 @@
 //! The devices of a session, as one desk.
 
-ghost use Rattle.std.specs.Prelude.{◌↔◌, IsTrue, is_ok, OnOk};
+ghost use Rattle.std.specs.Prelude.{◌≡◌, ◌↔◌, IsTrue, is_ok, IfErr, OnOk};
 ghost use Rattle.std.specs.Io.KnownBytes.{Appends};
 
 use crate::journals::Journal;
-use crate::lines::{fault_of, next_line};
+use crate::lines::next_line;
 use nd_bytes::ByteString;
 use nd_desk::{Desk, DeskFault};
 use std::alloc::Global;
 use std::io::{self, BufRead, Write};
 
-/// A reader of lines, a writer and a journal. What is done to them isn't known to contracts.
+/// A reader of lines, a writer and a journal. What is done to them isn't known to contracts. Whatever the
+/// journal or the writer is refused for, the system's want of memory too, is their own refusal: a part of
+/// the bytes may be there.
 #[derive(Drop)]
 pub struct Devices<R, W, J> {
     /// Where lines come from.
@@ -45,24 +47,26 @@ impl<R: BufRead, W: Write, J: Journal> Desk for Devices<R, W, J> {
 
 /// Writes all of these bytes, and has the writer pass on what it holds back.
 fn pass_on<W: Write>(bytes: &[u8], output: &mut W) -> Result<(), DeskFault>
-    ensures { OnOk result (Appends (W.contents output.old) (W.contents output.new) bytes.now) }
+    ensures appended { OnOk result (Appends (W.contents output.old) (W.contents output.new) bytes.now) }
+    ensures refused { IfErr result (λ fault. fault ≡ DeskFault.Refused) }
 {
     match output.write_all(bytes) {
         Ok(()) => {}
-        Err(error) => return Err(fault_of(error)),
+        Err(_) => return Err(DeskFault::Refused),
     }
     match output.flush() {
         Ok(()) => Ok(()),
-        Err(error) => Err(fault_of(error)),
+        Err(_) => Err(DeskFault::Refused),
     }
 }
 
 /// Whether a device did what it was asked for.
 fn done(answer: io::Result<()>) -> Result<(), DeskFault>
-    ensures { IsTrue (is_ok result) ↔ IsTrue (is_ok answer) }
+    ensures ok { IsTrue (is_ok result) ↔ IsTrue (is_ok answer) }
+    ensures refused { IfErr result (λ fault. fault ≡ DeskFault.Refused) }
 {
     match answer {
         Ok(()) => Ok(()),
-        Err(error) => Err(fault_of(error)),
+        Err(_) => Err(DeskFault::Refused),
     }
 }

@@ -24,8 +24,8 @@ pub enum ServeFault {
     /// The journal that is to be gone on from is none. Status 3.
     #[error("nix-dispatch: journal: {0}")]
     Journal(ResumeError),
-    /// The journal can't be opened, or refused to be read, cut, appended to or made durable. Nothing of the
-    /// command's entries was answered. Status 5.
+    /// The journal can't be opened, or refused to be read, cut, appended to or made durable, for whatever
+    /// cause. Nothing of the turn that it ends is answered; its entries may stand in the journal. Status 5.
     #[error("nix-dispatch: journal failed")]
     JournalFailed,
 }

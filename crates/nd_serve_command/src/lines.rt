@@ -41,8 +41,8 @@ fn line_end(text: &[u8]) -> usize
     front.len()
 }
 
-/// Why a device didn't do what it was asked for.
-pub(crate) fn fault_of(error: Error) -> DeskFault {
+/// Why a reader gave no line: it refused, or there was no memory for the line.
+fn fault_of(error: Error) -> DeskFault {
     if error.kind() == ErrorKind::OutOfMemory {
         DeskFault::Memory
     } else {

@@ -23,8 +23,8 @@ use std::thread::Threads;
 pub struct Opened {
     /// The derivations and the park, with the history of the journal.
     pub dispatch: Dispatch,
-    /// How many bytes of the journal are gone on from: its whole lines. A file is cut to these, and that
-    /// made durable, before the session begins.
+    /// How many bytes of the journal are gone on from: its whole lines. A file is to be cut to these, and
+    /// what stays made durable, before the session begins.
     pub kept: usize,
 }
 

@@ -10,15 +10,16 @@ use nd_desk::Desk;
 use nd_serve::serve;
 use std::alloc::Global;
 
-/// Holds a session over a desk, whose journal holds the whole lines of the one that it was opened with. The
-/// status is 1 where a derivation failed or was cancelled when the input ended, and else 0.
+/// Holds a session over a desk, whose journal is to hold, durably, the whole lines of the one that it was
+/// opened with. The status is 1 where a derivation failed or was cancelled when the input ended, and else 0.
 ///
 /// Ends with `Read`, `Write` and `Memory`, as the other commands, and with `JournalFailed` where the journal
 /// refused an append or a sync. Of the turn that it ends in nothing is answered, but for a part of the
 /// answer at `Write`.
 ///
-/// At whatever moment the program or the machine stops, and whatever part of what wasn't durable is lost: the
-/// journal's file is then gone on from with a legal history, which begins with every entry that was answered.
+/// Of a desk that notes what is done to it: at whatever moment the session stops, and wherever what wasn't
+/// durable is cut off, the journal is gone on from with a legal history, which begins with every entry that
+/// was answered. That [`Devices`](crate::Devices) pass on just what is noted is only tested.
 #[tactic(auto, using(crate::proofs::Ended::sessions))]
 pub fn serve_engine<D: Desk>(alloc: Global, opened: Opened, desk: &mut D) -> Result<u8, ServeFault>
     ensures ended { IfOk result (λ status. EndsSession opened.dispatch (opened.kept == 0) status (D.log desk.old) (D.log desk.new)) }

@@ -61,7 +61,8 @@ impl Journal for MemoryJournal {
 
     fn sync(&mut self) -> io::Result<()> {
         if self.grants == 0 {
-            return Err(io::Error::from(io::ErrorKind::Other));
+            // The system's own want of memory is a refusal as any other.
+            return Err(io::Error::from(io::ErrorKind::OutOfMemory));
         }
         self.grants -= 1;
         self.durable = self.bytes.len();

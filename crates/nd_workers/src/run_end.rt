@@ -5,7 +5,7 @@ use nd_ledger::Dispatch;
 use nd_receipts::Receipt;
 use nd_transports::Transport;
 
-/// Why a run was refused, in the order in which the causes are looked for.
+/// Why a run was refused: the first cause that stands, but `Memory` may come at any point.
 #[derive(Clone, Copy, Debug, PartialEq, Eq)]
 pub enum RunError {
     /// 1: there isn't exactly one worker for each slot of the park.
@@ -16,14 +16,17 @@ pub enum RunError {
     Memory,
 }
 
-/// What a run may end with. `Receipts` is looked for first, then `Thread`, then `Memory`.
+/// What a run may end with. It has none of these only where nothing waits or is leased any more, the receipts
+/// are the entries that workers made, and nobody stopped the run. That it has the one that it has for the
+/// cause that is named is only tested.
 #[derive(Clone, Copy, Debug, PartialEq, Eq)]
 pub enum RunFault {
-    /// 1: a thread wasn't started.
+    /// 1: a thread wasn't started, so the run was stopped. All else is as without a fault.
     Thread,
-    /// 2: memory was refused for choices or for receipts.
+    /// 2: memory was refused for choices or for receipts, so the run was stopped. All else is as without a
+    /// fault.
     Memory,
-    /// 3: the receipts aren't the entries that the workers made.
+    /// 3: it wasn't seen that the run is over and that the receipts are the entries that workers made.
     Receipts,
 }
 
@@ -43,9 +46,9 @@ pub struct NotRun<T> {
 pub struct Ran<T> {
     /// The dispatch.
     pub dispatch: Dispatch,
-    /// The workers, in the order in which they were handed in.
+    /// The workers, on the places and in the order in which they were handed in.
     pub workers: Vec<Seat<T>>,
-    /// Each worker's receipts.
+    /// Each worker's receipts, in the order of the workers.
     pub receipts: Vec<Vec<Receipt>>,
     /// What the run ended with, if it isn't as it should be.
     pub fault: Option<RunFault>,

@@ -512,20 +512,20 @@ pub fn run_with<T: Transport, R: Threads + Wait + Sync>(
     }
 }
 
-/// Runs the dispatch by one worker for each slot of the park, each in a thread of its own, until nothing
-/// waits and nothing is leased any more. Each worker, with the lock free, copies and builds through its
-/// transport, and under the lock records what came of it. A run without workers pumps once.
+/// Runs the dispatch by one worker for each slot of the park, each in a thread of its own. Each worker, with
+/// the lock free, copies and builds through its transport, and under the lock records what came of it.
+/// Unless the fault is `Receipts`, nothing waits and nothing is leased any more in the end.
 ///
 /// Refuses with `Slots` (1) where there isn't exactly one worker for each slot of the park, then with
 /// `TooManySlots` (2) where there are more than 1,024, and with `Memory` (3) where an allocation is
 /// refused before the first thread starts. What was handed in comes back then.
 ///
-/// It may end with a fault: `Thread` (1) where a thread wasn't started, `Memory` (2) where memory was
-/// refused for choices or for receipts, `Receipts` (3) where the receipts aren't the entries that
-/// workers made. After the first two the run was stopped, and what came back is compared as without a
-/// fault. However it ends, the workers come back on the places and in the order in which they were handed
-/// in, each with a list of receipts; each choice since the opening is the pump's step of its place in the
-/// history, and no machine was drained or enabled. No lease is to be live at the start.
+/// It may end with a fault, which [`RunFault`] lists. After `Thread` (1) and `Memory` (2) the run was stopped,
+/// and the rest is as without a fault: each worker's calls are those of its receipts, and the receipts are the
+/// entries that workers made. `Receipts` (3) says that this wasn't seen to be so. However it ends, the workers
+/// come back on the places and in the order in which they were handed in, each with a list of receipts; each
+/// choice since the opening is the pump's step of its place in the history, and no machine was drained or
+/// enabled. No lease is to be live at the start: one that is may end in `Receipts`.
 pub fn run<R: Threads + Wait + Sync>(
     rt: &R,
     dispatch: Dispatch,

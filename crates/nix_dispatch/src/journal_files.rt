@@ -155,12 +155,12 @@ fn in_folder<'a, R: Files<File = File>>(
     }
 }
 
-/// What is known of a file that isn't opened, locked or read: a lock that is another session's is told as one.
+/// What is known of a file that isn't opened, locked, read or made: a lock that is another session's, and a file
+/// that was made since it was looked for, are told as being in use.
 fn failure_of(name: &str, error: io::Error) -> JournalFailure<'_> {
-    let fault = if error.kind() == ErrorKind::WouldBlock {
-        ServeFault::InUse
-    } else {
-        ServeFault::JournalFailed
+    let fault = match error.kind() {
+        ErrorKind::WouldBlock | ErrorKind::AlreadyExists => ServeFault::InUse,
+        _ => ServeFault::JournalFailed,
     };
     JournalFailure::of_file(fault, name, Some(error))
 }
