@@ -9,6 +9,8 @@
 # runs.py          runs on threads, and the audit of their histories; needs the built program and Python 3
 # serve.sh         sessions of the built program and of the two drivers in examples/serve, one of them killed and
 #                  gone on from; needs the built program and Python 3
+# durable.py       what `serve` asks the system for: each answer behind its sync, and refusals of the journal; needs the
+#                  built program, strace and Python 3
 # real-park.sh     a graph on real Nix stores; needs the built program, Nix 2.8 or later, a static busybox, Python 3
 #                  and root
 # ssh-park.sh      the same graph on machines behind ssh; needs what real-park.sh needs, and OpenSSH's sshd
@@ -38,6 +40,7 @@ needs_of() {
   case $1 in
     allocations.sh) echo program cc tests ;;
     runs.py|worlds.py|serve.sh) echo program python3 ;;
+    durable.py) echo program python3 strace ;;
     real-park.sh) echo program nix-store busybox python3 root ;;
     ssh-park.sh) echo program nix-store busybox python3 root ssh-keygen sshd ;;
     wrong-bodies.sh) echo rt git time ;;

@@ -1,8 +1,9 @@
 #!/bin/sh
 # Refuses the first, second, third allocation of the built program and so on, until a run meets none,
-# for `ask`, `path`, `sim` and `audit`. Each run must end with the ample output and its status, or with
-# status 5, the line "nix-dispatch: out of memory" and no output, or for `sim` the beginning of the ample
-# output. A run ends in one of its ways, and its history is legal. Then it does so to the built test
+# for `ask`, `path`, `park`, `sim`, `audit` and `serve`. Each run must end with the ample output and its status, or
+# with status 5, the line "nix-dispatch: out of memory" and no output, or for `sim` and `serve` the beginning of the
+# ample output; a journal that `serve` leaves is gone on from. A run ends in one of its ways, and its history is
+# legal. Then it does so to the built test
 # `allocations_refused` of `nd_test_ledger`, which looks at what a refused call on a dispatch leaves: each
 # run of it must pass. It needs a C compiler, the program, and the tests that `rt test` leaves.
 set -u
@@ -12,10 +13,25 @@ work=$(mktemp -d)
 trap 'rm -rf "$work"' EXIT
 cc -shared -fPIC -O1 -o "$work/refuse.so" checks/refuse.c -ldl || exit 2
 
+# Whether the output is the beginning of the ample one.
+is_beginning() {
+  head -c "$(wc -c < "$work/out")" "$work/ample" | cmp -s - "$work/out"
+}
+
+# Whether a session goes on from the journal, where there is one.
+is_gone_on_from() {
+  [ -e "$work/journal" ] || return 0
+  resumed=0
+  "$program" serve --bundle examples/farm/bundle --builders @examples/farm/builders --journal "$work/journal" --resume \
+    < /dev/null > "$work/resumed" || resumed=$?
+  [ "$resumed" -le 1 ]
+}
+
 # Whether this is what a command may leave where it finds no memory.
 is_left() {
   case $1 in
-    sim) head -c "$(wc -c < "$work/out")" "$work/ample" | cmp -s - "$work/out" ;;
+    sim) is_beginning ;;
+    serve) is_beginning && is_gone_on_from ;;
     *) [ ! -s "$work/out" ] ;;
   esac
 }
@@ -30,6 +46,7 @@ sweep() {
   last=0
   refused=0
   while [ "$number" -le 5000 ]; do
+    rm -f "$work/journal"
     REFUSE=$number LD_PRELOAD="$work/refuse.so" "$program" "$@" < "$input" > "$work/out" 2> "$work/err"
     status=$?
     if [ "$status" -eq 5 ] && is_left "$1" && [ "$(cat "$work/err")" = 'nix-dispatch: out of memory' ]; then
@@ -51,30 +68,42 @@ sweep crates/nix_dispatch/stdin ask --builders m
 head -n 1 crates/nix_dispatch/stdin | sed 's/^[^ ]* //' | tr -d '\n' > "$work/text"
 sweep "$work/text" path n0.drv
 sweep examples/farm/bundle sim --builders @examples/farm/builders --keep-going --script examples/farm/script
+{ head -n 8 examples/farm/script; echo job 0; echo report; } > "$work/commands"
+sweep "$work/commands" serve --bundle examples/farm/bundle --builders @examples/farm/builders --journal "$work/journal"
+sweep /dev/null park --builders @examples/farm/builders
 sweep examples/farm/bundle audit --builders @examples/farm/builders --keep-going --history examples/farm/history
 
 # A run may go on without what it couldn't have: a lease then fails for want of memory, or its stand-in
 # is lost. So it is refused, and writes nothing; or it ends, with a fault or without, and the history that
 # it writes is legal.
+run_verdict() {
+  if [ -s "$work/out" ]; then
+    "$program" audit --builders m --jobs 0 --history "$work/out" < crates/nix_dispatch/stdin
+  else
+    echo 'legal 0'
+  fi
+}
+
+"$program" run --builders m --jobs 0 < crates/nix_dispatch/stdin > "$work/out"
+ample=$?.$(run_verdict)
 number=1
 refused=0
 last=0
-while [ "$number" -le $((last + 200)) ]; do
+while [ "$number" -le $((last + 200)) ] && [ "$number" -le 5000 ]; do
   REFUSE=$number LD_PRELOAD="$work/refuse.so" "$program" run --builders m --jobs 0 \
     < crates/nix_dispatch/stdin > "$work/out" 2> "$work/err"
-  status=$?
-  if [ -s "$work/out" ]; then
-    verdict=$("$program" audit --builders m --jobs 0 --history "$work/out" < crates/nix_dispatch/stdin)
-  else
-    verdict='legal 0'
-  fi
-  case $status.$verdict in
+  end=$?.$(run_verdict)
+  case $end in
     [015].'legal '*) ;;
-    *) echo "run: allocation $number refused: status $status, $verdict"; exit 1 ;;
+    *) echo "run: allocation $number refused: status and verdict $end"; exit 1 ;;
   esac
-  [ "$status" -eq 0 ] && [ "$verdict" = 'legal 9' ] || { refused=$((refused + 1)); last=$number; }
+  [ "$end" = "$ample" ] || { refused=$((refused + 1)); last=$number; }
   number=$((number + 1))
 done
+if [ "$refused" -eq 0 ] || [ "$number" -gt 5000 ]; then
+  echo "run: $refused runs were not the ample one, of $number"
+  exit 1
+fi
 echo "run: $refused runs were not the ample one, the last at allocation $last, and each history is legal"
 
 tests=crates/nd_test_ledger/out/nd_test_ledger_tests
