@@ -6,12 +6,12 @@ use Rattle.nd_desk.specs.declared.event.Event.TheVariants.{Heard, Answered}
 use Rattle.nd_desk.specs.declared.fault.SessionFault.{SessionFault}
 use Rattle.nd_desk.specs.declared.fault.SessionFault.TheVariants.{Read, Journal, Write, Memory}
 use Rattle.nd_desk.specs.Handing.{kept, IsHandedPart}
+use Rattle.nd_desk.specs.Notes.{answered, answered_by}
 use Rattle.nd_history.specs.declared.entry.Entry.{Entry}
 use Rattle.nd_history.specs.Premises.{Premises}
 use Rattle.nd_history_text.proofs.Once.{same_head, same_tail}
 use Rattle.nd_serve.specs.Turns.{Turn, kept_text, answer_text, ready_line}
 use Rattle.nd_serve.specs.Sessions.{Opening, IsSession, IsOpeningPart, IsTurnPart, IsCut, IsSessionPart, IsWhole, first_text, turn_events}
-use Rattle.nd_serve.specs.SessionLaws.{answered, answered_by}
 use Rattle.nd_serve.proofs.SessionRuns.{kept_silent}
 use Rattle.nd_crashes.specs.Crashes.{IsAnsweredTo}
 

@@ -5,6 +5,7 @@ use Rattle.std.specs.Prelude.{◌≡◌, ◌⊎◌, ℕ, Bool, true, false, List
 use Rattle.std.specs.List.{All, flat_map}
 use Rattle.nd_desk.specs.declared.event.Event.{Event}
 use Rattle.nd_desk.specs.declared.event.Event.TheVariants.{Heard, Ended, Unheard, Appended, Synced, Answered}
+use Rattle.nd_desk.specs.Notes.{answered}
 use Rattle.nd_history.specs.declared.entry.Entry.{Entry}
 use Rattle.nd_history.specs.Premises.{Premises}
 use Rattle.nd_history.specs.Legal.{IsLegal}
@@ -16,7 +17,6 @@ use Rattle.nd_journal.specs.WholeLines.{IsBeginning}
 use Rattle.nd_resume.specs.Resumes.{IsResumable}
 use Rattle.nd_serve.specs.Turns.{Turn}
 use Rattle.nd_serve.specs.Sessions.{Opening, IsSession, first_of}
-use Rattle.nd_serve.specs.SessionLaws.{answered}
 
 -- what an event hands to the journal, which may have refused it, or a part of it
 abbrev pub handed_by : Event → List ℕ

@@ -4,7 +4,7 @@ ghost use Rattle.nd_crashes.specs.CrashLaws.{SessionsSurvive, PartsSurvive, Jour
 
 /// After a crash at any moment of a session that began with a durable journal, if the crash leaves what was made
 /// durable and a beginning of the rest: the journal is gone on from with a legal history, which begins with every
-/// entry that was answered.
+/// entry that was answered by a whole answer.
 pub fn sessions_survive()
     ensures { SessionsSurvive }
 {}
@@ -14,7 +14,7 @@ pub fn parts_survive()
     ensures { PartsSurvive }
 {}
 
-/// What was gone on from, cut to its whole lines, is what such a session begins with.
+/// What can be gone on from, cut to its whole lines, is what such a session begins with, once it is durable.
 pub fn journals_begin()
     ensures { JournalsBegin }
 {}

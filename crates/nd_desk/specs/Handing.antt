@@ -1,11 +1,11 @@
 -- What is noted of a turn: its lines are durable in the journal before its answer is out.
 -- Public clauses cite this; `IsKeptPart` and `KeepsPart` serve private ones too.
-use Rattle.std.specs.Prelude.{◌≡◌, ◌⊎◌, ℕ, ◌<◌, true, false, List, [], ◌∷◌, ◌++◌, length, Option}
+use Rattle.std.specs.Prelude.{◌≡◌, ◌⊎◌, ℕ, ◌<◌, true, false, List, [], ◌∷◌, ◌++◌, length}
 use Rattle.nd_desk.specs.declared.event.Event.{Event}
 use Rattle.nd_desk.specs.declared.event.Event.TheVariants.{Appended, Synced, Answered}
 use Rattle.nd_desk.specs.declared.fault.SessionFault.{SessionFault}
 use Rattle.nd_desk.specs.declared.fault.SessionFault.TheVariants.{Read, Journal, Write, Memory}
-use Rattle.nd_desk.specs.Notes.{Notes}
+use Rattle.nd_desk.specs.Notes.{Seen, Notes}
 
 -- lines are appended to the journal, and then made durable; of no lines there is nothing to be done
 abbrev pub kept : List ℕ → List Event
@@ -34,19 +34,19 @@ IsHandedPart lines answer Journal events = IsKeptPart lines Journal events
 IsHandedPart lines answer Write events = events ≡ kept lines ++ Answered answer false ∷ []
 IsHandedPart lines answer Memory events = IsKeptPart lines Memory events ⊎ (events ≡ kept lines)
 
--- .. of a desk with these lists before and after
-pub record KeepsPart (old new : Option (List Event)) (lines : List ℕ) (fault : SessionFault) : Type 0 where
+-- .. of a desk of which this was seen before and after
+pub record KeepsPart (old new : Seen) (lines : List ℕ) (fault : SessionFault) : Type 0 where
   pub events : List Event
   pub part : IsKeptPart lines fault events
   pub noted : Notes old new events
 
-pub record HandsPart (old new : Option (List Event)) (lines answer : List ℕ) (fault : SessionFault) : Type 0 where
+pub record HandsPart (old new : Seen) (lines answer : List ℕ) (fault : SessionFault) : Type 0 where
   pub events : List Event
   pub part : IsHandedPart lines answer fault events
   pub noted : Notes old new events
 
 -- what is noted where an answer was refused, or memory was wanting for it
-abbrev pub AnswersPart : Option (List Event) → Option (List Event) → List ℕ → SessionFault → Type 0
+abbrev pub AnswersPart : Seen → Seen → List ℕ → SessionFault → Type 0
 AnswersPart old new answer Read = ⊥
 AnswersPart old new answer Journal = ⊥
 AnswersPart old new answer Write = Notes old new (Answered answer false ∷ [])

@@ -10,7 +10,7 @@ use std::fmt;
 pub enum DeskFault {
     /// 1: the device refused. That is noted.
     Refused,
-    /// 2: an allocation was refused before anything was done, and nothing is noted.
+    /// 2: an allocation was refused, and nothing is noted or written. Of a line a part may have been read.
     Memory,
 }
 

@@ -15,8 +15,8 @@ use crate::fault::{DeskFault, SessionFault};
 /// behind a refusal isn't done.
 #[tactic(auto, using(crate::proofs::Noting::handings))]
 pub fn hand_over<D: Desk>(lines: &[u8], answer: &[u8], desk: &mut D) -> Result<(), SessionFault>
-    ensures done { OnOk result (Notes (D.log desk.old) (D.log desk.new) (handed lines.now answer.now)) }
-    ensures partly { IfErr result (HandsPart (D.log desk.old) (D.log desk.new) lines.now answer.now) }
+    ensures done { OnOk result (Notes (D.seen desk.old) (D.seen desk.new) (handed lines.now answer.now)) }
+    ensures partly { IfErr result (HandsPart (D.seen desk.old) (D.seen desk.new) lines.now answer.now) }
 {
     match keep(lines, desk) {
         Ok(()) => {}
@@ -31,8 +31,8 @@ pub fn hand_over<D: Desk>(lines: &[u8], answer: &[u8], desk: &mut D) -> Result<(
 /// Appends lines to the journal and makes them durable, where there are some.
 #[tactic(auto, using(crate::proofs::Noting::keepings))]
 fn keep<D: Desk>(lines: &[u8], desk: &mut D) -> Result<(), SessionFault>
-    ensures done { OnOk result (Notes (D.log desk.old) (D.log desk.new) (kept lines.now)) }
-    ensures partly { IfErr result (KeepsPart (D.log desk.old) (D.log desk.new) lines.now) }
+    ensures done { OnOk result (Notes (D.seen desk.old) (D.seen desk.new) (kept lines.now)) }
+    ensures partly { IfErr result (KeepsPart (D.seen desk.old) (D.seen desk.new) lines.now) }
 {
     if lines.is_empty() {
         return Ok(());
@@ -51,8 +51,8 @@ fn keep<D: Desk>(lines: &[u8], desk: &mut D) -> Result<(), SessionFault>
 
 /// Writes an answer, and has it passed on.
 fn say<D: Desk>(answer: &[u8], desk: &mut D) -> Result<(), SessionFault>
-    ensures done { OnOk result (Notes (D.log desk.old) (D.log desk.new) (said answer.now)) }
-    ensures partly { IfErr result (AnswersPart (D.log desk.old) (D.log desk.new) answer.now) }
+    ensures done { OnOk result (Notes (D.seen desk.old) (D.seen desk.new) (said answer.now)) }
+    ensures partly { IfErr result (AnswersPart (D.seen desk.old) (D.seen desk.new) answer.now) }
 {
     match desk.answer(answer) {
         Ok(()) => Ok(()),

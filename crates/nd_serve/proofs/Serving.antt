@@ -1,16 +1,17 @@
 -- What the turns of a session make together.
-use Rattle.std.proofs.Common.{◌≡◌, ◌∙◌, ℕ, ◌≤◌, List, [], ◌∷◌, ◌++◌, length, length-append, ◌+◌, Option, refl, sym, ap, subst, append-nil, inl, inr}
+use Rattle.std.proofs.Common.{◌≡◌, ◌∙◌, ℕ, ◌≤◌, List, [], ◌∷◌, ◌++◌, length, length-append, ◌+◌, refl, sym, ap, subst, append-nil, inl, inr}
 use Rattle.nd_desk.specs.declared.event.Event.{Event}
 use Rattle.nd_desk.specs.declared.event.Event.TheVariants.{Heard, Ended, Unheard}
 use Rattle.nd_desk.specs.declared.fault.SessionFault.{SessionFault}
 use Rattle.nd_desk.specs.declared.fault.SessionFault.TheVariants.{Read, Memory}
 use Rattle.nd_desk.specs.Handing.{handed, IsHandedPart, HandsPart}
-use Rattle.nd_desk.specs.Notes.{Notes}
+use Rattle.nd_desk.specs.Notes.{Seen, Notes}
 use Rattle.nd_desk.proofs.Noting.{notes_on, notes_nothing}
 use Rattle.nd_history.specs.declared.entry.Entry.{Entry}
 use Rattle.nd_history.specs.Premises.{Premises}
 use Rattle.nd_serve.specs.Turns.{Turn, IsTaken, kept_text, answer_text, ready_line}
-use Rattle.nd_serve.specs.Sessions.{Opening, IsSession, IsCut, Serves, ServesPart, first_text, turn_events, most_turns}
+use Rattle.nd_serve.specs.Sessions.{Opening, IsSession, IsCut, IsSessionPart, Serves, ServesPart, first_text, turn_events, most_turns}
+use Rattle.nd_serve.proofs.Told.{session_unrefused, told_whole, part_told}
 use Rattle.nd_serve.specs.Steps.{IsPrepared, IsOpeningPrepared, Opens, OpensPart, Takes, TakesPart, TakesTurn, Ends, CutsTurn}
 
 same_handed : (lines answer kept said : List ℕ) → kept ≡ lines → said ≡ answer → handed kept said ≡ handed lines answer
@@ -23,7 +24,7 @@ same_part lines answer kept said fault events one other part =
 
 -- ---- the opening
 
-pub opening_handed : (i : Premises) (old new : List Entry) (first answer lines kept said : List ℕ) (before after : Option (List Event)) → IsOpeningPrepared i old new first answer lines
+pub opening_handed : (i : Premises) (old new : List Entry) (first answer lines kept said : List ℕ) (before after : Seen) → IsOpeningPrepared i old new first answer lines
     → kept ≡ lines → said ≡ answer → Notes before after (handed kept said) → Opens i old new first before after
 opening_handed i old new first answer lines kept said before after h one other noted = record {
   opening = h.opening;
@@ -33,7 +34,7 @@ opening_handed i old new first answer lines kept said before after h one other n
       (same_handed (first_text first h.opening) (h.opening.text ++ ready_line) kept said (one ∙ h.keeps) (other ∙ h.says)) noted;
 }
 
-pub opening_handed_in_part : (i : Premises) (old new : List Entry) (first answer lines kept said : List ℕ) (before after : Option (List Event)) (fault : SessionFault)
+pub opening_handed_in_part : (i : Premises) (old new : List Entry) (first answer lines kept said : List ℕ) (before after : Seen) (fault : SessionFault)
     → IsOpeningPrepared i old new first answer lines → kept ≡ lines → said ≡ answer → HandsPart before after kept said fault → OpensPart i old first before after fault
 opening_handed_in_part i old new first answer lines kept said before after fault h one other hands = record {
   events = hands.events;
@@ -48,14 +49,14 @@ opening_handed_in_part i old new first answer lines kept said before after fault
   noted = hands.noted;
 }
 
-pub opening_wanting : (i : Premises) (old : List Entry) (first : List ℕ) (before : Option (List Event)) → OpensPart i old first before before Memory
+pub opening_wanting : (i : Premises) (old : List Entry) (first : List ℕ) (before : Seen) → OpensPart i old first before before Memory
 opening_wanting i old first before = record { events = []; part = inl (refl, refl); noted = notes_nothing before }
 
 pub ruleset openings = (opening_handed, opening_handed_in_part, opening_wanting)
 
 -- ---- a turn behind its line
 
-pub turn_handed : (i : Premises) (old new : List Entry) (line answer lines kept said : List ℕ) (before after : Option (List Event)) → IsPrepared i old new line answer lines
+pub turn_handed : (i : Premises) (old new : List Entry) (line answer lines kept said : List ℕ) (before after : Seen) → IsPrepared i old new line answer lines
     → kept ≡ lines → said ≡ answer → Notes before after (handed kept said) → Takes i old new line before after
 turn_handed i old new line answer lines kept said before after h one other noted = record {
   turn = h.turn;
@@ -64,7 +65,7 @@ turn_handed i old new line answer lines kept said before after h one other noted
   noted = subst (Notes before after) (same_handed (kept_text h.turn) (answer_text h.turn) kept said (one ∙ h.keeps) (other ∙ h.says)) noted;
 }
 
-pub turn_handed_in_part : (i : Premises) (old new : List Entry) (line answer lines kept said : List ℕ) (before after : Option (List Event)) (fault : SessionFault)
+pub turn_handed_in_part : (i : Premises) (old new : List Entry) (line answer lines kept said : List ℕ) (before after : Seen) (fault : SessionFault)
     → IsPrepared i old new line answer lines → kept ≡ lines → said ≡ answer → HandsPart before after kept said fault → TakesPart i old line before after fault
 turn_handed_in_part i old new line answer lines kept said before after fault h one other hands = record {
   events = hands.events;
@@ -78,14 +79,14 @@ turn_handed_in_part i old new line answer lines kept said before after fault h o
   noted = hands.noted;
 }
 
-pub turn_wanting : (i : Premises) (old : List Entry) (line : List ℕ) (before : Option (List Event)) → TakesPart i old line before before Memory
+pub turn_wanting : (i : Premises) (old : List Entry) (line : List ℕ) (before : Seen) → TakesPart i old line before before Memory
 turn_wanting i old line before = record { events = []; part = inl (refl, refl); noted = notes_nothing before }
 
 pub ruleset takings = (turn_handed, turn_handed_in_part, turn_wanting)
 
 -- ---- a turn
 
-pub turn_taken : (i : Premises) (old new : List Entry) (line heard : List ℕ) (before between after : Option (List Event)) → Notes before between (Heard heard ∷ []) → line ≡ heard
+pub turn_taken : (i : Premises) (old new : List Entry) (line heard : List ℕ) (before between after : Seen) → Notes before between (Heard heard ∷ []) → line ≡ heard
     → Takes i old new line between after → TakesTurn i old new before after
 turn_taken i old new line heard before between after noted same takes =
     let line_is : heard ≡ takes.turn.line = sym (takes.heard ∙ same) in
@@ -97,16 +98,16 @@ turn_taken i old new line heard before between after noted same takes =
           (notes_on before between after (Heard heard ∷ []) (handed (kept_text takes.turn) (answer_text takes.turn)) noted takes.noted);
     }
 
-pub input_ended : (history : List Entry) (before after : Option (List Event)) → Notes before after (Ended ∷ []) → Ends history history before after
+pub input_ended : (history : List Entry) (before after : Seen) → Notes before after (Ended ∷ []) → Ends history history before after
 input_ended history before after noted = record { kept = refl; noted = noted }
 
-pub read_refused : (i : Premises) (old : List Entry) (before after : Option (List Event)) → Notes before after (Unheard ∷ []) → CutsTurn i old before after Read
+pub read_refused : (i : Premises) (old : List Entry) (before after : Seen) → Notes before after (Unheard ∷ []) → CutsTurn i old before after Read
 read_refused i old before after noted = record { events = Unheard ∷ []; cut = IsCut.unread (refl, refl); noted = noted }
 
-pub read_wanting : (i : Premises) (old : List Entry) (before after : Option (List Event)) → Notes before after [] → CutsTurn i old before after Memory
+pub read_wanting : (i : Premises) (old : List Entry) (before after : Seen) → Notes before after [] → CutsTurn i old before after Memory
 read_wanting i old before after noted = record { events = []; cut = IsCut.unbegun (refl, refl); noted = noted }
 
-pub turn_cut : (i : Premises) (old : List Entry) (line heard : List ℕ) (before between after : Option (List Event)) (fault : SessionFault) → Notes before between (Heard heard ∷ [])
+pub turn_cut : (i : Premises) (old : List Entry) (line heard : List ℕ) (before between after : Seen) (fault : SessionFault) → Notes before between (Heard heard ∷ [])
     → line ≡ heard → TakesPart i old line between after fault → CutsTurn i old before after fault
 turn_cut i old line heard before between after fault noted same takes = record {
   events = Heard line ∷ takes.events;
@@ -121,7 +122,7 @@ pub ruleset hearings = (turn_taken, input_ended, read_refused, read_wanting, tur
 -- ---- a session
 
 -- what was done so far
-pub record HasServed (i : Premises) (start history : List Entry) (first : List ℕ) (old new : Option (List Event)) (n : ℕ) : Type 0 where
+pub record HasServed (i : Premises) (start history : List Entry) (first : List ℕ) (old new : Seen) (n : ℕ) : Type 0 where
   pub opening : Opening
   pub turns : List Turn
   pub events : List Event
@@ -129,7 +130,7 @@ pub record HasServed (i : Premises) (start history : List Entry) (first : List �
   pub noted : Notes old new events
   pub count : length turns ≡ n
 
-pub session_begun : (i : Premises) (start history : List Entry) (first : List ℕ) (old new : Option (List Event)) → Opens i start history first old new
+pub session_begun : (i : Premises) (start history : List Entry) (first : List ℕ) (old new : Seen) → Opens i start history first old new
     → HasServed i start history first old new 0
 session_begun i start history first old new h = record {
   opening = h.opening;
@@ -140,7 +141,7 @@ session_begun i start history first old new h = record {
   count = refl;
 }
 
-pub session_goes_on : (i later : Premises) (start history new : List Entry) (first : List ℕ) (old between after : Option (List Event)) (n : ℕ)
+pub session_goes_on : (i later : Premises) (start history new : List Entry) (first : List ℕ) (old between after : Seen) (n : ℕ)
     → HasServed i start history first old between n → later ≡ i → TakesTurn later history new between after → HasServed i start new first old after (n + 1)
 session_goes_on i later start history new first old between after n h same takes = record {
   opening = h.opening;
@@ -153,49 +154,65 @@ session_goes_on i later start history new first old between after n h same takes
   count = length-append h.turns (takes.turn ∷ []) ∙ ap (λ (k : ℕ). k + 1) h.count;
 }
 
-pub session_ends : (i : Premises) (start history new : List Entry) (first : List ℕ) (old between after : Option (List Event)) (n : ℕ) → HasServed i start history first old between n
+pub session_ends : (i : Premises) (start history new : List Entry) (first : List ℕ) (old between after : Seen) (n : ℕ) → HasServed i start history first old between n
     → Ends history new between after → Serves i start new first old after
-session_ends i start history new first old between after n h ends = record {
-  opening = h.opening;
-  turns = h.turns;
-  events = h.events;
-  session = subst (λ (l : List Entry). IsSession i start first h.opening h.turns l h.events) (sym ends.kept) h.session;
-  last = Ended ∷ [];
-  whole = record { end = inl refl };
-  noted = notes_on old between after h.events (Ended ∷ []) h.noted ends.noted;
-}
+session_ends i start history new first old between after n h ends =
+    let noted = notes_on old between after h.events (Ended ∷ []) h.noted ends.noted in
+    record {
+      opening = h.opening;
+      turns = h.turns;
+      events = h.events;
+      session = subst (λ (l : List Entry). IsSession i start first h.opening h.turns l h.events) (sym ends.kept) h.session;
+      last = Ended ∷ [];
+      whole = record { end = inl refl };
+      noted = noted;
+      told = told_whole old after h.events (Ended ∷ []) (session_unrefused i start first h.opening h.turns history h.events h.session) (tt, tt) refl noted;
+    }
 
-pub session_full : (i : Premises) (start history : List Entry) (first : List ℕ) (old new : Option (List Event)) (n : ℕ) → HasServed i start history first old new n → most_turns ≤ n
+pub session_full : (i : Premises) (start history : List Entry) (first : List ℕ) (old new : Seen) (n : ℕ) → HasServed i start history first old new n → most_turns ≤ n
     → Serves i start history first old new
-session_full i start history first old new n h many = record {
-  opening = h.opening;
-  turns = h.turns;
-  events = h.events;
-  session = h.session;
-  last = [];
-  whole = record { end = inr (refl, subst (λ (k : ℕ). most_turns ≤ k) (sym h.count) many) };
-  noted = subst (Notes old new) (sym (append-nil h.events)) h.noted;
-}
+session_full i start history first old new n h many =
+    let noted = subst (Notes old new) (sym (append-nil h.events)) h.noted in
+    record {
+      opening = h.opening;
+      turns = h.turns;
+      events = h.events;
+      session = h.session;
+      last = [];
+      whole = record { end = inr (refl, subst (λ (k : ℕ). most_turns ≤ k) (sym h.count) many) };
+      noted = noted;
+      told = told_whole old new h.events [] (session_unrefused i start first h.opening h.turns history h.events h.session) tt refl noted;
+    }
 
-pub session_unopened : (i : Premises) (start : List Entry) (first : List ℕ) (old new : Option (List Event)) (fault : SessionFault) → OpensPart i start first old new fault
+pub session_unopened : (i : Premises) (start : List Entry) (first : List ℕ) (old new : Seen) (fault : SessionFault) → OpensPart i start first old new fault
     → ServesPart i start first old new fault
-session_unopened i start first old new fault h = record { events = h.events; part = inl h.part; noted = h.noted }
-
-pub session_cut : (i later : Premises) (start history : List Entry) (first : List ℕ) (old between after : Option (List Event)) (n : ℕ) (fault : SessionFault)
-    → HasServed i start history first old between n → later ≡ i → CutsTurn later history between after fault → ServesPart i start first old after fault
-session_cut i later start history first old between after n fault h same cuts = record {
-  events = h.events ++ cuts.events;
-  part = inr (record {
-    opening = h.opening;
-    turns = h.turns;
-    history = history;
-    whole = h.events;
-    session = h.session;
-    last = cuts.events;
-    cut = subst (λ (j : Premises). IsCut j history fault cuts.events) same cuts.cut;
-    is = refl;
-  });
-  noted = notes_on old between after h.events cuts.events h.noted cuts.noted;
+session_unopened i start first old new fault h = record {
+  events = h.events;
+  part = inl h.part;
+  noted = h.noted;
+  told = part_told i start first old new fault h.events (inl h.part) h.noted;
 }
+
+pub session_cut : (i later : Premises) (start history : List Entry) (first : List ℕ) (old between after : Seen) (n : ℕ) (fault : SessionFault)
+    → HasServed i start history first old between n → later ≡ i → CutsTurn later history between after fault → ServesPart i start first old after fault
+session_cut i later start history first old between after n fault h same cuts =
+    let part : IsSessionPart i start first fault (h.events ++ cuts.events) =
+    inr (record {
+      opening = h.opening;
+      turns = h.turns;
+      history = history;
+      whole = h.events;
+      session = h.session;
+      last = cuts.events;
+      cut = subst (λ (j : Premises). IsCut j history fault cuts.events) same cuts.cut;
+      is = refl;
+    }) in
+    let noted = notes_on old between after h.events cuts.events h.noted cuts.noted in
+    record {
+      events = h.events ++ cuts.events;
+      part = part;
+      noted = noted;
+      told = part_told i start first old after fault (h.events ++ cuts.events) part noted;
+    }
 
 pub ruleset sessions = (session_begun, session_goes_on, session_ends, session_full, session_unopened, session_cut)

@@ -5,6 +5,7 @@ use Rattle.std.proofs.lemmas.Grind.{flat_map-append}
 use Rattle.nd_desk.specs.declared.event.Event.{Event}
 use Rattle.nd_desk.specs.declared.event.Event.TheVariants.{Answered}
 use Rattle.nd_desk.specs.Handing.{kept, handed}
+use Rattle.nd_desk.specs.Notes.{answered, answered_by}
 use Rattle.nd_history.specs.declared.entry.Entry.{Entry}
 use Rattle.nd_history.specs.Premises.{Premises}
 use Rattle.nd_history.specs.Legal.{IsLegal}
@@ -16,7 +17,7 @@ use Rattle.nd_serve.specs.declared.request.Request.{Request}
 use Rattle.nd_serve.specs.declared.request.Request.TheVariants.{Call, Job, Report, Unknown}
 use Rattle.nd_serve.specs.Turns.{Turn, IsTaken, IsReply, kept_text, answer_text, ready_line}
 use Rattle.nd_serve.specs.Sessions.{Opening, IsSession, first_text, turn_events}
-use Rattle.nd_serve.specs.SessionLaws.{command_of, commands_of, simulated_of, simulated_text, answered_by, answered, session_text, IsSimulated, SessionsAreRuns, SessionsAreLegal}
+use Rattle.nd_serve.specs.SessionLaws.{command_of, commands_of, simulated_of, simulated_text, session_text, IsSimulated, SessionsAreRuns, SessionsAreLegal}
 
 -- ---- what is answered
 

@@ -1,8 +1,8 @@
 -- What a session is: the simulation of its commands, with a line behind the text of each. Each law is the contract of a function of `laws`.
-use Rattle.std.specs.Prelude.{◌≡◌, ℕ, true, false, List, [], ◌∷◌, ◌++◌, reverse}
+use Rattle.std.specs.Prelude.{◌≡◌, ℕ, List, [], ◌∷◌, ◌++◌, reverse}
 use Rattle.std.specs.List.{flat_map}
 use Rattle.nd_desk.specs.declared.event.Event.{Event}
-use Rattle.nd_desk.specs.declared.event.Event.TheVariants.{Heard, Ended, Unheard, Appended, Synced, Answered}
+use Rattle.nd_desk.specs.Notes.{answered}
 use Rattle.nd_history.specs.declared.entry.Entry.{Entry}
 use Rattle.nd_history.specs.Premises.{Premises}
 use Rattle.nd_history.specs.Legal.{IsLegal}
@@ -32,19 +32,6 @@ simulated_of Unknown text = []
 
 abbrev pub simulated_text : Opening → List Turn → List ℕ
 simulated_text opening turns = opening.text ++ flat_map (λ turn. simulated_of turn.request turn.text) turns
-
--- what was answered, and what was appended to the journal
-abbrev pub answered_by : Event → List ℕ
-answered_by (Heard line) = []
-answered_by Ended = []
-answered_by Unheard = []
-answered_by (Appended bytes done) = []
-answered_by (Synced done) = []
-answered_by (Answered bytes true) = bytes
-answered_by (Answered bytes false) = []
-
-abbrev pub answered : List Event → List ℕ
-answered events = flat_map answered_by events
 
 -- what is answered of a session: behind the text of the opening, and behind that of each turn, the line that says so
 abbrev pub session_text : Opening → List Turn → List ℕ

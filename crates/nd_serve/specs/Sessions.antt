@@ -2,14 +2,15 @@
 -- are appended to the journal and made durable, and then it is answered; and only then is the next line heard. Histories stand oldest
 -- first.
 -- Public clauses cite this.
-use Rattle.std.specs.Prelude.{◌≡◌, ◌⊎◌, ℕ, ◌≤◌, Bool, true, false, List, [], ◌∷◌, ◌++◌, length, Option}
+use Rattle.std.specs.Prelude.{◌≡◌, ◌⊎◌, ℕ, ◌≤◌, Bool, true, false, List, [], ◌∷◌, ◌++◌, length}
 use Rattle.std.specs.List.{All, flat_map}
+use Rattle.std.specs.Io.KnownBytes.{Appends}
 use Rattle.nd_desk.specs.declared.event.Event.{Event}
 use Rattle.nd_desk.specs.declared.event.Event.TheVariants.{Heard, Ended, Unheard}
 use Rattle.nd_desk.specs.declared.fault.SessionFault.{SessionFault}
-use Rattle.nd_desk.specs.declared.fault.SessionFault.TheVariants.{Read, Memory}
+use Rattle.nd_desk.specs.declared.fault.SessionFault.TheVariants.{Read, Journal, Write, Memory}
 use Rattle.nd_desk.specs.Handing.{handed, IsHandedPart}
-use Rattle.nd_desk.specs.Notes.{Notes}
+use Rattle.nd_desk.specs.Notes.{Seen, Notes, answered}
 use Rattle.nd_history.specs.declared.entry.Entry.{Entry}
 use Rattle.nd_history.specs.Premises.{Premises}
 use Rattle.nd_history_text.specs.HistoryTexts.{line_of, first_line}
@@ -122,7 +123,8 @@ IsSessionPart i start first fault events = IsOpeningPart i start first fault eve
 pub record IsWhole (turns : List Turn) (last : List Event) : Type 0 where
   pub end : (last ≡ Ended ∷ []) ⊎ ((last ≡ []) × (most_turns ≤ length turns))
 
-pub record Serves (i : Premises) (start history : List Entry) (first : List ℕ) (old new : Option (List Event)) : Type 0 where
+-- .. and the output has all that was answered behind what it held
+pub record Serves (i : Premises) (start history : List Entry) (first : List ℕ) (old new : Seen) : Type 0 where
   pub opening : Opening
   pub turns : List Turn
   pub events : List Event
@@ -130,8 +132,17 @@ pub record Serves (i : Premises) (start history : List Entry) (first : List ℕ)
   pub last : List Event
   pub whole : IsWhole turns last
   pub noted : Notes old new (events ++ last)
+  pub told : Appends old.told new.told (answered events)
 
-pub record ServesPart (i : Premises) (start : List Entry) (first : List ℕ) (old new : Option (List Event)) (fault : SessionFault) : Type 0 where
+-- what the output has of a session that ends early: all that was answered, unless it refused an answer, of which it may have a part
+abbrev pub TellsPart : SessionFault → Seen → Seen → List Event → Type 0
+TellsPart Read old new events = Appends old.told new.told (answered events)
+TellsPart Journal old new events = Appends old.told new.told (answered events)
+TellsPart Write old new events = Unit {0}
+TellsPart Memory old new events = Appends old.told new.told (answered events)
+
+pub record ServesPart (i : Premises) (start : List Entry) (first : List ℕ) (old new : Seen) (fault : SessionFault) : Type 0 where
   pub events : List Event
   pub part : IsSessionPart i start first fault events
   pub noted : Notes old new events
+  pub told : TellsPart fault old new events

@@ -6,7 +6,7 @@ use Rattle.nd_desk.specs.declared.event.Event.{Event}
 use Rattle.nd_desk.specs.declared.event.Event.TheVariants.{Ended}
 use Rattle.nd_desk.specs.declared.fault.SessionFault.{SessionFault}
 use Rattle.nd_desk.specs.Handing.{handed}
-use Rattle.nd_desk.specs.Notes.{Notes}
+use Rattle.nd_desk.specs.Notes.{Seen, Notes}
 use Rattle.nd_history.specs.declared.entry.Entry.{Entry}
 use Rattle.nd_history.specs.Premises.{Premises}
 use Rattle.nd_history_text.specs.HistoryTexts.{line_of}
@@ -87,45 +87,45 @@ abbrev pub PreparesOpening : World → World → List ℕ → List ℕ → List 
 PreparesOpening old new first answer lines = IsOpeningPrepared old.inputs old.history new.history first answer lines
 
 -- what a desk has of the opening
-pub record Opens (i : Premises) (old new : List Entry) (first : List ℕ) (before after : Option (List Event)) : Type 0 where
+pub record Opens (i : Premises) (old new : List Entry) (first : List ℕ) (before after : Seen) : Type 0 where
   pub opening : Opening
   pub opens : IsOpening i old new opening
   pub noted : Notes before after (opening_events first opening)
 
-pub record OpensPart (i : Premises) (old : List Entry) (first : List ℕ) (before after : Option (List Event)) (fault : SessionFault) : Type 0 where
+pub record OpensPart (i : Premises) (old : List Entry) (first : List ℕ) (before after : Seen) (fault : SessionFault) : Type 0 where
   pub events : List Event
   pub part : IsOpeningPart i old first fault events
   pub noted : Notes before after events
 
 -- .. of a turn, behind its line
-pub record Takes (i : Premises) (old new : List Entry) (line : List ℕ) (before after : Option (List Event)) : Type 0 where
+pub record Takes (i : Premises) (old new : List Entry) (line : List ℕ) (before after : Seen) : Type 0 where
   pub turn : Turn
   pub taken : IsTaken i old new turn
   pub heard : turn.line ≡ line
   pub noted : Notes before after (handed (kept_text turn) (answer_text turn))
 
-pub record TakesPart (i : Premises) (old : List Entry) (line : List ℕ) (before after : Option (List Event)) (fault : SessionFault) : Type 0 where
+pub record TakesPart (i : Premises) (old : List Entry) (line : List ℕ) (before after : Seen) (fault : SessionFault) : Type 0 where
   pub events : List Event
   pub part : IsTurnPart i old line fault events
   pub noted : Notes before after events
 
 -- .. with its line
-pub record TakesTurn (i : Premises) (old new : List Entry) (before after : Option (List Event)) : Type 0 where
+pub record TakesTurn (i : Premises) (old new : List Entry) (before after : Seen) : Type 0 where
   pub turn : Turn
   pub taken : IsTaken i old new turn
   pub noted : Notes before after (turn_events turn)
 
 -- the input ended
-pub record Ends (old new : List Entry) (before after : Option (List Event)) : Type 0 where
+pub record Ends (old new : List Entry) (before after : Seen) : Type 0 where
   pub kept : new ≡ old
   pub noted : Notes before after (Ended ∷ [])
 
 -- whether there was a line, and its turn
-abbrev pub GoesOn : Premises → List Entry → List Entry → Option (List Event) → Option (List Event) → Bool → Type 0
+abbrev pub GoesOn : Premises → List Entry → List Entry → Seen → Seen → Bool → Type 0
 GoesOn i old new before after true = TakesTurn i old new before after
 GoesOn i old new before after false = Ends old new before after
 
-pub record CutsTurn (i : Premises) (old : List Entry) (before after : Option (List Event)) (fault : SessionFault) : Type 0 where
+pub record CutsTurn (i : Premises) (old : List Entry) (before after : Seen) (fault : SessionFault) : Type 0 where
   pub events : List Event
   pub cut : IsCut i old fault events
   pub noted : Notes before after events

@@ -2,8 +2,9 @@
 
 ghost use Rattle.nd_serve.specs.SessionLaws.{SessionsAreRuns, SessionsAreLegal};
 
-/// The commands of a session are a run of the simulation, and what was answered is its text, with a line
-/// `ready` behind each turn's and with the answers to questions.
+/// The commands of a session that began with the empty history are a run of the simulation, and what was
+/// answered is its text, with a line `ready` behind that of the opening and of each turn, and with the
+/// answers to questions.
 pub fn sessions_are_runs()
     ensures { SessionsAreRuns }
 {}

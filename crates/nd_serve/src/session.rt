@@ -24,6 +24,9 @@ use std::alloc::{AllocError, Global};
 /// Refuses with `Read` (1), `Journal` (2), `Write` (3) and `Memory` (4), as [`SessionFault`] says. Of the
 /// turn that it ends in nothing is answered, but for a part of the answer at `Write`; its entries may stand
 /// in the journal.
+///
+/// Where it is known what the output holds, it holds at the end what it held before and all that was
+/// answered, but for an end by `Write`.
 #[tactic(auto, using(crate::proofs::Serving::sessions))]
 pub fn serve<D: Desk>(
     alloc: Global,
@@ -32,8 +35,8 @@ pub fn serve<D: Desk>(
     desk: &mut D,
 ) -> Result<(), SessionFault>
     ensures inputs { dispatch.new.inputs ≡ dispatch.old.inputs }
-    ensures served { OnOk result (Serves dispatch.old.inputs dispatch.old.history dispatch.new.history (first_of fresh) (D.log desk.old) (D.log desk.new)) }
-    ensures partly { IfErr result (ServesPart dispatch.old.inputs dispatch.old.history (first_of fresh) (D.log desk.old) (D.log desk.new)) }
+    ensures served { OnOk result (Serves dispatch.old.inputs dispatch.old.history dispatch.new.history (first_of fresh) (D.seen desk.old) (D.seen desk.new)) }
+    ensures partly { IfErr result (ServesPart dispatch.old.inputs dispatch.old.history (first_of fresh) (D.seen desk.old) (D.seen desk.new)) }
 {
     match open(alloc, dispatch, fresh, desk) {
         Ok(()) => {}
@@ -58,8 +61,8 @@ fn open<D: Desk>(
     desk: &mut D,
 ) -> Result<(), SessionFault>
     ensures inputs { dispatch.new.inputs ≡ dispatch.old.inputs }
-    ensures opened { OnOk result (Opens dispatch.old.inputs dispatch.old.history dispatch.new.history (first_of fresh) (D.log desk.old) (D.log desk.new)) }
-    ensures partly { IfErr result (OpensPart dispatch.old.inputs dispatch.old.history (first_of fresh) (D.log desk.old) (D.log desk.new)) }
+    ensures opened { OnOk result (Opens dispatch.old.inputs dispatch.old.history dispatch.new.history (first_of fresh) (D.seen desk.old) (D.seen desk.new)) }
+    ensures partly { IfErr result (OpensPart dispatch.old.inputs dispatch.old.history (first_of fresh) (D.seen desk.old) (D.seen desk.new)) }
 {
     let prepared = match prepare_opening(alloc, dispatch, fresh) {
         Ok(prepared) => prepared,
@@ -79,8 +82,8 @@ fn take_turn<D: Desk>(
     desk: &mut D,
 ) -> Result<bool, SessionFault>
     ensures inputs { dispatch.new.inputs ≡ dispatch.old.inputs }
-    ensures goes_on { IfOk result (GoesOn dispatch.old.inputs dispatch.old.history dispatch.new.history (D.log desk.old) (D.log desk.new)) }
-    ensures cut { IfErr result (CutsTurn dispatch.old.inputs dispatch.old.history (D.log desk.old) (D.log desk.new)) }
+    ensures goes_on { IfOk result (GoesOn dispatch.old.inputs dispatch.old.history dispatch.new.history (D.seen desk.old) (D.seen desk.new)) }
+    ensures cut { IfErr result (CutsTurn dispatch.old.inputs dispatch.old.history (D.seen desk.old) (D.seen desk.new)) }
 {
     let line = match desk.hear(alloc) {
         Ok(Some(line)) => line,
@@ -103,8 +106,8 @@ fn take_line<D: Desk>(
     desk: &mut D,
 ) -> Result<(), SessionFault>
     ensures inputs { dispatch.new.inputs ≡ dispatch.old.inputs }
-    ensures taken { OnOk result (Takes dispatch.old.inputs dispatch.old.history dispatch.new.history line.now (D.log desk.old) (D.log desk.new)) }
-    ensures partly { IfErr result (TakesPart dispatch.old.inputs dispatch.old.history line.now (D.log desk.old) (D.log desk.new)) }
+    ensures taken { OnOk result (Takes dispatch.old.inputs dispatch.old.history dispatch.new.history line.now (D.seen desk.old) (D.seen desk.new)) }
+    ensures partly { IfErr result (TakesPart dispatch.old.inputs dispatch.old.history line.now (D.seen desk.old) (D.seen desk.new)) }
 {
     let prepared = match prepare(alloc, dispatch, line) {
         Ok(prepared) => prepared,

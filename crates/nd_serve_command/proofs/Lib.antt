@@ -1,3 +1,4 @@
 pub mod LineReading
 pub mod Ended
 pub mod Begun
+pub mod Passed

@@ -29,7 +29,7 @@ advice_words NotEmpty = (
   codes "give --resume to go on from it, or name another file",
 )
 advice_words InUse = (
-  codes "another session has the journal open",
+  codes "another program has a lock on the journal, or has made it meanwhile",
   codes "wait until that session has ended, or name another file",
 )
 advice_words (Journal refusal) = advice_words_of_journal refusal

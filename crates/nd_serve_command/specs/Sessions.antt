@@ -3,6 +3,7 @@
 use Rattle.std.specs.Prelude.{◌≡◌, ◌≢◌, ℕ, ◌<◌, Bool, true, false, List, [], ◌++◌, length, reverse, Option, Some, Result, Ok, Err, MatchResult}
 use Rattle.nd_desk.specs.declared.event.Event.{Event}
 use Rattle.nd_desk.specs.declared.fault.SessionFault.{SessionFault}
+use Rattle.nd_desk.specs.Notes.{Seen}
 use Rattle.nd_devices.specs.Watched.{Watched}
 use Rattle.nd_history.specs.declared.entry.Entry.{Entry}
 use Rattle.nd_history.specs.Premises.{Premises}
@@ -11,7 +12,7 @@ use Rattle.nd_history.specs.Statuses.{IsExitStatus}
 use Rattle.nd_ledger.specs.Worlds.{World}
 use Rattle.nd_resume.specs.Resumes.{IsResumable, IsResumeRefused}
 use Rattle.nd_resume.specs.declared.resume_error.ResumeError.TheVariants.{Memory as NoRoom}
-use Rattle.nd_serve.specs.Sessions.{Serves, ServesPart, first_of}
+use Rattle.nd_serve.specs.Sessions.{IsSessionCut, Serves, ServesPart, first_of}
 use Rattle.nd_serve.specs.SessionLaws.{IsSimulated}
 use Rattle.nd_crashes.specs.Crashes.{IsBegunWith, SurvivesCrashes}
 use Rattle.nd_cli.specs.Asked.{IsAskFault}
@@ -126,9 +127,10 @@ Survives start fresh events =
     (base : List ℕ) → IsBegunWith start.inputs fresh base start.history → SurvivesCrashes start.inputs start.history fresh base events
 
 -- A session from this dispatch on, with a journal that is begun or not, up to the end of the input. One that began with the empty history is
--- the simulation of its commands, with a line `ready` behind the text of the opening and of each of them; the history stays legal; and
--- whenever a crash comes, the journal is gone on from with a legal history that begins with every entry that was answered.
-pub record EndsSession (start : World) (fresh : Bool) (status : ℕ) (old new : Option (List Event)) : Type 0 where
+-- the simulation of its commands, with a line `ready` behind the text of the opening and of each of them; what the output is known to hold has
+-- grown by all that was answered (`told` of `Serves`); the history stays legal; and whenever a crash comes, the journal is gone on from with a
+-- legal history that begins with every entry that was answered.
+pub record EndsSession (start : World) (fresh : Bool) (status : ℕ) (old new : Seen) : Type 0 where
   pub history : List Entry
   pub serves : Serves start.inputs start.history history (first_of fresh) old new
   pub simulated : start.history ≡ [] → IsSimulated start.inputs serves.opening serves.turns history serves.events
@@ -136,9 +138,15 @@ pub record EndsSession (start : World) (fresh : Bool) (status : ℕ) (old new : 
   pub exit : IsExitStatus start.inputs (reverse history) status
   pub survives : Survives start fresh (serves.events ++ serves.last)
 
--- .. up to a turn that ends early: nothing of that is answered, but for a part of the answer where the output refused it
-pub record CutsSession (start : World) (fresh : Bool) (fault : ServeFault) (old new : Option (List Event)) : Type 0 where
+-- what was done, taken as a session and a turn that ends early: that session is the simulation of its commands
+abbrev pub IsPartSimulated : Premises → List Entry → List ℕ → SessionFault → List Event → Type 0
+IsPartSimulated i start first fault events = (c : IsSessionCut i start first fault events) → IsSimulated i c.opening c.turns c.history c.whole
+
+-- .. up to a turn that ends early: nothing of that is answered, but for a part of the answer where the output refused it. What came before it,
+-- if the session began with the empty history, is the simulation of its commands.
+pub record CutsSession (start : World) (fresh : Bool) (fault : ServeFault) (old new : Seen) : Type 0 where
   pub cause : SessionFault
   pub is : fault ≡ fault_of cause
   pub part : ServesPart start.inputs start.history (first_of fresh) old new cause
+  pub simulated : start.history ≡ [] → IsPartSimulated start.inputs start.history (first_of fresh) cause part.events
   pub survives : Survives start fresh part.events

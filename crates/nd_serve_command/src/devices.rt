@@ -10,9 +10,10 @@ use nd_desk::{Desk, DeskFault};
 use std::alloc::Global;
 use std::io::{self, BufRead, Write};
 
-/// A reader of lines, a writer and a journal. What is done to them isn't known to contracts. Whatever the
-/// journal or the writer is refused for, the system's want of memory too, is their own refusal: a part of
-/// the bytes may be there.
+/// A reader of lines, a writer and a journal. What is done to them isn't known to contracts, but for what
+/// the writer holds, where it says that, as one in memory does: an answer adds its bytes to it, and no other
+/// call adds any. Whatever the journal or the writer is refused for, the system's want of memory too, is
+/// their own refusal: a part of the bytes may be there.
 #[derive(Drop)]
 pub struct Devices<R, W, J> {
     /// Where lines come from.
@@ -24,22 +25,26 @@ pub struct Devices<R, W, J> {
 }
 
 impl<R: BufRead, W: Write, J: Journal> Desk for Devices<R, W, J> {
-    ghost use Rattle.std.specs.Prelude.{None};
+    ghost use Rattle.nd_desk.specs.Notes.{told_alone};
 
-    ghost log = { λ _. None };
+    ghost seen = { λ d. told_alone (W.contents d.output) };
 
+    #[tactic(auto, using(crate::proofs::Passed::reads))]
     fn hear(&mut self, alloc: Global) -> Result<Option<ByteString>, DeskFault> {
         next_line(alloc, &mut self.input)
     }
 
+    #[tactic(auto, using(crate::proofs::Passed::appends))]
     fn append(&mut self, bytes: &[u8]) -> Result<(), DeskFault> {
         done(self.journal.append(bytes))
     }
 
+    #[tactic(auto, using(crate::proofs::Passed::syncs))]
     fn sync(&mut self) -> Result<(), DeskFault> {
         done(self.journal.sync())
     }
 
+    #[tactic(auto, using(crate::proofs::Passed::answers))]
     fn answer(&mut self, bytes: &[u8]) -> Result<(), DeskFault> {
         pass_on(bytes, &mut self.output)
     }

@@ -95,7 +95,7 @@ pub fn journal_advice(fault: &ServeFault) -> Advice
             cure: "give --resume to go on from it, or name another file",
         },
         ServeFault::InUse => Advice {
-            cause: "another session has the journal open",
+            cause: "another program has a lock on the journal, or has made it meanwhile",
             cure: "wait until that session has ended, or name another file",
         },
         ServeFault::Journal(refusal) => of_journal(refusal),

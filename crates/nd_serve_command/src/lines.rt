@@ -12,7 +12,7 @@ use std::io::{BufRead, Error, ErrorKind};
 /// newline.
 ///
 /// Refuses with `Refused` (1) where the reader refused a read, and with `Memory` (2) where an allocation
-/// was refused.
+/// was refused, or a read for want of memory. A part of the line may have been read then.
 #[tactic(auto, using(crate::proofs::LineReading::readings))]
 pub(crate) fn next_line<R: BufRead>(
     alloc: Global,

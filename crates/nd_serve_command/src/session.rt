@@ -19,11 +19,16 @@ use std::alloc::Global;
 ///
 /// Of a desk that notes what is done to it: at whatever moment the session stops, and wherever what wasn't
 /// durable is cut off, the journal is gone on from with a legal history, which begins with every entry that
-/// was answered. That [`Devices`](crate::Devices) pass on just what is noted is only tested.
+/// was answered by a whole answer. Of a desk whose output is known: it gets all that was answered, and
+/// nothing else, unless it refuses an answer.
+///
+/// What is noted of [`Devices`](crate::Devices) isn't known, and of what they do only that is proved which
+/// speaks of the output. That they hear the lines of their reader, and that their journal gets what is noted
+/// and makes it durable, is only tested.
 #[tactic(auto, using(crate::proofs::Ended::sessions))]
 pub fn serve_engine<D: Desk>(alloc: Global, opened: Opened, desk: &mut D) -> Result<u8, ServeFault>
-    ensures ended { IfOk result (λ status. EndsSession opened.dispatch (opened.kept == 0) status (D.log desk.old) (D.log desk.new)) }
-    ensures cut { IfErr result (λ e. CutsSession opened.dispatch (opened.kept == 0) e (D.log desk.old) (D.log desk.new)) }
+    ensures ended { IfOk result (λ status. EndsSession opened.dispatch (opened.kept == 0) status (D.seen desk.old) (D.seen desk.new)) }
+    ensures cut { IfErr result (λ e. CutsSession opened.dispatch (opened.kept == 0) e (D.seen desk.old) (D.seen desk.new)) }
 {
     let Opened { mut dispatch, kept } = opened;
     match serve(alloc, &mut dispatch, kept == 0, desk) {

@@ -1,10 +1,13 @@
 //! Conversations of the worked examples.
 
-use crate::holding::{End, Place, hold, simulated};
+use crate::holding::{End, Place, hold, park, simulate};
 use crate::journals::Grants;
-use crate::texts::{newline_count, ready_count, without_ready};
+use crate::texts::{
+    before_report, first_answers, first_lines, newline_count, ready_count, without_ready,
+};
 use nd_test_fixtures::bundles::{
-    CHAIN, DIAMOND, FLIGHT, PLAIN_1, PLAIN_2, PLAIN_3, PREFER_2, SHARED, STRUCTURED,
+    CHAIN, DIAMOND, FLIGHT, LATER, PLAIN_1, PLAIN_2, PLAIN_3, PREFER_2, SHARED, SOURCE_1,
+    STRUCTURED,
 };
 use std::alloc::Global;
 use std::thread::Threads;
@@ -28,11 +31,7 @@ fn answers<R: Threads + Sync>(
 /// and so do lines that ask for nothing.
 #[test]
 fn diamond(rt: HostRuntime) {
-    let place = Place {
-        bundle: DIAMOND,
-        builders: "m - - 2",
-        jobs: 0,
-    };
+    let place = park(DIAMOND, "m - - 2", 0);
     assert!(rt;
         answers(
             &rt,
@@ -86,11 +85,7 @@ fn diamond(rt: HostRuntime) {
 /// What is missing on the machine is told with the job of a lease.
 #[test]
 fn jobs_of_leases(rt: HostRuntime) {
-    let place = Place {
-        bundle: FLIGHT,
-        builders: "m - - 2",
-        jobs: 0,
-    };
+    let place = park(FLIGHT, "m - - 2", 0);
     assert!(rt;
         answers(
             &rt,
@@ -108,13 +103,13 @@ fn jobs_of_leases(rt: HostRuntime) {
     );
 }
 
-/// Whether a session with these lines, and with one more that asks for the report, answers what `sim` writes,
-/// with as many lines `ready` as it had lines and one more.
+/// Whether a session with these lines, and with one more that asks for the report, answers what `sim` writes and
+/// ends with its status.
 fn simulates<R: Threads + Sync>(rt: &R, alloc: Global, place: Place<'_>, script: &str) -> bool {
     let Ok(lines) = format!(in alloc; "{script}report\n") else {
         return false;
     };
-    let Some(wanted) = simulated(rt, alloc, place, script.as_bytes()) else {
+    let Some(simulated) = simulate(rt, alloc, place, script.as_bytes()) else {
         return false;
     };
     let Some(held) = hold(rt, alloc, place, b"", Grants::ALL, lines.as_bytes()) else {
@@ -123,51 +118,159 @@ fn simulates<R: Threads + Sync>(rt: &R, alloc: Global, place: Place<'_>, script:
     let Ok(rest) = without_ready(alloc, held.text.as_slice()) else {
         return false;
     };
-    let commands = newline_count(lines.as_bytes()).saturating_add(1);
-    rest.as_slice() == wanted.as_slice() && ready_count(held.text.as_slice()) == commands
+    rest.as_slice() == simulated.text.as_slice()
+        && held.end == End::Status(simulated.status)
+        && are_ready(rt, alloc, place, lines.as_bytes(), held.text.as_slice())
 }
 
-/// The scripts of the worked examples.
+/// Whether of these answers to these lines, the last of which asks for the report, each ends with its line
+/// `ready`, and there is no other one.
+fn are_ready<R: Threads + Sync>(
+    rt: &R,
+    alloc: Global,
+    place: Place<'_>,
+    lines: &[u8],
+    text: &[u8],
+) -> bool {
+    let commands = newline_count(lines);
+    for count in 0..commands {
+        let answers = first_answers(text, count.saturating_add(1));
+        if !is_answer_to(rt, alloc, place, first_lines(lines, count), answers) {
+            return false;
+        }
+    }
+    text.ends_with(b"\nready\n") && ready_count(text) == commands.saturating_add(1)
+}
+
+/// Whether these answers end with a line `ready`, and are, without such lines, what `sim` writes of this script
+/// before its report.
+fn is_answer_to<R: Threads + Sync>(
+    rt: &R,
+    alloc: Global,
+    place: Place<'_>,
+    script: &[u8],
+    answers: &[u8],
+) -> bool {
+    let Some(simulated) = simulate(rt, alloc, place, script) else {
+        return false;
+    };
+    match without_ready(alloc, answers) {
+        Ok(rest) => {
+            answers.ends_with(b"ready\n")
+                && rest.as_slice() == before_report(simulated.text.as_slice())
+        }
+        Err(_) => false,
+    }
+}
+
+/// The worked examples of choices, down machines and drains.
 #[test]
-fn worked_examples(rt: HostRuntime) {
+fn examples_of_choices(rt: HostRuntime) {
     let examples = [
-        (PLAIN_2, "m", 0, "ask 1\n"),
-        (PREFER_2, "m", 1, "ask 1\n"),
+        (park(PLAIN_2, "m", 0), "ask 1\n"),
+        (park(PLAIN_2, "m", 2), "ask 1\n"),
+        (park(PREFER_2, "m", 1), "ask 1\n"),
+        (park(PLAIN_2, "m aarch64-linux", 0), ""),
+        (park(PLAIN_1, "m;n", 0), "down 0\ndown 0\n"),
+        (park(PLAIN_1, "m;n", 0), "down 0\nstop\ndown 0\nstop\n"),
         (
-            DIAMOND,
-            "m - - 2",
-            0,
-            "start 0\nbuilt 0\nstart 1\nstart 2\nfail 1 1\nbuilt 2\nstart 4\n",
-        ),
-        (PLAIN_2, "m aarch64-linux", 0, ""),
-        (PLAIN_1, "m;n", 0, "down 0\ndown 0\n"),
-        (PLAIN_1, "m;n", 0, "down 0\nstop\ndown 0\nstop\n"),
-        (
-            PLAIN_3,
-            "m;n",
-            0,
+            park(PLAIN_3, "m;n", 0),
             "drain 1\nstart 0\nbuilt 0\nenable 1\ndown 2\nenable 1\nstart 2\nbuilt 2\n",
         ),
+        (park(PLAIN_2, "", 1), "drain 0\n"),
+        (park("", "m", 0), ""),
+        (park(LATER, "m", 0), ""),
         (
-            SHARED,
-            "m - - 3",
-            0,
-            "start 0\nstart 1\nbuilt 0\nbuilt 1\nstart 2\n",
+            Place {
+                features: "kvm",
+                ..park(STRUCTURED, "m - - 1 1 kvm", 1)
+            },
+            "",
+        ),
+        (park(STRUCTURED, "m", 1), "ask 0\nfail 0 3\n"),
+    ];
+    for (place, script) in examples {
+        assert!(rt; simulates(&rt, rt.alloc(), place, script));
+    }
+}
+
+/// The worked examples of graphs: what comes too early or twice, and what a failure leaves.
+#[test]
+fn examples_of_graphs(rt: HostRuntime) {
+    let failing = "start 0\nbuilt 0\nstart 1\nstart 2\nfail 1 1\nbuilt 2\nstart 4\nbuilt 4\n";
+    let diamond = park(DIAMOND, "m - - 2", 0);
+    let examples = [
+        (
+            diamond,
+            "\
+            built 0\n\
+            start 3\n\
+            start 0\n\
+            start 0\n\
+            built 0\n\
+            start 1\n\
+            start 2\n\
+            built 1\n\
+            built 2\n\
+            start 3\n\
+            built 3\n\
+            start 4\n\
+            built 4\n",
         ),
         (
-            CHAIN,
-            "m",
-            1,
+            Place {
+                keep_going: true,
+                ..diamond
+            },
+            failing,
+        ),
+        (diamond, failing),
+        (
+            park(CHAIN, "m", 1),
             "start 0\nbuilt 0\nstart 1\nbuilt 1\nstart 2\nbuilt 2\n",
         ),
-        (STRUCTURED, "m", 1, "ask 0\nfail 0 3\n"),
     ];
-    for (bundle, builders, jobs, script) in examples {
-        let place = Place {
-            bundle,
-            builders,
-            jobs,
-        };
+    for (place, script) in examples {
+        assert!(rt; simulates(&rt, rt.alloc(), place, script));
+    }
+}
+
+/// The worked examples of copies and references. `startwith` is a command of a session too.
+#[test]
+fn examples_of_copies(rt: HostRuntime) {
+    let examples = [
+        (
+            park(FLIGHT, "m - - 2", 0),
+            "\
+            startwith 1 /nix/store/rrrrrrrrrrrrrrrrrrrrrrrrrrrrrrrr-s3\n\
+            startwith 0 /nix/store/pppppppppppppppppppppppppppppppp-s1 /nix/store/qqqqqqqqqqqqqqqqqqqqqqqqqqqqqqqq-s2\n\
+            startwith 1 /nix/store/pppppppppppppppppppppppppppppppp-s1 /nix/store/qqqqqqqqqqqqqqqqqqqqqqqqqqqqqqqq-s2 /nix/store/rrrrrrrrrrrrrrrrrrrrrrrrrrrrrrrr-s3\n\
+            startwith 1 /nix/store/pppppppppppppppppppppppppppppppp-s1 /nix/store/rrrrrrrrrrrrrrrrrrrrrrrrrrrrrrrr-s3\n\
+            start 1\n\
+            built 0 o /nix/store/rrrrrrrrrrrrrrrrrrrrrrrrrrrrrrrr-s3\n\
+            down 0\n\
+            fail 0 3\n\
+            fail 0 3\n",
+        ),
+        (
+            park(SHARED, "m - - 3", 0),
+            "\
+            start 0\n\
+            start 1\n\
+            built 0 o /nix/store/pppppppppppppppppppppppppppppppp-s1\n\
+            built 1 o /nix/store/qqqqqqqqqqqqqqqqqqqqqqqqqqqqqqqq-s2\n\
+            startwith 2 /nix/store/qqqqqqqqqqqqqqqqqqqqqqqqqqqqqqqq-s2\n\
+            start 2\n",
+        ),
+        (
+            Place {
+                info: "/nix/store/pppppppppppppppppppppppppppppppp-s1 /nix/store/qqqqqqqqqqqqqqqqqqqqqqqqqqqqqqqq-s2",
+                ..park(SOURCE_1, "m", 0)
+            },
+            "built 0\nstart 0\n",
+        ),
+    ];
+    for (place, script) in examples {
         assert!(rt; simulates(&rt, rt.alloc(), place, script));
     }
 }

@@ -1,36 +1,46 @@
 //! Crashes of a session, and sessions that go on from what they left.
 
-use crate::holding::{End, Held, Place, hold, opening};
+use crate::holding::{End, Held, Place, hold, opening, park};
 use crate::journals::Grants;
-use crate::texts::{later_lines, plain_bundle, ready_count, starts_and_ends};
+use crate::texts::{first_answers, later_lines, plain_bundle, ready_count, starts_and_ends};
 use nd_history::Rule;
 use nd_resume::ResumeError;
 use nd_test_fixtures::bundles::PLAIN_2;
 use std::alloc::Global;
 use std::thread::Threads;
 
-/// Whether a session over devices that grant so much ends so, and what its journal holds then, with so many
-/// quarters of what wasn't synced, is gone on from to the same journal as one that isn't stopped. What was
-/// answered of it is the beginning of the whole one's answers.
+/// How a session is stopped.
+#[derive(Clone, Copy)]
+struct Stop<'a> {
+    /// What its devices grant.
+    grants: Grants,
+    /// How it ends then.
+    end: End,
+    /// What is out of its answers then.
+    out: &'a [u8],
+    /// How many quarters of what wasn't synced its journal keeps.
+    quarters: usize,
+}
+
+/// Whether a session is stopped so, and what its journal keeps is gone on from to the same journal as one that
+/// isn't stopped.
 fn goes_on<R: Threads + Sync>(
     rt: &R,
     alloc: Global,
     place: Place<'_>,
     lines: &[u8],
     whole: &Held,
-    grants: Grants,
-    end: End,
-    quarters: usize,
+    stop: Stop<'_>,
 ) -> bool {
-    let Some(stopped) = hold(rt, alloc, place, b"", grants, lines) else {
+    let Some(stopped) = hold(rt, alloc, place, b"", stop.grants, lines) else {
         return false;
     };
-    if stopped.end != end || !whole.text.starts_with(stopped.text.as_slice()) {
+    if stopped.end != stop.end || stopped.text.as_slice() != stop.out {
         return false;
     }
     // The turn that it ended in is asked for once more: what is recorded of it already is refused.
     let answered = ready_count(stopped.text.as_slice()).saturating_sub(1);
-    let left = stopped.journal.left(quarters);
+    let left = stopped.journal.left(stop.quarters);
     let later = later_lines(lines, answered);
     match hold(rt, alloc, place, left, Grants::ALL, later) {
         Some(resumed) => {
@@ -42,11 +52,7 @@ fn goes_on<R: Threads + Sync>(
 
 /// Derivations without inputs, on four slots.
 fn plain_place(bundle: &str) -> Place<'_> {
-    Place {
-        bundle,
-        builders: "m - - 2;n - - 1",
-        jobs: 1,
-    }
+    park(bundle, "m - - 2;n - - 1", 1)
 }
 
 /// A crash at each append and each sync of a session of forty commands, which leaves nothing, a part or all of
@@ -65,30 +71,25 @@ fn crash_at_each_call(rt: HostRuntime) {
         return;
     };
     assert!(rt; whole.end == End::Status(0));
-    // The opening and each command are an append and a sync.
+    assert!(rt; ready_count(whole.text.as_slice()) == 41);
+    // The opening and each command are an append and a sync, and then an answer.
     for calls in 0..82 {
-        let grants = Grants {
-            calls,
-            bytes: usize::MAX,
-        };
         for quarters in [0, 1, 2, 4] {
-            assert!(rt;
-                goes_on(
-                    &rt,
-                    rt.alloc(),
-                    place,
-                    lines.as_slice(),
-                    &whole,
-                    grants,
-                    End::JournalFailed,
-                    quarters
-                )
-            );
+            let stop = Stop {
+                grants: Grants {
+                    calls,
+                    ..Grants::ALL
+                },
+                end: End::JournalFailed,
+                out: first_answers(whole.text.as_slice(), calls / 2),
+                quarters,
+            };
+            assert!(rt; goes_on(&rt, rt.alloc(), place, lines.as_slice(), &whole, stop));
         }
     }
 }
 
-/// An output that refuses at each byte of the answers: what was told is kept.
+/// An output that refuses at each byte of the answers: each byte before it is out, and what was told is kept.
 #[test]
 fn output_refused_at_each_byte(rt: HostRuntime) {
     let Ok(bundle) = plain_bundle(rt.alloc(), 6) else {
@@ -102,34 +103,56 @@ fn output_refused_at_each_byte(rt: HostRuntime) {
         assert!(rt; false);
         return;
     };
+    assert!(rt; ready_count(whole.text.as_slice()) == 13);
     for bytes in 0..whole.text.len() {
-        let grants = Grants {
-            calls: usize::MAX,
-            bytes,
+        let (out, _) = whole.text.as_slice().split_at(bytes);
+        let stop = Stop {
+            grants: Grants {
+                bytes,
+                ..Grants::ALL
+            },
+            end: End::OutputFailed,
+            out,
+            quarters: 0,
         };
-        assert!(rt;
-            goes_on(
-                &rt,
-                rt.alloc(),
-                place,
-                lines.as_slice(),
-                &whole,
-                grants,
-                End::Device,
-                0
-            )
-        );
+        assert!(rt; goes_on(&rt, rt.alloc(), place, lines.as_slice(), &whole, stop));
+    }
+}
+
+/// An output that refuses to be flushed: the answers before are out, the one that it holds back isn't, and the
+/// session ends.
+#[test]
+fn each_flush_refused(rt: HostRuntime) {
+    let Ok(bundle) = plain_bundle(rt.alloc(), 6) else {
+        return;
+    };
+    let Ok(lines) = starts_and_ends(rt.alloc(), 6) else {
+        return;
+    };
+    let place = plain_place(bundle.as_str());
+    let Some(whole) = hold(&rt, rt.alloc(), place, b"", Grants::ALL, lines.as_slice()) else {
+        assert!(rt; false);
+        return;
+    };
+    assert!(rt; ready_count(whole.text.as_slice()) == 13);
+    for flushes in 0..13 {
+        let stop = Stop {
+            grants: Grants {
+                flushes,
+                ..Grants::ALL
+            },
+            end: End::OutputFailed,
+            out: first_answers(whole.text.as_slice(), flushes),
+            quarters: 0,
+        };
+        assert!(rt; goes_on(&rt, rt.alloc(), place, lines.as_slice(), &whole, stop));
     }
 }
 
 /// A journal's refusals, and those that are none.
 #[test]
 fn refusals_of_journals(rt: HostRuntime) {
-    let place = Place {
-        bundle: PLAIN_2,
-        builders: "m",
-        jobs: 0,
-    };
+    let place = park(PLAIN_2, "m", 0);
     let wanted = [
         ("", End::Status(0)),
         ("nix-dispatch", End::Status(0)),

@@ -4,6 +4,7 @@ use crate::journals::{Grants, MemoryJournal, MemoryOutput};
 use nd_bytes::ByteString;
 use nd_cli::{CliFault, ParkOptions};
 use nd_commands::sim_engine;
+use nd_desk::Desk;
 use nd_devices::Told;
 use nd_resume::ResumeError;
 use nd_serve_command::{Devices, Opened, ServeFault, open_session, serve_engine};
@@ -19,6 +20,25 @@ pub struct Place<'a> {
     pub builders: &'a str,
     /// The number of local jobs.
     pub jobs: u16,
+    /// Whether the rest goes on after a failure.
+    pub keep_going: bool,
+    /// The local features.
+    pub features: &'a str,
+    /// The info text.
+    pub info: &'a str,
+}
+
+/// A bundle with these builders and this number of local jobs. There are no local features and no info text, and
+/// nothing goes on after a failure.
+pub(crate) fn park<'a>(bundle: &'a str, builders: &'a str, jobs: u16) -> Place<'a> {
+    Place {
+        bundle,
+        builders,
+        jobs,
+        keep_going: false,
+        features: "",
+        info: "",
+    }
 }
 
 /// How a session ended.
@@ -32,8 +52,10 @@ pub enum End {
     NotEmpty,
     /// The journal failed.
     JournalFailed,
-    /// The input or the output failed.
-    Device,
+    /// The input failed.
+    InputFailed,
+    /// The output failed.
+    OutputFailed,
     /// Want of memory, or a refusal of the park.
     Other,
 }
@@ -43,17 +65,17 @@ pub enum End {
 pub struct Held {
     /// How it ended.
     pub end: End,
-    /// What was answered.
+    /// What came out of its answers.
     pub text: Vec<u8>,
     /// The journal behind it.
     pub journal: MemoryJournal,
 }
 
 /// Which end a fault is.
-fn end_of(fault: ServeFault) -> End {
+fn end_by(fault: ServeFault) -> End {
     match fault {
-        ServeFault::Cli(CliFault::Read) => End::Device,
-        ServeFault::Cli(CliFault::Write) => End::Device,
+        ServeFault::Cli(CliFault::Read) => End::InputFailed,
+        ServeFault::Cli(CliFault::Write) => End::OutputFailed,
         ServeFault::Cli(_) => End::Other,
         ServeFault::NotEmpty => End::NotEmpty,
         ServeFault::InUse => End::Other,
@@ -62,23 +84,35 @@ fn end_of(fault: ServeFault) -> End {
     }
 }
 
-/// No bytes.
-fn none(alloc: Global) -> ByteString {
-    ByteString::new(Vec::new(alloc))
+/// What `sim` makes of a script.
+#[derive(Drop)]
+pub struct Simulated {
+    /// What it writes.
+    pub text: Vec<u8>,
+    /// Its status.
+    pub status: u8,
+}
+
+/// A text as an option has it: an empty one where there is no memory for it.
+fn given(alloc: Global, text: &str) -> ByteString {
+    match ByteString::from_slice(alloc, text.as_bytes()) {
+        Ok(given) => given,
+        Err(AllocError) => ByteString::new(Vec::new(alloc)),
+    }
 }
 
 /// The options of the program.
-fn options(alloc: Global, place: Place<'_>) -> Result<ParkOptions, AllocError> {
-    Ok(ParkOptions {
-        builders: ByteString::from_slice(alloc, place.builders.as_bytes())?,
-        system: ByteString::from_slice(alloc, b"x86_64-linux")?,
-        extra: none(alloc),
-        features: none(alloc),
+fn options(alloc: Global, place: Place<'_>) -> ParkOptions {
+    ParkOptions {
+        builders: given(alloc, place.builders),
+        system: given(alloc, "x86_64-linux"),
+        extra: given(alloc, ""),
+        features: given(alloc, place.features),
         jobs: place.jobs,
-        keep_going: false,
+        keep_going: place.keep_going,
         check_paths: false,
-        info: none(alloc),
-    })
+        info: given(alloc, place.info),
+    }
 }
 
 /// The session that is opened with these bytes of a journal.
@@ -89,15 +123,64 @@ fn opened<R: Threads + Sync>(
     journal: &[u8],
     resumes: bool,
 ) -> Result<Opened, End> {
-    let Ok(options) = options(alloc, place) else {
-        return Err(End::Other);
-    };
+    let options = options(alloc, place);
     let mut input = Told::new(place.bundle.as_bytes());
     let opened = open_session(rt, alloc, &options, journal, resumes, &mut input);
     drop(options);
     match opened {
         Ok(opened) => Ok(opened),
-        Err(fault) => Err(end_of(fault)),
+        Err(fault) => Err(end_by(fault)),
+    }
+}
+
+/// What a session goes on from.
+pub(crate) struct Begun {
+    /// The session, opened.
+    pub(crate) opened: Opened,
+    /// The bytes that its journal holds.
+    pub(crate) bytes: Vec<u8>,
+}
+
+/// Opens a session with these bytes of a journal, and cuts them to their whole lines.
+pub(crate) fn begin<R: Threads + Sync>(
+    rt: &R,
+    alloc: Global,
+    place: Place<'_>,
+    journal: &[u8],
+) -> Option<Begun> {
+    let opened = match opened(rt, alloc, place, journal, true) {
+        Ok(opened) => opened,
+        Err(_end) => return None,
+    };
+    let (whole, _) = journal.split_at(opened.kept.min(journal.len()));
+    match Vec::from_slice(alloc, whole) {
+        Ok(bytes) => Some(Begun { opened, bytes }),
+        Err(AllocError) => {
+            drop(opened);
+            None
+        }
+    }
+}
+
+/// How a session over this desk ends.
+pub(crate) fn end_of<D: Desk>(alloc: Global, opened: Opened, desk: &mut D) -> End {
+    match serve_engine(alloc, opened, desk) {
+        Ok(status) => End::Status(status),
+        Err(fault) => end_by(fault),
+    }
+}
+
+/// What became of a session that ended so, by its devices.
+pub(crate) fn held_to(end: End, devices: Devices<&[u8], MemoryOutput, MemoryJournal>) -> Held {
+    let Devices {
+        output,
+        journal,
+        ..
+    } = devices;
+    Held {
+        end,
+        text: output.into_out(),
+        journal,
     }
 }
 
@@ -111,39 +194,17 @@ pub(crate) fn hold<R: Threads + Sync>(
     grants: Grants,
     lines: &[u8],
 ) -> Option<Held> {
-    let opened = match opened(rt, alloc, place, journal, true) {
-        Ok(opened) => opened,
-        Err(_end) => return None,
+    let Begun { opened, bytes } = match begin(rt, alloc, place, journal) {
+        Some(begun) => begun,
+        None => return None,
     };
-    let (whole, _) = journal.split_at(opened.kept.min(journal.len()));
-    let Ok(bytes) = Vec::from_slice(alloc, whole) else {
-        drop(opened);
-        return None;
-    };
-    let devices = Devices {
+    let mut devices = Devices {
         input: lines,
-        output: MemoryOutput::taking(alloc, grants.bytes),
+        output: MemoryOutput::granting(alloc, grants),
         journal: MemoryJournal::holding(bytes, grants.calls),
     };
-    Some(end_of_session(alloc, opened, devices))
-}
-
-/// The same, once it is opened.
-fn end_of_session(
-    alloc: Global,
-    opened: Opened,
-    devices: Devices<&[u8], MemoryOutput, MemoryJournal>,
-) -> Held {
-    let mut devices = devices;
-    let end = match serve_engine(alloc, opened, &mut devices) {
-        Ok(status) => End::Status(status),
-        Err(fault) => end_of(fault),
-    };
-    Held {
-        end,
-        text: devices.output.bytes,
-        journal: devices.journal,
-    }
+    let end = end_of(alloc, opened, &mut devices);
+    Some(held_to(end, devices))
 }
 
 /// How the opening of a session ends with these bytes of a journal: with status 0 where it is opened.
@@ -163,22 +224,23 @@ pub(crate) fn opening<R: Threads + Sync>(
     }
 }
 
-/// What `sim` writes of a script.
-pub(crate) fn simulated<R: Threads + Sync>(
+/// What `sim` makes of a script, where it is accepted.
+pub(crate) fn simulate<R: Threads + Sync>(
     rt: &R,
     alloc: Global,
     place: Place<'_>,
     script: &[u8],
-) -> Option<Vec<u8>> {
-    let Ok(options) = options(alloc, place) else {
-        return None;
-    };
+) -> Option<Simulated> {
+    let options = options(alloc, place);
     let mut input = Told::new(place.bundle.as_bytes());
     let mut output = Told::new(Vec::new(alloc));
     let answer = sim_engine(rt, alloc, &options, script, &mut input, &mut output);
     drop(options);
     match answer {
-        Ok(_status) => Some(output.into_inner()),
+        Ok(status) => Some(Simulated {
+            text: output.into_inner(),
+            status,
+        }),
         Err(_fault) => None,
     }
 }

@@ -1,11 +1,15 @@
-//! Tests of the command `serve`: conversations, lines that are no commands, and what a crash leaves of a
-//! journal.
+//! Tests of the command `serve`: conversations, a driver's among them, lines that are no commands, and what a
+//! crash leaves of a journal.
 #![tactic(auto)]
 
 #[cfg(test)]
 mod conversations;
 #[cfg(test)]
 mod crashes;
+#[cfg(test)]
+mod driver;
+#[cfg(test)]
+mod driving;
 #[cfg(test)]
 mod holding;
 #[cfg(test)]

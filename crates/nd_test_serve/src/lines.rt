@@ -1,18 +1,16 @@
 //! Lines that ask for nothing, and sessions that end within a line.
 
-use crate::holding::{End, Place, hold};
+use crate::holding::{End, Held, Place, hold, park};
 use crate::journals::Grants;
-use crate::texts::{first_lines, newline_count, ready_count};
+use crate::texts::{first_answers, newline_count, ready_count};
 use nd_test_fixtures::bundles::DIAMOND;
 use std::alloc::Global;
 use std::thread::Threads;
 
 /// A graph with inputs, on two slots.
-const PLACE: Place<'static> = Place {
-    bundle: DIAMOND,
-    builders: "m - - 2",
-    jobs: 0,
-};
+fn two_slots() -> Place<'static> {
+    park(DIAMOND, "m - - 2", 0)
+}
 
 /// Whether this line is answered as one that asks for nothing, and the one behind it as ever.
 fn is_passed_over<R: Threads + Sync>(rt: &R, alloc: Global, line: &[u8]) -> bool {
@@ -23,7 +21,7 @@ fn is_passed_over<R: Threads + Sync>(rt: &R, alloc: Global, line: &[u8]) -> bool
         return false;
     }
     let wanted = b"chosen 0 1 0\nready\nrefused BadLine\nready\nstarted 0\nready\n".as_slice();
-    match hold(rt, alloc, PLACE, b"", Grants::ALL, lines.as_slice()) {
+    match hold(rt, alloc, two_slots(), b"", Grants::ALL, lines.as_slice()) {
         Some(held) => held.end == End::Status(0) && held.text.as_slice() == wanted,
         None => false,
     }
@@ -61,48 +59,61 @@ fn long_line(rt: HostRuntime) {
     assert!(rt; is_passed_over(&rt, rt.alloc(), line.as_slice()));
 }
 
-/// Whether a session that has the first so many of these bytes has answered what the whole one answers to its
-/// whole lines, and one line more where there is a part of one.
+/// Whether a session that has the first so many of these bytes ends with this status, has answered to its whole
+/// lines what the whole one answers to them, and to a part of a line what it answers to that part as a line.
 fn ends_within<R: Threads + Sync>(
     rt: &R,
     alloc: Global,
     lines: &[u8],
     end: usize,
     whole: &[u8],
+    status: u8,
 ) -> bool {
     let (cut, _) = lines.split_at(end.min(lines.len()));
-    let Some(held) = hold(rt, alloc, PLACE, b"", Grants::ALL, cut) else {
+    let Some(held) = hold(rt, alloc, two_slots(), b"", Grants::ALL, cut) else {
         return false;
     };
-    let full = newline_count(cut);
+    let turns = newline_count(cut).saturating_add(1);
+    let answered = first_answers(whole, turns);
     let text = held.text.as_slice();
-    let part = usize::from(!cut.is_empty() && !cut.ends_with(b"\n"));
-    let answered = ready_prefix(text, full);
-    ready_count(text) == full.saturating_add(1).saturating_add(part) && whole.starts_with(answered)
-}
-
-/// A text up to the line `ready` behind this number of them.
-fn ready_prefix(text: &[u8], before: usize) -> &[u8] {
-    let mut count = 0;
-    for line in 0..text.len() {
-        let front = first_lines(text, line);
-        count = ready_count(front);
-        if count > before {
-            return front;
-        }
+    if held.end != End::Status(status) || !text.starts_with(answered) {
+        return false;
     }
-    if count > before { text } else { b"" }
+    if cut.is_empty() || cut.ends_with(b"\n") {
+        return text.len() == answered.len();
+    }
+    ready_count(text) == turns.saturating_add(1) && ends_as_a_line(rt, alloc, cut, &held)
 }
 
-/// The session's end at each byte.
+/// Whether the session with these bytes and a newline behind them is the same.
+fn ends_as_a_line<R: Threads + Sync>(rt: &R, alloc: Global, cut: &[u8], held: &Held) -> bool {
+    let Ok(mut lines) = Vec::from_slice(alloc, cut) else {
+        return false;
+    };
+    if lines.push(b'\n').is_err() {
+        return false;
+    }
+    match hold(rt, alloc, two_slots(), b"", Grants::ALL, lines.as_slice()) {
+        Some(other) => {
+            other.end == held.end
+                && other.text.as_slice() == held.text.as_slice()
+                && other.journal.bytes() == held.journal.bytes()
+        }
+        None => false,
+    }
+}
+
+/// The session's end at each byte. The last command fails a derivation, and needs no newline for that.
 #[test]
 fn end_at_each_byte(rt: HostRuntime) {
     let lines = b"start 0\nbuilt 0\njob 1\nstart 2\nask 3\nfail 2 1\n".as_slice();
-    let Some(whole) = hold(&rt, rt.alloc(), PLACE, b"", Grants::ALL, lines) else {
+    let Some(whole) = hold(&rt, rt.alloc(), two_slots(), b"", Grants::ALL, lines) else {
         assert!(rt; false);
         return;
     };
-    for end in 0..lines.len() {
-        assert!(rt; ends_within(&rt, rt.alloc(), lines, end, whole.text.as_slice()));
+    assert!(rt; ready_count(whole.text.as_slice()) == 7);
+    for end in 0..=lines.len() {
+        let status = u8::from(end.saturating_add(1) >= lines.len());
+        assert!(rt; ends_within(&rt, rt.alloc(), lines, end, whole.text.as_slice(), status));
     }
 }

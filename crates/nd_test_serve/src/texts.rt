@@ -1,17 +1,34 @@
 //! Texts of sessions.
 
+use nd_bytes::{cut, decimal};
 use std::alloc::{AllocError, Global};
 
 /// The text without its lines `ready`.
 pub(crate) fn without_ready(alloc: Global, text: &[u8]) -> Result<Vec<u8>, AllocError> {
     let mut rest = Vec::new(alloc);
     for line in text.split(|byte| *byte == b'\n') {
-        if line != b"ready".as_slice() && !line.is_empty() {
+        if line != b"ready".as_slice() {
             rest.extend_from_slice(line)?;
             rest.push(b'\n')?;
         }
     }
+    // Behind the last newline there is no line.
+    rest.pop();
     Ok(rest)
+}
+
+/// What `sim` writes before its report.
+pub(crate) fn before_report(text: &[u8]) -> &[u8] {
+    let mut is_before = true;
+    let mut end = 0usize;
+    for line in text.split(|byte| *byte == b'\n') {
+        is_before = is_before && !line.starts_with(b"total ");
+        if is_before {
+            end = end.saturating_add(line.len()).saturating_add(1);
+        }
+    }
+    let (front, _) = text.split_at(end.min(text.len()));
+    front
 }
 
 /// How many lines `ready` a text has.
@@ -50,11 +67,40 @@ pub(crate) fn first_lines(text: &[u8], count: usize) -> &[u8] {
     front
 }
 
+/// The first so many answers of a text, each with its line `ready`.
+pub(crate) fn first_answers(text: &[u8], count: usize) -> &[u8] {
+    let mut left = count;
+    let mut end = 0usize;
+    for line in text.split(|byte| *byte == b'\n') {
+        if left > 0 {
+            end = end.saturating_add(line.len()).saturating_add(1);
+            if line == b"ready".as_slice() {
+                left -= 1;
+            }
+        }
+    }
+    let (front, _) = text.split_at(end.min(text.len()));
+    front
+}
+
 /// The lines of a text behind the first so many.
 pub(crate) fn later_lines(text: &[u8], count: usize) -> &[u8] {
     let front = first_lines(text, count).len();
     let (_, rest) = text.split_at(front.min(text.len()));
     rest
+}
+
+/// The derivation that has a lease by this line of an answer.
+pub(crate) fn leased_in(line: &[u8]) -> Option<u32> {
+    let (word, operands) = cut(line, b' ');
+    let (number, rest) = cut(operands?, b' ');
+    let is_chosen = word == b"chosen".as_slice();
+    let is_leased = word == b"drv".as_slice() && rest?.starts_with(b"leased ");
+    if is_chosen || is_leased {
+        decimal(number, u32::MAX)
+    } else {
+        None
+    }
 }
 
 /// A bundle of this number of derivations without inputs.

@@ -7,5 +7,5 @@ use Rattle.nd_serve.proofs.session.serve.Given as goal
 abbrev pub invariant-loop-turn : goal.invariant-loop-turn
 invariant-loop-turn g l = record {
   inputs : l.dispatch.inputs ≡ l.fn.dispatch.inputs;
-  served : HasServed l.fn.dispatch.inputs l.fn.dispatch.history l.dispatch.history (first_of l.fresh) (g.D.Desk.log l.fn.desk) (g.D.Desk.log l.desk) l._turn;
+  served : HasServed l.fn.dispatch.inputs l.fn.dispatch.history l.dispatch.history (first_of l.fresh) (g.D.Desk.seen l.fn.desk) (g.D.Desk.seen l.desk) l._turn;
 }
