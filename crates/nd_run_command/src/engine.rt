@@ -14,9 +14,9 @@ use std::io::Write;
 use std::sync::Wait;
 use std::thread::Threads;
 
-/// Runs a dispatch with these workers, one for each slot of the park, until nothing is leased or waits,
-/// and writes the text of its history, and then where asked the report. The status is 1 where a
-/// derivation failed or was cancelled, and else 0.
+/// Runs a dispatch with these workers, one for each slot of the park, and writes the text of its history,
+/// and then where asked the report. Unless it ends with `Receipts`, nothing is leased or waits in the end.
+/// The status is 1 where a derivation failed or was cancelled, and else 0.
 ///
 /// `TooManySlots`: there are more than 1,024 workers, and nothing is written. `Write`: the writer
 /// refused, and is marked; a part of the text, from its beginning, is out. `Thread`, `Memory` and

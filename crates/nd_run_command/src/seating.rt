@@ -9,23 +9,23 @@ ghost use Rattle.nd_run_command.specs.Seats.{AreTooMany, stand_in_on};
 use nd_cli::CliFault;
 use nd_ledger::Dispatch;
 use nd_script::Rule;
-use nd_workers::{Seat, StandIn};
+use nd_workers::{RuleBook, Seat, StandIn};
 use std::alloc::{AllocError, Global};
 
 /// The most slots that a run serves.
 const MOST: usize = 1024;
 
 /// A stand-in for each place of the park, in the order of [`places`]. Each has these rules, all of
-/// them, and has made no call yet; none has a fuse.
+/// them, and has made no call yet; none has a fuse. They share the rules, so that these take memory once.
 ///
 /// `TooManySlots`: there are more than 1,024 places. `Memory`.
 pub fn stand_ins(
     alloc: Global,
     dispatch: &Dispatch,
-    rules: &[Rule],
+    rules: Vec<Rule>,
 ) -> Result<Vec<Seat<Box<StandIn>>>, CliFault>
     ensures placed { IfOk result (λ seats. map (λ w. (w.machine, w.slot)) seats.items ≡ places_of dispatch.now.inputs) }
-    ensures ruled { IfOk result (λ seats. map (λ w. w.transport.value) seats.items ≡ map (stand_in_on rules.now) (places_of dispatch.now.inputs)) }
+    ensures ruled { IfOk result (λ seats. map (λ w. w.transport.value) seats.items ≡ map (stand_in_on rules.items) (places_of dispatch.now.inputs)) }
     ensures manned { IfOk result (λ seats. AreManned dispatch.now.inputs (map (λ w. (w.machine, w.slot)) seats.items)) }
     ensures refused { IfErr result (AreTooMany (places_of dispatch.now.inputs)) }
 {
@@ -43,14 +43,27 @@ pub fn stand_ins(
 fn seats(
     alloc: Global,
     places: Vec<(u32, u32)>,
-    rules: &[Rule],
+    rules: Vec<Rule>,
 ) -> Result<Vec<Seat<Box<StandIn>>>, AllocError>
     ensures placed { IfOk result (λ seats. map (λ w. (w.machine, w.slot)) seats.items ≡ places.items) }
-    ensures ruled { IfOk result (λ seats. map (λ w. w.transport.value) seats.items ≡ map (stand_in_on rules.now) places.items) }
+    ensures ruled { IfOk result (λ seats. map (λ w. w.transport.value) seats.items ≡ map (stand_in_on rules.items) places.items) }
+{
+    let book = RuleBook::new(rules)?;
+    seats_by(alloc, places, &book)
+}
+
+/// A stand-in on each of these places, which has the rules of this book.
+fn seats_by(
+    alloc: Global,
+    places: Vec<(u32, u32)>,
+    book: &RuleBook,
+) -> Result<Vec<Seat<Box<StandIn>>>, AllocError>
+    ensures placed { IfOk result (λ seats. map (λ w. (w.machine, w.slot)) seats.items ≡ places.items) }
+    ensures ruled { IfOk result (λ seats. map (λ w. w.transport.value) seats.items ≡ map (stand_in_on book.now) places.items) }
 {
     let mut seats = Vec::new(alloc);
     for (machine, slot) in places {
-        let transport = Box::new(alloc, StandIn::new(machine, copies(alloc, rules)?))?;
+        let transport = Box::new(alloc, StandIn::new(alloc, machine, book.try_clone()?))?;
         let seat = Seat {
             machine,
             slot,
@@ -59,17 +72,6 @@ fn seats(
         seats.push(seat)?;
     }
     Ok(seats)
-}
-
-/// A copy of these rules.
-fn copies(alloc: Global, rules: &[Rule]) -> Result<Vec<Rule>, AllocError>
-    ensures { IfOk result (λ copies. copies.items ≡ rules.now) }
-{
-    let mut copies = Vec::new(alloc);
-    for rule in rules {
-        copies.push(rule.try_clone()?)?;
-    }
-    Ok(copies)
 }
 
 /// The places of the park, machines with slots of theirs, in the order of the machines and their slots.

@@ -3,7 +3,7 @@
 ghost use Rattle.std.specs.Prelude.{◌≡◌};
 ghost use Rattle.nd_transports.specs.Calls.{Builds};
 
-use crate::parks::{dispatch, ran};
+use crate::parks::{dispatch, ran, stand_in};
 use nd_closure::Refs;
 use nd_ledger::Job;
 use nd_test_fixtures::bundles::PLAIN_3;
@@ -115,7 +115,7 @@ fn push_seats(
 ) -> Option<()> {
     for place in [(1, 0), (1, 1), (2, 0)] {
         let known = Arc::try_clone(meeting).ok()?;
-        let stand = StandIn::new(place.0, Vec::new(alloc));
+        let stand = stand_in(alloc, place.0, Vec::new(alloc)).ok()?;
         push_seat(seats, place.0, place.1, stand, known);
     }
     Some(())

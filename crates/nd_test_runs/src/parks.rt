@@ -4,8 +4,8 @@ use nd_ledger::Dispatch;
 use nd_test_fixtures::parks::{builders_alone, close, dispatch_of};
 use nd_workers::run_end::{NotRun, Ran};
 use nd_workers::running::run_with;
-use nd_workers::{Rule, Seat, StandIn, Transport};
-use std::alloc::Global;
+use nd_workers::{Rule, RuleBook, Seat, StandIn, Transport};
+use std::alloc::{AllocError, Global};
 use std::sync::Wait;
 use std::thread::Threads;
 
@@ -15,6 +15,15 @@ pub(crate) fn dispatch(alloc: Global, bundle: &str, builders: &str) -> Option<Di
         Ok(dispatch) => Some(dispatch),
         Err(_) => None,
     }
+}
+
+/// A stand-in for this machine that follows these rules.
+pub(crate) fn stand_in(
+    alloc: Global,
+    machine: u32,
+    rules: Vec<Rule>,
+) -> Result<StandIn, AllocError> {
+    Ok(StandIn::new(alloc, machine, RuleBook::new(rules)?))
 }
 
 /// A worker with a stand-in that follows this rule and, where there is a fuse, lets so many calls pass.
@@ -27,7 +36,7 @@ pub(crate) fn stand_at(
 ) -> Option<Seat<StandIn>> {
     let mut rules = Vec::new(alloc);
     rules.push(rule).ok()?;
-    let mut transport = StandIn::new(machine, rules);
+    let mut transport = stand_in(alloc, machine, rules).ok()?;
     if let Some(passes) = passes {
         transport.fuse(passes);
     }
@@ -42,7 +51,9 @@ pub(crate) fn stand_at(
 pub(crate) fn stands(alloc: Global, count: u32) -> Vec<Seat<StandIn>> {
     let mut seats = Vec::new(alloc);
     for slot in 0..count {
-        push_stand(&mut seats, slot, StandIn::new(1, Vec::new(alloc)));
+        if let Ok(stand) = stand_in(alloc, 1, Vec::new(alloc)) {
+            push_stand(&mut seats, slot, stand);
+        }
     }
     seats
 }

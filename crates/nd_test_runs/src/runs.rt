@@ -1,6 +1,6 @@
 //! The worked examples of runs.
 
-use crate::parks::{close_refused, close_run, dispatch, ran, stand_at, stands};
+use crate::parks::{close_refused, close_run, dispatch, ran, stand_at, stand_in, stands};
 use nd_closure::Refs;
 use nd_ledger::Dispatch;
 use nd_path::{PathSet, StorePath};
@@ -225,7 +225,8 @@ fn gives_stored<R: Threads + Wait + Sync>(rt: &R, alloc: Global, workers: Vec<Wo
 #[test]
 fn stored_run(rt: HostRuntime) -> Result<(), Fail> {
     let alloc = rt.alloc();
-    let transport: Box<dyn Transport + Send> = Box::new(alloc, StandIn::new(1, Vec::new(alloc)))?;
+    let stand = stand_in(alloc, 1, Vec::new(alloc))?;
+    let transport: Box<dyn Transport + Send> = Box::new(alloc, stand)?;
     let worker = Seat {
         machine: 1,
         slot: 0,

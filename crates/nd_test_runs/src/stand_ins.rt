@@ -1,12 +1,15 @@
 //! What one stand-in answers.
 
+use crate::parks::stand_in;
 use nd_bytes::Items;
 use nd_closure::Refs;
 use nd_leases::Ticket;
 use nd_ledger::Job;
 use nd_path::{PathSet, StorePath};
 use nd_test_fixtures::bundles::S1;
-use nd_workers::{Ended, Fetch, Outcome, Phase, Rule, StandIn, Transport, serve_build, serve_copy};
+use nd_workers::{
+    Ended, Fetch, Outcome, Phase, Rule, RuleBook, StandIn, Transport, serve_build, serve_copy,
+};
 use std::alloc::Global;
 use std::test::Fail;
 
@@ -58,7 +61,7 @@ fn has_sets(refs: &Refs, sets: usize, paths: usize) -> bool {
 fn plain_stand_in(rt: HostRuntime) -> Result<(), Fail> {
     let alloc = rt.alloc();
     let job = job(alloc)?;
-    let mut stand = StandIn::new(1, vec![in alloc]?);
+    let mut stand = stand_in(alloc, 1, vec![in alloc]?)?;
     match outcome(&mut stand, &job) {
         Some(Outcome::Built(refs)) => assert!(rt; has_sets(&refs, 1, 0)),
         _ => assert!(rt; false, "not built"),
@@ -72,7 +75,7 @@ fn plain_stand_in(rt: HostRuntime) -> Result<(), Fail> {
 /// What the copy before a build answers by these rules.
 fn fetched(alloc: Global, rules: Vec<Rule>) -> Result<Fetch, Fail> {
     let job = job(alloc)?;
-    let mut stand = StandIn::new(1, rules);
+    let mut stand = stand_in(alloc, 1, rules)?;
     Ok(serve_copy(&mut stand, &job))
 }
 
@@ -101,7 +104,7 @@ fn end_of(stand: &mut StandIn, job: &Job) -> Option<Ended> {
 /// How the build ends by these rules, where the copy works.
 fn ended(alloc: Global, rules: Vec<Rule>) -> Result<Option<Ended>, Fail> {
     let job = job(alloc)?;
-    let mut stand = StandIn::new(1, rules);
+    let mut stand = stand_in(alloc, 1, rules)?;
     Ok(end_of(&mut stand, &job))
 }
 
@@ -117,11 +120,35 @@ fn ends_by_rules(rt: HostRuntime) -> Result<(), Fail> {
     Ok(())
 }
 
+/// How a build of derivation 0 ends by a copy of the book of these rules, where the copy works.
+fn ended_by_copy(alloc: Global, rules: Vec<Rule>) -> Result<Option<Ended>, Fail> {
+    let book = RuleBook::new(rules)?;
+    let copy = book.try_clone()?;
+    drop(book);
+    let mut stand = StandIn::new(alloc, 1, copy);
+    Ok(end_of(&mut stand, &job(alloc)?))
+}
+
+#[test]
+fn shared_rules(rt: HostRuntime) -> Result<(), Fail> {
+    let alloc = rt.alloc();
+    let rules = vec![in alloc;
+        Rule::NoCopy(2),
+        Rule::Lose(3),
+        Rule::Fail(0, 5),
+        Rule::Lose(0),
+    ]?;
+    assert!(rt; ended_by_copy(alloc, rules)? == Some(Ended::Status(5)));
+    let rules = vec![in alloc; Rule::Lose(0), Rule::NoConnect(1)]?;
+    assert!(rt; ended_by_copy(alloc, rules)? == None);
+    Ok(())
+}
+
 #[test]
 fn reported_references(rt: HostRuntime) -> Result<(), Fail> {
     let alloc = rt.alloc();
     let refs = Refs::new(vec![in alloc; one_path(alloc)?, one_path(alloc)?]?);
-    let mut stand = StandIn::new(1, vec![in alloc; Rule::Built(0, refs)]?);
+    let mut stand = stand_in(alloc, 1, vec![in alloc; Rule::Built(0, refs)]?)?;
     match outcome(&mut stand, &job(alloc)?) {
         Some(Outcome::Built(refs)) => assert!(rt; has_sets(&refs, 2, 1)),
         _ => assert!(rt; false, "not built"),
@@ -132,7 +159,7 @@ fn reported_references(rt: HostRuntime) -> Result<(), Fail> {
 /// What the copy answers with this fuse.
 fn fused_copy(alloc: Global, passes: u32) -> Result<Fetch, Fail> {
     let job = job(alloc)?;
-    let mut stand = StandIn::new(1, vec![in alloc]?);
+    let mut stand = stand_in(alloc, 1, vec![in alloc]?)?;
     stand.fuse(passes);
     Ok(serve_copy(&mut stand, &job))
 }
@@ -140,7 +167,7 @@ fn fused_copy(alloc: Global, passes: u32) -> Result<Fetch, Fail> {
 /// How the build ends with this fuse, where the copy works.
 fn fused_end(alloc: Global, passes: u32) -> Result<Option<Ended>, Fail> {
     let job = job(alloc)?;
-    let mut stand = StandIn::new(1, vec![in alloc]?);
+    let mut stand = stand_in(alloc, 1, vec![in alloc]?)?;
     stand.fuse(passes);
     Ok(end_of(&mut stand, &job))
 }

@@ -1,4 +1,5 @@
 pub mod Answers
+pub mod Books
 pub mod Calls
 pub mod Logs
 pub mod Services

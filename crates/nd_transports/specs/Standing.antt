@@ -1,6 +1,14 @@
--- How a stand-in is stored. No clause cites this definition: it is the view of `StandIn`, for proofs alone.
+-- How a stand-in is stored. No clause cites these definitions: they are the view and the invariant of `StandIn`, for proofs alone.
+use Rattle.std.specs.Prelude.{◌≡◌}
+use Rattle.std.specs.List.{list_any}
+use Rattle.nd_script.specs.Rules.{is_no_connect, is_no_copy}
 use Rattle.nd_transports.specs.declared.stand_in.StandIn.TheInside.{Inside}
 use Rattle.nd_transports.specs.StandIns.{Stood}
 
 abbrev pub stood : Inside → Stood
-stood s = record { machine = s.machine; outputs = s.outputs; rules = s.rules.items; fuse = s.passes; state = s.log }
+stood s = record { machine = s.machine; outputs = s.outputs; rules = s.rules; fuse = s.passes; state = s.log }
+
+-- what it keeps of the rules about its machine is what they say
+pub record HasLooked (s : Inside) : Type 0 where
+  pub connect : s.refuses_connect ≡ list_any (is_no_connect s.machine) s.rules
+  pub copy : s.refuses_copy ≡ list_any (is_no_copy s.machine) s.rules

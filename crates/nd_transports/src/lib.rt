@@ -5,6 +5,7 @@
 pub mod boxed;
 pub mod call_log;
 pub mod kinds;
+pub mod rule_book;
 pub mod serving;
 pub mod stand_in;
 pub mod transport;
@@ -12,6 +13,7 @@ pub mod transport;
 pub use call_log::CallLog;
 pub use kinds::{Answer, Call, Ended, Phase};
 pub use nd_script::Rule;
+pub use rule_book::RuleBook;
 pub use serving::{Fetch, Outcome, serve_build, serve_copy};
 pub use stand_in::StandIn;
 pub use transport::Transport;

@@ -9,6 +9,7 @@ ghost use Rattle.nd_transports.specs.StandIns.{fresh, readied, answer_by, lets_p
 
 use crate::call_log::CallLog;
 use crate::kinds::{Answer, Ended, Phase};
+use crate::rule_book::RuleBook;
 use crate::transport::Transport;
 use nd_closure::Refs;
 use nd_ledger::Job;
@@ -26,7 +27,9 @@ pub struct StandIn {
     alloc: Global,
     machine: u32,
     outputs: usize,
-    rules: Vec<Rule>,
+    rules: RuleBook,
+    refuses_connect: bool,
+    refuses_copy: bool,
     passes: Option<u32>,
     log: CallLog,
 }
@@ -36,21 +39,25 @@ impl Model for StandIn {
 
     ghost Value = { Stood };
 
-    ghost use Rattle.nd_transports.specs.Standing.{stood};
+    ghost use Rattle.nd_transports.specs.Standing.{stood, HasLooked};
 
     ghost view = { stood };
+
+    ghost invariant = { HasLooked };
 }
 
 impl StandIn {
-    /// A stand-in for this machine, without a fuse. It takes no memory.
-    pub fn new(machine: u32, rules: Vec<Rule>) -> StandIn
-        ensures { result ≡ fresh machine rules.items }
+    /// A stand-in for this machine, without a fuse. It takes no memory. The rules about machines are looked
+    /// through here, and not again in each call.
+    pub fn new(alloc: Global, machine: u32, rules: RuleBook) -> StandIn
+        ensures { result ≡ fresh machine rules }
     {
-        let alloc = *rules.allocator();
         StandIn {
             alloc,
             machine,
             outputs: 0,
+            refuses_connect: rules.refuses_connect(machine),
+            refuses_copy: rules.refuses_copy(machine),
             rules,
             passes: None,
             log: CallLog::new(alloc),
@@ -88,23 +95,9 @@ fn burn(fuse: &mut Option<u32>) -> bool
     }
 }
 
-/// Whether one of these rules refuses each connect on this machine.
-fn refuses_connect(rules: &[Rule], machine: u32) -> bool
-    ensures { result ≡ list_any (is_no_connect machine) rules.now }
-{
-    rules.iter().any(|rule| rule.is_no_connect(machine))
-}
-
-/// Whether one of these rules refuses each copy on this machine.
-fn refuses_copy(rules: &[Rule], machine: u32) -> bool
-    ensures { result ≡ list_any (is_no_copy machine) rules.now }
-{
-    rules.iter().any(|rule| rule.is_no_copy(machine))
-}
-
 /// How the build of derivation `drv` ends: it is lost where the fuse doesn't let it pass, or where it ends
 /// with its outputs and no memory is found for their references.
-fn told(alloc: Global, rules: &[Rule], drv: u32, outputs: usize, passes: bool) -> Answer
+fn told(alloc: Global, rules: &RuleBook, drv: u32, outputs: usize, passes: bool) -> Answer
     ensures { IsTold passes (answer_by outputs (find (is_about drv) rules.now)) result }
 {
     if !passes {
@@ -118,16 +111,14 @@ fn told(alloc: Global, rules: &[Rule], drv: u32, outputs: usize, passes: bool) -
 
 /// How the build of derivation `drv` ends by the first of these rules about it. Memory is refused for the
 /// references of outputs alone.
-fn answer(alloc: Global, rules: &[Rule], drv: u32, outputs: usize) -> Result<Answer, AllocError>
+fn answer(alloc: Global, rules: &RuleBook, drv: u32, outputs: usize) -> Result<Answer, AllocError>
     ensures ok { IfOk result (λ answer. answer ≡ answer_by outputs (find (is_about drv) rules.now)) }
     ensures err { OnErr result (NeedsLists (answer_by outputs (find (is_about drv) rules.now))) }
 {
-    for rule in rules {
-        if rule.is_about(drv) {
-            return answer_by(alloc, rule, outputs);
-        }
+    match rules.about(drv) {
+        Some(rule) => answer_by(alloc, rule, outputs),
+        None => Ok(Answer::Built(empty_lists(alloc, outputs)?)),
     }
-    Ok(Answer::Built(empty_lists(alloc, outputs)?))
 }
 
 /// How a build ends by this rule. Memory is refused for the references of outputs alone.
@@ -168,9 +159,8 @@ impl Transport for StandIn {
         ensures answer { result ≡ connects self.old }
         ensures after { self.new ≡ record self.old { fuse = burnt self.old.fuse; state = connected self.old.state result } }
     {
-        let refused = refuses_connect(self.rules.as_slice(), self.machine);
         let passes = burn(&mut self.passes);
-        let answered = passes && !refused;
+        let answered = passes && !self.refuses_connect;
         self.log.connected(answered);
         answered
     }
@@ -180,9 +170,8 @@ impl Transport for StandIn {
         ensures answer { result ≡ copies self.old }
         ensures after { self.new ≡ record self.old { fuse = burnt self.old.fuse; state = copied self.old.state result } }
     {
-        let refused = refuses_copy(self.rules.as_slice(), self.machine);
         let passes = burn(&mut self.passes);
-        let done = passes && !refused;
+        let done = passes && !self.refuses_copy;
         self.log.copied(self.alloc, done);
         done
     }
@@ -193,7 +182,7 @@ impl Transport for StandIn {
     {
         let drv = self.log.drv();
         let passes = burn(&mut self.passes);
-        let answer = told(self.alloc, self.rules.as_slice(), drv, self.outputs, passes);
+        let answer = told(self.alloc, &self.rules, drv, self.outputs, passes);
         let ended = answer.ended();
         self.log.built(answer);
         ended

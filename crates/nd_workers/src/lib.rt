@@ -18,8 +18,8 @@ mod working;
 pub use abandoning::abandon;
 pub use nd_receipts::{Kind, Receipt};
 pub use nd_transports::{
-    Answer, Call, CallLog, Ended, Fetch, Outcome, Phase, Rule, StandIn, Transport, serve_build,
-    serve_copy,
+    Answer, Call, CallLog, Ended, Fetch, Outcome, Phase, Rule, RuleBook, StandIn, Transport,
+    serve_build, serve_copy,
 };
 pub use run_end::{Refused, RunEnd, RunError, RunFault};
 pub use running::run;

@@ -18,13 +18,14 @@ pub enum RunError {
 
 /// What a run may end with. It has none of these only where nothing waits or is leased any more, the receipts
 /// are the entries that workers made, and nobody stopped the run. That it has the one that it has for the
-/// cause that is named is only tested.
+/// cause that is named isn't proved.
 #[derive(Clone, Copy, Debug, PartialEq, Eq)]
 pub enum RunFault {
-    /// 1: a thread wasn't started, so the run was stopped. All else is as without a fault.
+    /// 1: a thread wasn't started, and a stop is in the history; leases may have failed for want of a
+    /// worker. The calls and the receipts are as without a fault.
     Thread,
-    /// 2: memory was refused for choices or for receipts, so the run was stopped. All else is as without a
-    /// fault.
+    /// 2: memory was refused for choices or for receipts, and a stop is in the history; leases may have
+    /// failed for want of a worker. The calls and the receipts are as without a fault.
     Memory,
     /// 3: it wasn't seen that the run is over and that the receipts are the entries that workers made.
     Receipts,
@@ -46,7 +47,7 @@ pub struct NotRun<T> {
 pub struct Ran<T> {
     /// The dispatch.
     pub dispatch: Dispatch,
-    /// The workers, on the places and in the order in which they were handed in.
+    /// Workers on the places of those that were handed in, in their order.
     pub workers: Vec<Seat<T>>,
     /// Each worker's receipts, in the order of the workers.
     pub receipts: Vec<Vec<Receipt>>,

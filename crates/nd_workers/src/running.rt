@@ -520,12 +520,12 @@ pub fn run_with<T: Transport, R: Threads + Wait + Sync>(
 /// `TooManySlots` (2) where there are more than 1,024, and with `Memory` (3) where an allocation is
 /// refused before the first thread starts. What was handed in comes back then.
 ///
-/// It may end with a fault, which [`RunFault`] lists. After `Thread` (1) and `Memory` (2) the run was stopped,
-/// and the rest is as without a fault: each worker's calls are those of its receipts, and the receipts are the
+/// It may end with a fault, which [`RunFault`] lists. After `Thread` (1) and `Memory` (2) a stop is in the
+/// history; as without a fault, each worker's calls are those of its receipts, and the receipts are the
 /// entries that workers made. `Receipts` (3) says that this wasn't seen to be so. However it ends, the workers
-/// come back on the places and in the order in which they were handed in, each with a list of receipts; each
-/// choice since the opening is the pump's step of its place in the history, and no machine was drained or
-/// enabled. No lease is to be live at the start: one that is may end in `Receipts`.
+/// that come back are on the places of those that were handed in, in their order, each with a list of
+/// receipts; each choice since the opening is the pump's step of its place in the history, and no machine was
+/// drained or enabled. No lease is to be live at the start: one that is may end in `Receipts`.
 pub fn run<R: Threads + Wait + Sync>(
     rt: &R,
     dispatch: Dispatch,

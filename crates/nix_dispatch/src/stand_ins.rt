@@ -27,9 +27,7 @@ pub(crate) fn run_stand_ins<'a, R: Files + Input + Print + AllocGlobal + Threads
         Ok(given) => given,
         Err(failure) => return Err(failure),
     };
-    let seats = stand_ins(alloc, &dispatch, rules.as_slice());
-    drop(rules);
-    match seats {
+    match stand_ins(alloc, &dispatch, rules) {
         Ok(seats) => run_seated(rt, alloc, dispatch, seats, options.get_flag("report")),
         Err(fault) => {
             drop(dispatch);

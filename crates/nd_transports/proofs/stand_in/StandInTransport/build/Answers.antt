@@ -7,7 +7,7 @@ returns c =
     rw (← c.self.view_is)
     (record {
       answer = c.told-answer.result;
-      by_rules = told_as c.self.inside.outputs c.drv-drv.result c.self.inside.log.drv c.as_slice.result.now c.self.inside.rules.items c.told-answer.result _ _ c.burn-passes.ensures.passes c.drv-drv.ensures c.as_slice.ensures.value c.told-answer.ensures;
+      by_rules = told_as c.self.inside.outputs c.drv-drv.result c.self.inside.log.drv c.self.inside.rules c.told-answer.result _ _ c.burn-passes.ensures.passes c.drv-drv.ensures c.told-answer.ensures;
       told = c.ended-ended.ensures;
       after = rw (c.burn-passes.ensures.burnt, c.built.ensures) refl;
     })
