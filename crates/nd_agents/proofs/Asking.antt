@@ -96,7 +96,7 @@ module _ {R W : Type 0} (remaining : R → Option (List ℕ)) (contents : W → 
         → ReadsLine (remaining old.answers.device) (remaining new.answers.device) line → IsAnswerFor outputs line answer → IsBuildAsked remaining contents outputs old new call answer
     built_told new answer line here there written read says = record {
       gone = λ was. absurd (true≢false (sym was ∙ here));
-      here = λ _. inl (record { line = line; says = says; exchanged = record { written = written; read = read.consumed; here = there } });
+      here = λ _. inl (record { line = line; plain = read.plain; within = read.within; says = says; exchanged = record { written = written; read = read.consumed; here = there } });
     }
 
     pub built_forgotten : (new : Wired R W) (answer : Answer) (line : List ℕ) → old.is_gone ≡ false → new.is_gone ≡ false → answer ≡ Lost
@@ -104,7 +104,7 @@ module _ {R W : Type 0} (remaining : R → Option (List ℕ)) (contents : W → 
         → ReadsLine (remaining old.answers.device) (remaining new.answers.device) line → IsBuildAsked remaining contents outputs old new call answer
     built_forgotten new answer line here there lost written read = record {
       gone = λ was. absurd (true≢false (sym was ∙ here));
-      here = λ _. inr (inl (record { line = line; lost = lost; exchanged = record { written = written; read = read.consumed; here = there } }));
+      here = λ _. inr (inl (record { line = line; plain = read.plain; within = read.within; lost = lost; exchanged = record { written = written; read = read.consumed; here = there } }));
     }
 
 pub ruleset asks = (asked_gone, asked_unsent, asked_heard, asked_unheard)

@@ -1,13 +1,13 @@
 -- What a call of an agent does to the two devices between it and its caller: one line is written, and one is read.
 -- Public clauses cite this.
-use Rattle.std.specs.Prelude.{◌≡◌, ◌⊎◌, ℕ, Bool, true, false, List, [], ◌++◌, Option}
+use Rattle.std.specs.Prelude.{◌≡◌, ◌≤◌, ◌⊎◌, ℕ, Bool, true, false, List, [], ◌++◌, length, Option}
 use Rattle.std.specs.Io.KnownBytes.{Appends, Consumes}
 use Rattle.nd_devices.specs.Watched.{Watched}
 use Rattle.nd_transports.specs.declared.kinds.Answer.{Answer}
 use Rattle.nd_transports.specs.declared.kinds.Answer.TheVariants.{Lost}
 use Rattle.nd_agents.specs.CallTexts.{line_with}
 use Rattle.nd_agents.specs.AnswerTexts.{word_line, IsAnswerFor}
-use Rattle.nd_agents.specs.Heard.{IsNeither, ReadsLine, HasNoLine, ReadsOpening}
+use Rattle.nd_agents.specs.Heard.{IsNeither, IsPlain, longest, ReadsLine, HasNoLine, ReadsOpening}
 
 -- the way to an agent: the reader of its answers, the writer of its calls, and whether it is gone
 pub record Wired (R W : Type 0) : Type 0 where
@@ -54,15 +54,20 @@ pub record IsAsked {R W : Type 0} (remaining : R → Option (List ℕ)) (content
   pub gone : old.is_gone ≡ true → (answered ≡ false) × (new ≡ old)
   pub here : old.is_gone ≡ false → Exchanges remaining contents old new call (word_line answered) ⊎ IsUnworded remaining contents old new call answered
 
--- the answer to a build of so many outputs is what the line that was read says
+-- the answer to a build of so many outputs is what the line that was read says, which is within the limit
 pub record IsToldBy {R W : Type 0} (remaining : R → Option (List ℕ)) (contents : W → Option (List ℕ)) (outputs : ℕ) (old new : Wired R W) (call : List ℕ) (answer : Answer) : Type 0 where
   pub line : List ℕ
+  pub plain : IsPlain line
+  pub within : length line ≤ longest
   pub says : IsAnswerFor outputs line answer
   pub exchanged : Exchanges remaining contents old new call (line_with line)
 
--- the build is lost since there was no memory for what the line that was read says; the agent is there
+-- the build is lost beside a line that was read, which is within the limit, and the agent is there (as where there is no memory for
+-- what the line says)
 pub record IsForgotten {R W : Type 0} (remaining : R → Option (List ℕ)) (contents : W → Option (List ℕ)) (old new : Wired R W) (call : List ℕ) (answer : Answer) : Type 0 where
   pub line : List ℕ
+  pub plain : IsPlain line
+  pub within : length line ≤ longest
   pub lost : answer ≡ Lost
   pub exchanged : Exchanges remaining contents old new call (line_with line)
 
