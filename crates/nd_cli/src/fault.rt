@@ -137,7 +137,8 @@ pub enum CliFault {
     /// A thread of a run wasn't started. Status 5.
     #[error("nix-dispatch: thread not started")]
     Thread,
-    /// The entries that the workers of a run say to have made aren't those of its history. Status 5.
+    /// It wasn't seen that a run is over and that the entries which its workers say they made are those of
+    /// its history. Status 5.
     #[error("nix-dispatch: receipts differ")]
     Receipts,
 }

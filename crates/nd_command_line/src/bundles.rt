@@ -34,7 +34,7 @@ impl<I: Read, F: Read> Read for Bundle<I, F> {
 /// The bundle of a command with these options: a file where `--bundle` names one, which is opened, and
 /// standard input without the option. That it is the file of that name is only tested.
 ///
-/// `Read`: the file can't be opened.
+/// `Read`: the file can't be opened. That it comes then alone is only tested.
 pub fn bundle_of<'a, R: Files + Input>(
     rt: &R,
     options: &ArgMatches<'a>,

@@ -1,7 +1,7 @@
 //! The files that the command line names. That what is read of a file is what the file of that name holds is
 //! only tested: contracts say nothing of what files hold.
 
-ghost use Rattle.std.specs.Prelude.{◌≡◌, [], None, IfOk, IfErr};
+ghost use Rattle.std.specs.Prelude.{◌≡◌, [], None, IfOk, IfErr, IsTrue, is_ok};
 ghost use Rattle.nd_command_line.specs.Failures.{IsUnread};
 ghost use Rattle.nd_command_line.specs.Options.{StandsFor};
 
@@ -45,6 +45,7 @@ pub fn file_or_nothing<'a, R: Files>(
     name: Option<&'a str>,
 ) -> Result<ByteString, Failure<'a>>
     ensures nothing { name.entry ≡ None → IfOk result (λ bytes. bytes ≡ []) }
+    ensures neither { name.entry ≡ None → IsTrue (is_ok result) }
     ensures unread { IfErr result IsUnread }
 {
     match name {

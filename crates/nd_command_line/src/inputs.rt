@@ -22,17 +22,18 @@ use std::rt::Files;
 pub struct Inputs<I, F> {
     /// What its options say of the park.
     pub park: ParkOptions,
-    /// The bytes of the file that its own option names, as the script of `sim`; none without one. That they
-    /// are that file's is only tested.
+    /// The bytes of the file that its own option names, as the script of `sim`; none without one. That is
+    /// only tested.
     pub own: ByteString,
-    /// The bundle, of which nothing was read.
+    /// The bundle, which has no mark. That nothing was read of it is only tested.
     pub bundle: Told<Heard<Bundle<I, F>>>,
 }
 
 /// Reads what the options of a command over a bundle name: the files of the park, then the file of the
 /// command's own option, where `own` names one; and opens the bundle.
 ///
-/// `Read`: a file can't be opened, or a read was refused. `Memory`.
+/// `Read`: a file can't be opened, or a read was refused. `Memory`. Which files are read, and in which order,
+/// is only tested.
 pub fn read_inputs<'a, R: Files + Input>(
     rt: &R,
     alloc: Global,
