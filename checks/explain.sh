@@ -34,6 +34,13 @@ refused() {
   explained "$line" "$where"
 }
 
+# As `refused`, of a session whose journal is refused: that stays as it was.
+left_alone() {
+  cp "$journal" "$folder/before"
+  refused "$@"
+  cmp -s "$folder/before" "$journal" || fail "$1: the journal is changed"
+}
+
 # What was said with the option and without it, in $folder/said and $folder/said--explain.
 explained() {
   [ "$(cat "$folder/said")" = "nix-dispatch: $1" ] || fail "$1: $(cat "$folder/said")"
@@ -120,15 +127,15 @@ refused 'derivation: BadDerivation' 3 'standard input' path hello.drv
 bundle "$good"
 journal=$folder/journal
 printf 'nix-dispatch-history 2\n' > "$journal"
-refused 'journal: NotEmpty' 3 "--journal, file $journal" serve --bundle "$folder/in" --journal "$journal"
+left_alone 'journal: NotEmpty' 3 "--journal, file $journal" serve --bundle "$folder/in" --journal "$journal"
 (
   flock -n 9
-  refused 'journal: InUse' 3 "--journal, file $journal" serve --bundle "$folder/in" --journal "$journal" --resume
+  left_alone 'journal: InUse' 3 "--journal, file $journal" serve --bundle "$folder/in" --journal "$journal" --resume
 ) 9> "$journal"
 printf 'nix-dispatch-history 2\nbuilt\n' > "$journal"
-refused 'journal: BadLine 2' 3 "--journal, file $journal, line 2" serve --bundle "$folder/in" --journal "$journal" --resume
+left_alone 'journal: BadLine 2' 3 "--journal, file $journal, line 2" serve --bundle "$folder/in" --journal "$journal" --resume
 printf 'nix-dispatch-history 2\nstarted 0\n' > "$journal"
-refused 'journal: Illegal 0 Live' 3 "--journal, file $journal, line 2" serve --bundle "$folder/in" --journal "$journal" --resume
+left_alone 'journal: Illegal 0 Live' 3 "--journal, file $journal, line 2" serve --bundle "$folder/in" --journal "$journal" --resume
 refused 'journal failed' 5 '--journal, file /nowhere/journal' serve --bundle "$folder/in" --journal /nowhere/journal
 
 # The devices.
