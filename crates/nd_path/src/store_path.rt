@@ -16,6 +16,7 @@ use std::alloc::{AllocError, Global};
 use std::cmp::Ordering;
 use std::hash::{Hash, Hasher};
 use std::marker::Model;
+use std::sync::ArcSlice;
 
 /// The number of characters of a digest in base 32.
 const DIGEST_LENGTH: usize = 32;
@@ -40,21 +41,22 @@ const KINDS: &[u8; 256] = b"\
 
 /// A store path: `/nix/store/`, a digest of 32 characters, `-` and a name (Nix Reference Manual,
 /// "Store Path"). Contracts see the list of its bytes, which is a store path. Two are equal where
-/// their bytes are, and they stand in the order of their bytes.
+/// their bytes are, and they stand in the order of their bytes. All copies of one share its bytes.
 #[derive(Debug, Drop)]
 pub struct StorePath {
-    bytes: Vec<u8>,
+    bytes: ArcSlice<u8>,
 }
 
 impl Model for StorePath {
     ghost use Rattle.std.specs.Prelude.{ℕ, List};
+    ghost use Rattle.std.specs.Arc.{arc_slice_items};
     ghost use Rattle.nd_path.specs.Refusals.{IsPath};
 
     ghost Value = { List ℕ };
 
-    ghost view = { λ p. p.bytes.items };
+    ghost view = { λ p. arc_slice_items p.bytes };
 
-    ghost invariant = { λ p. IsPath p.bytes.items };
+    ghost invariant = { λ p. IsPath (arc_slice_items p.bytes) };
 }
 
 impl StorePath {
@@ -74,7 +76,7 @@ impl StorePath {
             return Err(fault);
         }
         Ok(StorePath {
-            bytes: Vec::from_slice(alloc, bytes)?,
+            bytes: ArcSlice::from_slice(alloc, bytes)?,
         })
     }
 
@@ -84,7 +86,7 @@ impl StorePath {
         ensures { IfOk result (λ p. p ≡ bytes.now) }
     {
         Ok(StorePath {
-            bytes: Vec::from_slice(alloc, bytes)?,
+            bytes: ArcSlice::from_slice(alloc, bytes)?,
         })
     }
 
@@ -103,7 +105,9 @@ impl StorePath {
         bytes.extend_from_slice(digest)?;
         bytes.push(b'-')?;
         bytes.extend_from_slice(name)?;
-        Ok(StorePath { bytes })
+        Ok(StorePath {
+            bytes: ArcSlice::from_vec(bytes)?,
+        })
     }
 
     /// The whole path's bytes.
@@ -134,7 +138,7 @@ impl StorePath {
         self.name().ends_with(b".drv")
     }
 
-    /// A copy that is equal to the original.
+    /// A copy that is equal to the original. It shares the bytes and takes no memory.
     pub fn try_clone(&self) -> Result<StorePath, AllocError>
         ensures { IfOk result (λ p. p ≡ self.now) }
     {
