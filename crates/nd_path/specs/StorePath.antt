@@ -6,7 +6,7 @@ use Rattle.std.specs.Prelude.{◌≡◌, ℕ, Bool, false, ◌&&◌, ◌||◌, �
 use Rattle.std.specs.declared.cmp.Ordering.{Ordering}
 use Rattle.std.specs.Ordering.{nat_cmp}
 use Rattle.std.specs.Cmp.Lexicographic.{pointwise, slice_cmp}
-use Rattle.std.specs.Hash.{HashWrites, slice, u8}
+use Rattle.std.specs.Hash.{HashWrites}
 use Rattle.std.specs.List.{list_all, list_any, ends_with}
 
 -- the store directory and its slash
@@ -66,6 +66,6 @@ path_eq = pointwise nat_eq
 abbrev pub path_cmp : List ℕ → List ℕ → Ordering
 path_cmp = slice_cmp nat_cmp
 
--- what a store path feeds a hasher
+-- what a store path feeds a hasher: all its bytes in one piece
 abbrev pub path_input : List ℕ → HashWrites
-path_input = slice u8
+path_input path = path ∷ []

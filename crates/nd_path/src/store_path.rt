@@ -200,7 +200,7 @@ impl Hash for StorePath {
     ghost respects_eq = { paths_alike };
 
     fn hash<H: Hasher>(&self, state: &mut H) {
-        self.bytes().hash(state);
+        state.write(self.bytes());
     }
 }
 
