@@ -66,7 +66,7 @@ def derivation_path(name, references, contents):
 
 
 def quoted(text):
-    return '"' + text.replace("\\", "\\\\").replace('"', '\\"') + '"'
+    return '"' + text.replace("\\", "\\\\").replace('"', '\\"').replace("\n", "\\n") + '"'
 
 
 class Derivation(NamedTuple):
@@ -75,18 +75,19 @@ class Derivation(NamedTuple):
     line: str
 
 
-def derivation(number, inputs=(), system="x86_64-linux", features="", length=0):
+def derivation(number, inputs=(), system="x86_64-linux", features="", length=0, variables=()):
     """A derivation with one output, whose line of a bundle has at least this length."""
-    short = padded_derivation(number, inputs, system, features, "")
+    short = padded_derivation(number, inputs, system, features, "", variables)
     if len(short.line) >= length:
         return short
     filler = base64.b64encode(hashlib.sha512(str(number).encode()).digest() * 16).decode()
-    return padded_derivation(number, inputs, system, features, filler[: length - len(short.line)])
+    padding = filler[: length - len(short.line)]
+    return padded_derivation(number, inputs, system, features, padding, variables)
 
 
-def padded_derivation(number, inputs, system, features, padding):
+def padded_derivation(number, inputs, system, features, padding, variables):
     output = store_path(f"output {number}", f"n{number}")
-    env = [("name", f"n{number}"), ("out", output), ("text", padding)]
+    env = [("name", f"n{number}"), ("out", output), ("text", padding), *variables]
     if features:
         env.append(("requiredSystemFeatures", features))
     paths = sorted(node.path for node in inputs)
@@ -181,6 +182,43 @@ def layers(n):
     return Given(bundle_of(nodes), class_builders(), script_of(range(n)))
 
 
+def environment(number, inputs):
+    """Variables as a package has them: the paths of its inputs, flags, and phases of several lines."""
+    return {
+        "buildInputs": " ".join(node.output for node in inputs),
+        "buildPhase": 'runHook preBuild\nmake -j$NIX_BUILD_CORES "PREFIX=$out" \\\n  all\nrunHook postBuild\n',
+        "builder": "/bin/sh",
+        "configureFlags": f"--prefix=/usr/n{number} --disable-static --enable-shared --with-ssl",
+        "depsBuildBuild": "",
+        "doCheck": "1",
+        "installPhase": 'runHook preInstall\nmake install "DESTDIR=$out"\nrm -f "$out"/lib/*.la\nrunHook postInstall\n',
+        "nativeBuildInputs": " ".join(node.output for node in inputs[:2]),
+        "outputs": "out",
+        "patches": "",
+        "pname": f"package-{number}",
+        "preferLocalBuild": "",
+        "propagatedBuildInputs": "",
+        "src": store_path(f"source {number}", f"package-{number}.tar.gz"),
+        "stdenv": store_path("stdenv", "stdenv-linux"),
+        "strictDeps": "1",
+        "system": "x86_64-linux",
+        "version": f"1.{number % 100}",
+    }.items()
+
+
+def real_environments(n):
+    """Layers of 64 derivations of some two kilobytes, with the variables of packages; each needs 2 to 6
+    of the layer before."""
+    rng = random.Random(20_063)
+    nodes = []
+    for k in range(n):
+        first = k - k % 64
+        before = nodes[first - 64 : first] if first else []
+        inputs = rng.sample(before, rng.randint(2, 6)) if before else []
+        nodes.append(derivation(k, inputs, length=2_000, variables=environment(k, inputs)))
+    return Given(bundle_of(nodes), eight_builders(), script_of(range(n)))
+
+
 def many_machines(n):
     builders = ";".join(f"m{k} - - 1" for k in range(1_024))
     return Given(plain(n), builders, script_of(range(n)))
@@ -231,6 +269,7 @@ INPUTS = (
     Input("plain lines", plain_lines, DOUBLING),
     Input("a chain", chain, DOUBLING),
     Input("layers, 1 KB texts", layers, DOUBLING),
+    Input("real environments", real_environments, (3_700, 7_400, 14_800, 29_600)),
     Input("1,024 machines", many_machines, (65_536,)),
     Input("deep references", deep_references, (1_024, 8_192, 32_768)),
     Input("a feature for each", own_features, (2_048, 16_384)),
