@@ -17,6 +17,7 @@ use crate::lines::{is_told, opening};
 use crate::words::{cause, is_word, number_alone, number_first, outputs, paths_first};
 use nd_bytes::cut;
 use nd_history::Entry;
+use nd_path_pool::PathPool;
 use std::alloc::Global;
 
 /// The history whose text the bytes are, in either version. A text of the second version needs no
@@ -36,10 +37,11 @@ pub fn read_history(alloc: Global, text: &[u8]) -> Result<Vec<Entry>, HistoryErr
     let Some((version, mut rest)) = version_first(text) else {
         return Err(HistoryError::Version);
     };
+    let mut pool = PathPool::new(alloc);
     let mut entries = Vec::new(alloc);
     let mut line = 2;
     while !rest.is_empty() {
-        match line_first(alloc, version, rest) {
+        match line_first(alloc, version, rest, &mut pool) {
             Ok((entry, behind)) => {
                 entries.push(entry)?;
                 rest = behind;
@@ -81,7 +83,12 @@ fn behind<'a>(text: &'a [u8], first: &[u8]) -> Option<&'a [u8]>
 
 /// The entry whose line the bytes begin with, and what stands behind that line.
 #[tactic(auto, using(crate::proofs::Texts::lines))]
-fn line_first(alloc: Global, version: Version, bytes: &[u8]) -> Result<(Entry, &[u8]), LineError>
+fn line_first<'t>(
+    alloc: Global,
+    version: Version,
+    bytes: &'t [u8],
+    pool: &mut PathPool<'t>,
+) -> Result<(Entry, &'t [u8]), LineError>
     ensures found { IfOk result (λ x. IsLineFirst version bytes.now x.0 x.1.now) }
     ensures shorter { IfOk result (λ x. length x.1.now < length bytes.now) }
     ensures refused { IfErr result (λ e. Refuses e
@@ -91,7 +98,7 @@ fn line_first(alloc: Global, version: Version, bytes: &[u8]) -> Result<(Entry, &
     let Some(rest) = rest else {
         return Err(LineError::Bad);
     };
-    let entry = match line_alone(alloc, version, line) {
+    let entry = match line_alone(alloc, version, line, pool) {
         Ok(found) => found,
         Err(fault) => return Err(fault),
     };
@@ -100,7 +107,12 @@ fn line_first(alloc: Global, version: Version, bytes: &[u8]) -> Result<(Entry, &
 
 /// The entry whose words the line has.
 #[tactic(auto, using(crate::proofs::Texts::words))]
-fn line_alone(alloc: Global, version: Version, line: &[u8]) -> Result<Entry, LineError>
+fn line_alone<'t>(
+    alloc: Global,
+    version: Version,
+    line: &'t [u8],
+    pool: &mut PathPool<'t>,
+) -> Result<Entry, LineError>
     ensures found { IfOk result (IsEntryWords version (slice_split (λ b. b == 32) line.now)) }
     ensures refused { IfErr result (λ e. Refuses e
         ((entry : Entry) → IsEntryWords version (slice_split (λ b. b == 32) line.now) entry → ⊥)) }
@@ -109,7 +121,7 @@ fn line_alone(alloc: Global, version: Version, line: &[u8]) -> Result<Entry, Lin
     let Some(kind) = kind_first(word) else {
         return Err(LineError::Bad);
     };
-    let entry = match entry_alone(alloc, kind, left) {
+    let entry = match entry_alone(alloc, kind, left, pool) {
         Ok(found) => found,
         Err(fault) => return Err(fault),
     };
@@ -163,15 +175,20 @@ fn named_kind(word: &[u8]) -> Option<Kind>
 }
 
 /// The entry of this kind that the words that are left tell.
-fn entry_alone(alloc: Global, kind: Kind, left: Option<&[u8]>) -> Result<Entry, LineError>
+fn entry_alone<'t>(
+    alloc: Global,
+    kind: Kind,
+    left: Option<&'t [u8]>,
+    pool: &mut PathPool<'t>,
+) -> Result<Entry, LineError>
     ensures found { IfOk result (IsEntryOf kind (words_left left.entry)) }
     ensures refused { IfErr result (λ e. Refuses e
         ((entry : Entry) → IsEntryOf kind (words_left left.entry) entry → ⊥)) }
 {
     match kind {
         Kind::Choice => chosen(left),
-        Kind::Start => started(alloc, left),
-        Kind::Finish => built(alloc, left),
+        Kind::Start => started(alloc, left, pool),
+        Kind::Finish => built(alloc, left, pool),
         Kind::Failure => failed(left),
         Kind::Halt => stopped(left),
         Kind::NoChoice => unbuildable(left),
@@ -202,7 +219,11 @@ fn chosen(left: Option<&[u8]>) -> Result<Entry, LineError>
 
 /// A start: its derivation and the paths that were copied.
 #[tactic(auto, using(crate::proofs::LineKinds::starts))]
-fn started(alloc: Global, left: Option<&[u8]>) -> Result<Entry, LineError>
+fn started<'t>(
+    alloc: Global,
+    left: Option<&'t [u8]>,
+    pool: &mut PathPool<'t>,
+) -> Result<Entry, LineError>
     ensures found { IfOk result (IsEntryOf Kind.Start (words_left left.entry)) }
     ensures refused { IfErr result (λ e. Refuses e
         ((entry : Entry) → IsEntryOf Kind.Start (words_left left.entry) entry → ⊥)) }
@@ -210,7 +231,7 @@ fn started(alloc: Global, left: Option<&[u8]>) -> Result<Entry, LineError>
     let Some((drv, left)) = number_first(left) else {
         return Err(LineError::Bad);
     };
-    let (paths, rest) = match paths_first(alloc, left) {
+    let (paths, rest) = match paths_first(alloc, left, pool) {
         Ok(found) => found,
         Err(fault) => return Err(fault),
     };
@@ -222,7 +243,11 @@ fn started(alloc: Global, left: Option<&[u8]>) -> Result<Entry, LineError>
 
 /// An end with outputs: its derivation and each output's references.
 #[tactic(auto, using(crate::proofs::LineKinds::finishes))]
-fn built(alloc: Global, left: Option<&[u8]>) -> Result<Entry, LineError>
+fn built<'t>(
+    alloc: Global,
+    left: Option<&'t [u8]>,
+    pool: &mut PathPool<'t>,
+) -> Result<Entry, LineError>
     ensures found { IfOk result (IsEntryOf Kind.Finish (words_left left.entry)) }
     ensures refused { IfErr result (λ e. Refuses e
         ((entry : Entry) → IsEntryOf Kind.Finish (words_left left.entry) entry → ⊥)) }
@@ -230,7 +255,7 @@ fn built(alloc: Global, left: Option<&[u8]>) -> Result<Entry, LineError>
     let Some((drv, left)) = number_first(left) else {
         return Err(LineError::Bad);
     };
-    let refs = match outputs(alloc, left) {
+    let refs = match outputs(alloc, left, pool) {
         Ok(found) => found,
         Err(fault) => return Err(fault),
     };

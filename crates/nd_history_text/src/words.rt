@@ -16,6 +16,7 @@ use nd_bytes::{cut, decimal};
 use nd_closure::Refs;
 use nd_history::Why;
 use nd_path::{PathSet, StorePath};
+use nd_path_pool::PathPool;
 use std::alloc::Global;
 
 /// Whether the two words are the same.
@@ -160,16 +161,17 @@ fn is_rising(paths: &[StorePath]) -> bool
 
 /// The set of paths that the first of the words that are left are, up to an end, and the words from
 /// there on.
-pub(crate) fn paths_first(
+pub(crate) fn paths_first<'t>(
     alloc: Global,
-    left: Option<&[u8]>,
-) -> Result<(PathSet, Option<&[u8]>), LineError>
+    left: Option<&'t [u8]>,
+    pool: &mut PathPool<'t>,
+) -> Result<(PathSet, Option<&'t [u8]>), LineError>
     ensures found { IfOk result (λ x. ArePathsFirst (words_left left.entry) x.0 (words_left x.1)) }
     ensures shorter { IfOk result (λ x. left_over (option_copied x.1) ≤ left_over (option_copied left.entry)) }
     ensures refused { IfErr result (λ e. Refuses e
         ((paths rest : List (List ℕ)) → ArePathsFirst (words_left left.entry) paths rest → ⊥)) }
 {
-    let (paths, rest) = match path_words(alloc, left) {
+    let (paths, rest) = match path_words(alloc, left, pool) {
         Ok(found) => found,
         Err(fault) => return Err(fault),
     };
@@ -183,10 +185,11 @@ pub(crate) fn paths_first(
 /// The paths that the first of the words that are left are, up to an end, and the words from there
 /// on. What is refused is no set of paths either.
 #[tactic(auto, using(crate::proofs::PathLists::path_sets))]
-fn path_words(
+fn path_words<'t>(
     alloc: Global,
-    left: Option<&[u8]>,
-) -> Result<(Vec<StorePath>, Option<&[u8]>), LineError>
+    left: Option<&'t [u8]>,
+    pool: &mut PathPool<'t>,
+) -> Result<(Vec<StorePath>, Option<&'t [u8]>), LineError>
     ensures found { IfOk result (λ x. ArePathWords (words_left left.entry) x.0.items (words_left x.1)) }
     ensures shorter { IfOk result (λ x. left_over (option_copied x.1) ≤ left_over (option_copied left.entry)) }
     ensures refused { IfErr result (λ e. Refuses e
@@ -195,7 +198,7 @@ fn path_words(
     let mut paths: Vec<StorePath> = Vec::new(alloc);
     let mut rest = left;
     while let Some((word, behind)) = word_before_end(rest) {
-        match push_path(alloc, word, &mut paths) {
+        match push_path(alloc, word, pool, &mut paths) {
             Ok(()) => rest = behind,
             Err(fault) => {
                 drop(paths);
@@ -208,12 +211,17 @@ fn path_words(
 
 /// Puts the path that this word is behind those that were read.
 #[tactic(auto, using(crate::proofs::PathLists::faulty_word))]
-fn push_path(alloc: Global, word: &[u8], paths: &mut Vec<StorePath>) -> Result<(), LineError>
+fn push_path<'t>(
+    alloc: Global,
+    word: &'t [u8],
+    pool: &mut PathPool<'t>,
+    paths: &mut Vec<StorePath>,
+) -> Result<(), LineError>
     ensures found { OnOk result (paths.new.items ≡ paths.old.items ++ word.now ∷ []) }
     ensures path { OnOk result (IsPath word.now) }
     ensures refused { IfErr result (λ e. Refuses e (IsPath word.now → ⊥)) }
 {
-    let path = match StorePath::parse(alloc, word) {
+    let path = match pool.path(alloc, word) {
         Ok(path) => path,
         Err(fault) => return Err(LineError::from(fault)),
     };
@@ -223,7 +231,11 @@ fn push_path(alloc: Global, word: &[u8], paths: &mut Vec<StorePath>) -> Result<(
 
 /// The references of outputs that the words that are left are.
 #[tactic(auto, using(crate::proofs::PathLists::output_lists))]
-pub(crate) fn outputs(alloc: Global, left: Option<&[u8]>) -> Result<Refs, LineError>
+pub(crate) fn outputs<'t>(
+    alloc: Global,
+    left: Option<&'t [u8]>,
+    pool: &mut PathPool<'t>,
+) -> Result<Refs, LineError>
     ensures found { IfOk result (AreOutputs (words_left left.entry)) }
     ensures refused { IfErr result (λ e. Refuses e
         ((refs : List (List (List ℕ))) → AreOutputs (words_left left.entry) refs → ⊥)) }
@@ -235,7 +247,7 @@ pub(crate) fn outputs(alloc: Global, left: Option<&[u8]>) -> Result<Refs, LineEr
         if !is_word(word, b"o") {
             return Err(LineError::Bad);
         }
-        let (set, behind) = match paths_first(alloc, behind) {
+        let (set, behind) = match paths_first(alloc, behind, pool) {
             Ok(found) => found,
             Err(fault) => return Err(fault),
         };
