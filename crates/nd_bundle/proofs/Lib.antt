@@ -2,6 +2,7 @@ mod Apart
 pub mod Assembled
 mod Collecting
 mod Cutting
+pub mod Gathered
 pub mod Linked
 pub mod Numbers
 mod Once

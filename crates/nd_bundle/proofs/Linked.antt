@@ -1,49 +1,42 @@
 -- The steps of the loops that resolve the links between the nodes.
-use Rattle.std.proofs.Common.{◌≡◌, ℕ, ◌+◌, ◌<◌, ◌≤◌, List, [], ◌∷◌, ◌++◌, true, false, length, take, get_or, Contains, None, Some, refl, sym, ap, ◌∙◌, subst, inl, inr, arith}
-use Rattle.std.specs.List.{AllZip, list_any}
+use Rattle.std.proofs.Common.{◌≡◌, ℕ, ◌+◌, ◌<◌, ◌≤◌, List, [], ◌∷◌, ◌++◌, length, take, get_or, Contains, None, Some, sym, ap, ◌∙◌, subst, inl, inr, arith}
+use Rattle.std.specs.List.{AllZip}
 use Rattle.std.proofs.lemmas.List.{take_more, take_all, get_or_default, get_or-take, length-take-le}
 use Rattle.std.proofs.lemmas.List.Elements.{Contains-push_cases}
-use Rattle.nd_path.specs.StorePath.{path_eq}
 use Rattle.nd_bundle.specs.Settled.{AllNamesRise, NamesRise}
 use Rattle.nd_graph.specs.Graphs.{IsNumber, IsAt}
+use Rattle.nd_bundle.specs.Linking.{HasPath, Known, LacksPath}
 use Rattle.nd_bundle.specs.Numbering.{LacksItem}
-use Rattle.nd_bundle.specs.Whole.{AllNumbered, AreInputsThere, AreNumbered, AreOutputsThere, ArePlaces, HasInputs, HasOutputs, IsMissingInput, IsMissingOutput, IsNumbered, LacksInput, LacksName, LacksOutput}
+use Rattle.nd_bundle.specs.Whole.{AllNumbered, AreInputsThere, AreNumbered, AreOutputsThere, ArePlaces, HasInputs, HasOutputs, IsMissingOutput, IsNumbered, LacksInput, LacksName, LacksOutput}
 use Rattle.nd_graph.specs.declared.graph.Input.{Input}
 use Rattle.nd_bundle.specs.declared.line.NamedInput.{NamedInput}
-use Rattle.nd_bundle.proofs.Numbers.{is_there, not_there}
 use Rattle.nd_bundle.proofs.Zipped.{zip_push, zip_length, zip_at}
 
 -- one more item of a list that is walked through
-taken : {X : Type 0} (xs : List X) (i : ℕ) (x : X) → i < length xs → x ≡ get_or xs i x → take (i + 1) xs ≡ take i xs ++ x ∷ []
+pub taken : {X : Type 0} (xs : List X) (i : ℕ) (x : X) → i < length xs → x ≡ get_or xs i x → take (i + 1) xs ≡ take i xs ++ x ∷ []
 taken xs i x lt is = take_more xs i x lt ∙ ap (λ y. take i xs ++ y ∷ []) (sym is)
 
-is_item : {X : Type 0} (xs : List X) (i : ℕ) (x : X) → i < length xs → x ≡ get_or xs i x → Contains xs x
+pub is_item : {X : Type 0} (xs : List X) (i : ℕ) (x : X) → i < length xs → x ≡ get_or xs i x → Contains xs x
 is_item {X} xs i x lt is = (i, lt, sym is)
 
 -- input derivations that are there
 pub inputs_none : (paths : List (List ℕ)) (wants : List NamedInput) → HasInputs paths (take 0 wants)
 inputs_none paths wants = record { there = λ w on. absurd (omega (arith, on.1)) }
 
-pub inputs_more : (paths : List (List ℕ)) (wants : List NamedInput) (i : ℕ) (w : NamedInput) → i < length wants → w ≡ get_or wants i w → HasInputs paths (take i wants) → list_any (path_eq w.path) paths ≡ true → HasInputs paths (take (i + 1) wants)
-inputs_more paths wants i w lt is has found = record {
+pub inputs_more : (known : Known) (wants : List NamedInput) (i : ℕ) (w : NamedInput) → i < length wants → w ≡ get_or wants i w → HasInputs known.paths (take i wants) → HasPath known w → HasInputs known.paths (take (i + 1) wants)
+inputs_more known wants i w lt is has found = record {
   there = λ v on.
       elim (Contains-push_cases (take i wants) w v (subst (λ (xs : List NamedInput). Contains xs v) (taken wants i w lt is) on)) [
         | inl old ↦ has.there v old
-        | inr same ↦ subst (λ (x : NamedInput). Contains paths x.path) same (is_there paths w.path found)
+        | inr same ↦ subst (λ (x : NamedInput). Contains known.paths x.path) same found.there
       ];
 }
 
 pub inputs_all : (paths : List (List ℕ)) (wants : List NamedInput) (i : ℕ) → HasInputs paths (take i wants) → length wants ≤ i → HasInputs paths wants
 inputs_all paths wants i has all = subst (λ (xs : List NamedInput). HasInputs paths xs) (take_all i wants all) has
 
-pub input_lacking : (paths : List (List ℕ)) (wants : List NamedInput) (i : ℕ) (w : NamedInput) → i < length wants → w ≡ get_or wants i w → list_any (path_eq w.path) paths ≡ false → LacksInput paths wants
-input_lacking paths wants i w lt is none = record { want = w; asked = is_item wants i w lt is; missing = not_there paths w.path none }
-
-pub missing_here : (paths : List (List ℕ)) (wants : List (List NamedInput)) (place : ℕ) → place < length wants → ((d : ℕ) → d < place → HasInputs paths (get_or wants d [])) → LacksInput paths (get_or wants place []) → IsMissingInput paths wants (place + 1)
-missing_here paths wants place lt before lacks = record { place = place; within = lt; before = before; lacks = lacks; number = refl }
-
-pub inputs_there : (paths : List (List ℕ)) (wants : List (List NamedInput)) → ((d : ℕ) → d < length wants → HasInputs paths (get_or wants d [])) → AreInputsThere paths wants
-inputs_there paths wants all = record { there = all }
+pub input_lacking : (known : Known) (wants : List NamedInput) (i : ℕ) (w : NamedInput) → i < length wants → w ≡ get_or wants i w → LacksPath known w → LacksInput known.paths wants
+input_lacking known wants i w lt is none = record { want = w; asked = is_item wants i w lt is; missing = none.missing }
 
 -- places of names
 pub places_none : (names wanted : List (List ℕ)) → ArePlaces names (take 0 wanted) []
@@ -80,25 +73,6 @@ row_more paths names wants row i want input lt is so at = record {
 
 pub row_all : (paths : List (List ℕ)) (names : List (List (List ℕ))) (wants : List NamedInput) (row : List Input) (i : ℕ) → AreNumbered paths names (take i wants) row → length wants ≤ i → AreNumbered paths names wants row
 row_all paths names wants row i so all = subst (λ (xs : List NamedInput). AreNumbered paths names xs row) (take_all i wants all) so
-
-pub row_lacks : (paths : List (List ℕ)) (names : List (List (List ℕ))) (wants : List NamedInput) (i : ℕ) (want : NamedInput) → i < length wants → want ≡ get_or wants i want → LacksName paths names want → LacksOutput paths names wants
-row_lacks paths names wants i want lt is lacks = record { want = want; asked = is_item wants i want lt is; lacks = lacks }
-
-pub want_there : (paths : List (List ℕ)) (wants : List NamedInput) (i : ℕ) (want : NamedInput) → HasInputs paths wants → i < length wants → want ≡ get_or wants i want → Contains paths want.path
-want_there paths wants i want has lt is = has.there want (is_item wants i want lt is)
-
--- the inputs of all nodes by number
-pub rows_none : (paths : List (List ℕ)) (names : List (List (List ℕ))) (wants : List (List NamedInput)) → AllNumbered paths names (take 0 wants) []
-rows_none paths names wants = record { each = tt }
-
-pub rows_more : (paths : List (List ℕ)) (names : List (List (List ℕ))) (wants : List (List NamedInput)) (rows : List (List Input)) (i : ℕ) (wanted : List NamedInput) (row : List Input) → i < length wants → wanted ≡ get_or wants i wanted → AllNumbered paths names (take i wants) rows → AreNumbered paths names wanted row → AllNumbered paths names (take (i + 1) wants) (rows ++ row ∷ [])
-rows_more paths names wants rows i wanted row lt is so at = record {
-  each = subst (λ (xs : List (List NamedInput)). AllZip (AreNumbered paths names) xs (rows ++ row ∷ [])) (sym (taken wants i wanted lt is))
-      (zip_push (AreNumbered paths names) (take i wants) rows wanted row so.each at);
-}
-
-pub rows_all : (paths : List (List ℕ)) (names : List (List (List ℕ))) (wants : List (List NamedInput)) (rows : List (List Input)) (i : ℕ) → AllNumbered paths names (take i wants) rows → length wants ≤ i → AllNumbered paths names wants rows
-rows_all paths names wants rows i so all = subst (λ (xs : List (List NamedInput)). AllNumbered paths names xs rows) (take_all i wants all) so
 
 -- numbered inputs have the outputs that are named of them
 pub numbered_has : (paths : List (List ℕ)) (names : List (List (List ℕ))) (wants : List NamedInput) (inputs : List Input) → AreNumbered paths names wants inputs → HasOutputs paths names wants

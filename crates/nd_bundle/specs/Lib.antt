@@ -6,6 +6,7 @@ pub mod DrvPaths
 pub mod Found
 pub mod Kinds
 pub mod Lines
+pub mod Linking
 pub mod Names
 pub mod Numbered
 pub mod Numbering

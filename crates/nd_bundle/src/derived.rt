@@ -107,7 +107,7 @@ fn references_of(
         paths.push(source.try_clone()?)?;
     }
     for input in inputs {
-        paths.push(input.path.try_clone()?)?;
+        paths.push(input.store_path(alloc)?)?;
     }
     PathSet::from_vec(paths)
 }

@@ -61,24 +61,21 @@ pub(crate) fn inputs_of<'t>(
 {
     let mut inputs = Vec::with_capacity(alloc, drvs.len())?;
     for drv in drvs.into_vec() {
-        inputs.push(input_of(alloc, drv)?)?;
+        inputs.push(input_of(drv)?)?;
     }
     Ok(Items::new(inputs))
 }
 
 /// An input derivation with its store path.
-fn input_of<'t>(alloc: Global, drv: InputDrvView<'t>) -> Result<InputView<'t>, LineError>
+fn input_of<'t>(drv: InputDrvView<'t>) -> Result<InputView<'t>, LineError>
     ensures same { IfOk result (λ input. input ≡ named drv.entry) }
     ensures path { IfOk result (λ _. is_drv drv.entry.path ≡ true) }
     ensures err { IfErr result (λ fault. NotPaths fault (is_drv drv.entry.path ≡ false)) }
 {
-    match drv_store_path(alloc, drv.path.as_slice())? {
-        Some(path) => Ok(InputView {
-            path,
-            names: drv.outputs,
-        }),
-        None => Err(LineError::BadDerivation),
+    if !is_drv_store_path(drv.path.as_slice()) {
+        return Err(LineError::BadDerivation);
     }
+    Ok(InputView::new(drv.path, drv.outputs))
 }
 
 /// The sources as store paths.

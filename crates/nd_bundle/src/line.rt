@@ -1,9 +1,13 @@
 //! One line of a bundle: the path of a derivation, a space, and its text.
 
+ghost use Rattle.std.specs.Prelude.{◌≡◌, IfOk};
+ghost use Rattle.nd_path.specs.Refusals.{IsPath};
+
 use nd_aterm::Leaf;
 use nd_bytes::{ByteString, Items};
 use nd_eligible::Need;
 use nd_path::StorePath;
+use std::alloc::{AllocError, Global};
 use std::marker::Model;
 
 /// An input derivation, and the outputs that are wanted of it. It serves contracts alone: no call takes
@@ -33,21 +37,56 @@ pub struct LineNode {
     pub outputs: Items<StorePath>,
 }
 
-/// An input derivation, its names borrowed from the line. Contracts see the [`NamedInput`].
+/// An input derivation, its path and its names borrowed from the line. Contracts see the [`NamedInput`].
 #[derive(Drop)]
 pub(crate) struct InputView<'t> {
-    /// The input derivation's path.
-    pub(crate) path: StorePath,
+    /// The input derivation's path, a store path.
+    path: Leaf<'t>,
     /// The names of the outputs, in rising order, possibly none.
-    pub(crate) names: Items<Leaf<'t>>,
+    names: Items<Leaf<'t>>,
 }
 
 impl<'t> Model for InputView<'t> {
+    ghost use Rattle.nd_path.specs.Refusals.{IsPath};
     ghost use Rattle.nd_bundle.specs.declared.line.NamedInput.{NamedInput};
 
     ghost Value = { NamedInput };
 
     ghost view = { λ i. record { path = i.path; names = i.names } };
+
+    ghost invariant = { λ i. IsPath i.path };
+}
+
+impl<'t> InputView<'t> {
+    /// The input derivation with this store path, and the outputs that are wanted of it.
+    pub(crate) fn new(path: Leaf<'t>, names: Items<Leaf<'t>>) -> InputView<'t>
+        requires { IsPath path }
+        ensures path { result.path ≡ path.entry }
+        ensures names { result.names ≡ names.entry }
+    {
+        InputView { path, names }
+    }
+
+    /// The bytes of the input derivation's path.
+    pub(crate) fn path(&self) -> &[u8]
+        ensures { result.now ≡ self.now.path }
+    {
+        self.path.as_slice()
+    }
+
+    /// The names of the outputs.
+    pub(crate) fn names(&self) -> &[Leaf<'t>]
+        ensures { result.now ≡ self.now.names }
+    {
+        self.names.as_slice()
+    }
+
+    /// The input derivation's path on its own.
+    pub(crate) fn store_path(&self, alloc: Global) -> Result<StorePath, AllocError>
+        ensures { IfOk result (λ path. path ≡ self.now.path) }
+    {
+        StorePath::from_path(alloc, self.path.as_slice())
+    }
 }
 
 /// What a line says, its names borrowed from it. Contracts see the [`LineNode`].

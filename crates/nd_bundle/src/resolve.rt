@@ -1,109 +1,126 @@
 //! The inputs of nodes by number.
 
-ghost use Rattle.std.specs.Prelude.{◌≡◌, ◌<◌, [], length, Contains, IfOk, IfErr, MatchOption};
-ghost use Rattle.std.specs.List.{slice_index_or};
-ghost use Rattle.nd_bundle.specs.Settled.{AllNamesRise, NamesRise};
+ghost use Rattle.std.specs.Prelude.{IfOk, IfErr, MatchOption};
 ghost use Rattle.nd_graph.specs.Graphs.{IsNumber, IsAt};
-ghost use Rattle.nd_bundle.specs.Numbering.{IsOutputFault, LacksItem};
-ghost use Rattle.nd_bundle.specs.Whole.{AllNumbered, AreInputsThere, AreNumbered, ArePlaces, HasInputs, IsNumbered, LacksName, LacksOutput};
+ghost use Rattle.nd_bundle.specs.Linking.{AreLinks, IsInputFault, IsLineFault, IsLink, IsRowFault};
+ghost use Rattle.nd_bundle.specs.Numbering.{LacksItem};
+ghost use Rattle.nd_bundle.specs.Settled.{NamesRise};
+ghost use Rattle.nd_bundle.specs.Whole.{AreNumbered, ArePlaces, IsNumbered};
 
-use crate::fault::GraphError;
 use crate::line::InputView;
-use indexmap::IndexSet;
+use crate::link_error::LinkError;
+use crate::missing::has_inputs;
+use crate::register::Register;
 use nd_aterm::Leaf;
 use nd_bytes::Items;
-use nd_graph::{Input, find_path};
-use nd_path::StorePath;
+use nd_graph::Input;
 use std::alloc::{AllocError, Global};
 
-/// The inputs of all nodes by number; `MissingOutput` with the first line that names an output that
-/// its input derivation doesn't have.
-#[tactic(auto, using(crate::proofs::Linked::rows_none, crate::proofs::Linked::rows_more, crate::proofs::Linked::rows_all, crate::proofs::Linked::output_missing))]
-pub(crate) fn number_inputs<'t>(
+/// The inputs of each line by number, or why they have none.
+#[tactic(auto, using(crate::proofs::Gathered::links_none, crate::proofs::Gathered::links_more, crate::proofs::Gathered::links_all))]
+pub(crate) fn link_lines<'t>(
     alloc: Global,
-    paths: &IndexSet<StorePath>,
-    names: &[Items<Leaf<'t>>],
+    register: &Register<'_, 't>,
     wants: &[Items<InputView<'t>>],
-) -> Result<Vec<Items<Input>>, GraphError>
-    requires there { AreInputsThere paths.now.keys wants.now }
-    requires sized { length names.now ≡ length paths.now.keys }
-    requires rising { AllNamesRise names.now }
-    ensures ok { IfOk result (λ rows. AllNumbered paths.now.keys names.now wants.now rows.items) }
-    ensures err { IfErr result (λ fault. IsOutputFault paths.now.keys names.now wants.now fault) }
+) -> Result<Vec<Result<Items<Input>, LinkError>>, AllocError>
+    ensures { IfOk result (λ rows. AreLinks register.now wants.now rows.items) }
 {
     let mut rows = Vec::with_capacity(alloc, wants.len())?;
     for inputs in wants {
-        match number_row(alloc, paths, names, inputs.as_slice())? {
-            Some(row) => rows.push(row)?,
-            None => return Err(GraphError::MissingOutput(rows.len() + 1)),
-        }
+        rows.push(link_line(alloc, register, inputs.as_slice()))?;
     }
     Ok(rows)
 }
 
-/// The inputs of a node by number, or none where an output is missing.
-#[tactic(auto, using(crate::proofs::Linked::row_none, crate::proofs::Linked::row_more, crate::proofs::Linked::row_all, crate::proofs::Linked::row_lacks, crate::proofs::Linked::want_there))]
+/// The inputs of a line by number, or why they have none.
+pub(crate) fn link_line<'t>(
+    alloc: Global,
+    register: &Register<'_, 't>,
+    wants: &[InputView<'t>],
+) -> Result<Items<Input>, LinkError>
+    ensures { IsLink register.now wants.now result }
+{
+    match number_row(alloc, register, wants) {
+        Ok(row) => Ok(row),
+        Err(fault) => Err(first_fault(register, wants, fault)),
+    }
+}
+
+/// The first cause for which the inputs of a line have no numbers, of which one is known: an input
+/// derivation that has no line comes before an output that is missing.
+#[tactic(auto, using(crate::proofs::Gathered::output_alone))]
+fn first_fault<'t>(
+    register: &Register<'_, 't>,
+    wants: &[InputView<'t>],
+    fault: LinkError,
+) -> LinkError
+    requires { IsRowFault register.now wants.now fault }
+    ensures { IsLineFault register.now wants.now result }
+{
+    match fault {
+        LinkError::NoInput => LinkError::NoInput,
+        LinkError::NoOutput => {
+            if !has_inputs(register, wants) {
+                return LinkError::NoInput;
+            }
+            LinkError::NoOutput
+        }
+        LinkError::Memory => LinkError::Memory,
+    }
+}
+
+/// The inputs of a line by number, each looked up once.
+#[tactic(auto, using(crate::proofs::Linked::row_none, crate::proofs::Linked::row_more, crate::proofs::Linked::row_all, crate::proofs::Gathered::row_refused))]
 fn number_row<'t>(
     alloc: Global,
-    paths: &IndexSet<StorePath>,
-    names: &[Items<Leaf<'t>>],
+    register: &Register<'_, 't>,
     wants: &[InputView<'t>],
-) -> Result<Option<Items<Input>>, AllocError>
-    requires there { HasInputs paths.now.keys wants.now }
-    requires sized { length names.now ≡ length paths.now.keys }
-    requires rising { AllNamesRise names.now }
-    ensures { IfOk result (λ row. MatchOption row (LacksOutput paths.now.keys names.now wants.now) (AreNumbered paths.now.keys names.now wants.now)) }
+) -> Result<Items<Input>, LinkError>
+    ensures ok { IfOk result (AreNumbered register.now.paths register.now.names wants.now) }
+    ensures err { IfErr result (IsRowFault register.now wants.now) }
 {
     let mut row = Vec::with_capacity(alloc, wants.len())?;
     for want in wants {
-        match number_input(alloc, paths, names, want)? {
-            Some(input) => row.push(input)?,
-            None => return Ok(None),
+        match number_input(alloc, register, want) {
+            Ok(input) => row.push(input)?,
+            Err(fault) => return Err(fault),
         }
     }
-    Ok(Some(Items::new(row)))
+    Ok(Items::new(row))
 }
 
-/// An input by number, or none where an output is missing.
-#[tactic(auto, using(crate::proofs::Linked::input_lacks, crate::proofs::Linked::input_numbered))]
+/// An input by number.
+#[tactic(auto, using(crate::proofs::Gathered::path_lacks, crate::proofs::Gathered::path_at))]
 fn number_input<'t>(
     alloc: Global,
-    paths: &IndexSet<StorePath>,
-    names: &[Items<Leaf<'t>>],
+    register: &Register<'_, 't>,
     want: &InputView<'t>,
-) -> Result<Option<Input>, AllocError>
-    requires there { Contains paths.now.keys want.now.path }
-    requires sized { length names.now ≡ length paths.now.keys }
-    requires rising { AllNamesRise names.now }
-    ensures { IfOk result (λ r. MatchOption r (LacksName paths.now.keys names.now want.now) (λ input. IsNumbered paths.now.keys names.now want.now input)) }
+) -> Result<Input, LinkError>
+    ensures ok { IfOk result (IsNumbered register.now.paths register.now.names want.now) }
+    ensures err { IfErr result (IsInputFault register.now want.now) }
 {
-    let node = node_of(paths, &want.path);
-    match places_of(alloc, names_of(names, node), want.names.as_slice())? {
-        Some(outputs) => Ok(Some(Input { node, outputs })),
-        None => Ok(None),
+    match register.find(want.path()) {
+        Some(node) => number_outputs(alloc, register, want, node),
+        None => Err(LinkError::NoInput),
     }
 }
 
-/// The number of a path that is there.
-fn node_of(paths: &IndexSet<StorePath>, path: &StorePath) -> usize
-    requires { Contains paths.now.keys path.now }
-    ensures { IsAt paths.now.keys path.now result }
+/// An input by number, whose node is known.
+#[tactic(auto, using(crate::proofs::Linked::input_lacks, crate::proofs::Linked::input_numbered))]
+fn number_outputs<'t>(
+    alloc: Global,
+    register: &Register<'_, 't>,
+    want: &InputView<'t>,
+    node: usize,
+) -> Result<Input, LinkError>
+    requires { IsAt register.now.paths want.now.path node }
+    ensures ok { IfOk result (IsNumbered register.now.paths register.now.names want.now) }
+    ensures err { IfErr result (IsInputFault register.now want.now) }
 {
-    match find_path(paths, path) {
-        Some(node) => node,
-        None => unreachable!(),
+    match places_of(alloc, register.names_of(node), want.names())? {
+        Some(outputs) => Ok(Input { node, outputs }),
+        None => Err(LinkError::NoOutput),
     }
-}
-
-/// The names of the outputs of a node, which rise.
-#[tactic(auto, using(crate::proofs::Linked::names_rise_at))]
-fn names_of<'n, 't>(names: &'n [Items<Leaf<'t>>], node: usize) -> &'n [Leaf<'t>]
-    requires within { node < length names.now }
-    requires rising { AllNamesRise names.now }
-    ensures names { result.now ≡ slice_index_or names.now node [] }
-    ensures rising { NamesRise result.now }
-{
-    names[node].as_slice()
 }
 
 /// The places of the wanted names in a rising list, or none where one is missing.

@@ -3,16 +3,19 @@
 ghost use Rattle.std.specs.Prelude.{◌≡◌, length, map, Ok, IfOk, IfErr};
 ghost use Rattle.nd_graph.specs.Graphs.{rows_of, IsSound};
 ghost use Rattle.nd_bundle.specs.Settled.{links_in, AreFit, AreSized, IsFirstErr, IsGraphOfColumns, IsGraphRead, IsLinkFault, IsRead, IsReadFault, IsResolved, ReadsFit, AllNamesRise, ArePaired};
-ghost use Rattle.nd_graph.specs.Walks.{IsAcyclic};
+ghost use Rattle.nd_graph.specs.Walks.{AreDistinct, IsAcyclic};
+ghost use Rattle.nd_bundle.specs.Linking.{AreAllLinked, IsUngathered, IsUnlinked};
 ghost use Rattle.nd_bundle.specs.Whole.{links_of, IsGraphOf, IsWholeFault};
 
 use crate::columns::{Columns, split_nodes};
 use crate::fault::GraphError;
 use crate::line::{InputView, LineView};
-use crate::missing::missing_input;
+use crate::link_error::LinkError;
+use crate::missing::check_inputs;
 use crate::number::number_all;
 use crate::refusal::LineError;
-use crate::resolve::number_inputs;
+use crate::register::Register;
+use crate::resolve::link_lines;
 use indexmap::IndexSet;
 use nd_aterm::Leaf;
 use nd_bytes::Items;
@@ -95,19 +98,55 @@ fn link(alloc: Global, columns: Columns<'_>) -> Result<Graph, GraphError>
 }
 
 /// The inputs of all nodes by number; `MissingInput` or `MissingOutput` with the first such line.
+#[tactic(auto, using(crate::proofs::Gathered::resolved, crate::proofs::Gathered::ungathered_refused))]
 fn resolve<'t>(
     alloc: Global,
     paths: &IndexSet<StorePath>,
     names: &[Items<Leaf<'t>>],
     wants: &[Items<InputView<'t>>],
 ) -> Result<Vec<Items<Input>>, GraphError>
+    requires distinct { AreDistinct paths.now.keys }
     requires sized { length names.now ≡ length paths.now.keys }
     requires rising { AllNamesRise names.now }
     ensures ok { IfOk result (λ rows. IsResolved paths.now.keys names.now wants.now rows.items) }
     ensures err { IfErr result (λ fault. IsLinkFault paths.now.keys names.now wants.now fault) }
 {
-    if let Some(line) = missing_input(paths, wants) {
-        return Err(GraphError::MissingInput(line));
+    let register = Register::new(alloc, paths.as_slice(), names)?;
+    let rows = link_lines(alloc, &register, wants)?;
+    gather(alloc, rows)
+}
+
+/// The rows that the lines were linked to, or the refusal of the first line without an input, or else
+/// of the first line without an output.
+#[tactic(auto, using(crate::proofs::Gathered::input_ungathered, crate::proofs::Gathered::output_ungathered))]
+fn gather(
+    alloc: Global,
+    rows: Vec<Result<Items<Input>, LinkError>>,
+) -> Result<Vec<Items<Input>>, GraphError>
+    ensures ok { IfOk result (λ inputs. AreAllLinked rows.items inputs.items) }
+    ensures err { IfErr result (IsUngathered rows.items) }
+{
+    match check_inputs(rows.as_slice()) {
+        Ok(()) => take_rows(alloc, rows),
+        Err(fault) => Err(fault),
     }
-    number_inputs(alloc, paths, names, wants)
+}
+
+/// The rows that the lines were linked to, or the refusal of the first line that has one.
+#[tactic(auto, using(crate::proofs::Gathered::line_unlinked))]
+fn take_rows(
+    alloc: Global,
+    rows: Vec<Result<Items<Input>, LinkError>>,
+) -> Result<Vec<Items<Input>>, GraphError>
+    ensures ok { IfOk result (λ inputs. AreAllLinked rows.items inputs.items) }
+    ensures err { IfErr result (IsUnlinked rows.items) }
+{
+    let mut inputs = Vec::with_capacity(alloc, rows.len())?;
+    for row in rows {
+        match row {
+            Ok(row) => inputs.push(row)?,
+            Err(fault) => return Err(fault.at(inputs.len() + 1)),
+        }
+    }
+    Ok(inputs)
 }

@@ -3,4 +3,4 @@ use Rattle.nd_bundle.specs.Whole.{AreNumbered}
 use Rattle.nd_bundle.proofs.resolve.number_row.Given as goal
 
 abbrev pub invariant-loop-want : goal.invariant-loop-want
-invariant-loop-want l = AreNumbered l.paths.keys l.names (take l.want-index l.wants) l.row.items
+invariant-loop-want l = AreNumbered l.register.paths l.register.names (take l.want-index l.wants) l.row.items
