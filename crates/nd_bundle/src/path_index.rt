@@ -1,56 +1,14 @@
 //! The numbers of paths, looked up by their bytes.
 
 ghost use Rattle.std.specs.Prelude.{◌≡◌, IfOk};
-ghost use Rattle.std.specs.Cmp as Cmp;
-ghost use Rattle.std.specs.Cmp.Lexicographic.{nat_list_eq_equiv};
 ghost use Rattle.nd_graph.specs.Graphs.{IsNumber};
 ghost use Rattle.nd_graph.specs.Walks.{AreDistinct};
-ghost use Rattle.nd_path.specs.StorePath.{path_eq, path_input};
-ghost use Rattle.nd_path.specs.SamePaths.{paths_alike};
 
 use indexmap::IndexSet;
 use nd_path::StorePath;
+use nd_path_pool::PathKey;
 use std::alloc::{AllocError, Global};
-use std::hash::{Hash, Hasher};
 use std::marker::Model;
-
-/// The bytes of a path, which are hashed in one piece. Contracts see the list of the bytes.
-#[derive(Drop)]
-struct PathKey<'p> {
-    bytes: &'p [u8],
-}
-
-impl<'p> Model for PathKey<'p> {
-    ghost use Rattle.std.specs.Prelude.{ℕ, List};
-
-    ghost Value = { List ℕ };
-
-    ghost view = { λ k. k.bytes.now };
-}
-
-impl<'p> PartialEq for PathKey<'p> {
-    ghost eq = { path_eq };
-
-    ghost laws = { Cmp.partial_equiv_from_equiv nat_list_eq_equiv };
-
-    fn eq(&self, other: &PathKey<'p>) -> bool {
-        self.bytes == other.bytes
-    }
-}
-
-impl<'p> Eq for PathKey<'p> {
-    ghost laws = { nat_list_eq_equiv };
-}
-
-impl<'p> Hash for PathKey<'p> {
-    ghost hash_input = { path_input };
-
-    ghost respects_eq = { paths_alike };
-
-    fn hash<H: Hasher>(&self, state: &mut H) {
-        state.write(self.bytes);
-    }
-}
 
 /// The numbers of paths, from 0 in their order. Contracts see the list of the paths.
 #[derive(Drop)]
@@ -74,9 +32,7 @@ impl<'p> PathIndex<'p> {
     {
         let mut numbered = IndexSet::with_capacity(alloc, paths.len())?;
         for path in paths {
-            numbered.insert(PathKey {
-                bytes: path.bytes(),
-            })?;
+            numbered.insert(PathKey::of_piece(path.bytes()))?;
         }
         Ok(PathIndex { numbered })
     }
@@ -86,6 +42,6 @@ impl<'p> PathIndex<'p> {
     pub(crate) fn find(&self, bytes: &[u8]) -> Option<usize>
         ensures { IsNumber self.now bytes.now result }
     {
-        self.numbered.get_index_of(&PathKey { bytes })
+        self.numbered.get_index_of(&PathKey::of_piece(bytes))
     }
 }

@@ -9,5 +9,5 @@ loop-path-preserved c =
     let old : List (List ℕ) = c.loop-path.numbered.keys in
     let path : List ℕ = c.path-item.result in
     let pushed : c.insert.new.self.keys ≡ (if list_any (path_eq path) old then old else old ++ path ∷ []) =
-    c.in_ok-insert.ensures.keys ∙ ap (λ (p : List ℕ). if list_any (path_eq p) old then old else old ++ p ∷ []) c.bytes.ensures.value in
+    c.in_ok-insert.ensures.keys ∙ ap (λ (p : List ℕ). if list_any (path_eq p) old then old else old ++ p ∷ []) (c.of_piece.ensures ∙ c.bytes.ensures.value) in
     index_more c.args.paths.now old c.insert.new.self.keys c.loop-path.path-index path c.requires c.loop-path-test.true c.path-item.is c.loop-path.invariant pushed
