@@ -91,7 +91,7 @@ pub record IsReadyToStart (i : Premises) (past : List Entry) (t : Ticket) (paths
   pub right : ArePathsRight i past t.drv t.machine paths
   pub room : length (leases past) + 2 ≤ book.room
   pub fits : Fits stores a
-  pub adds : AreStartAdditions t.machine paths a
+  pub adds : AreStartAdditions stores t.machine paths a
 
 -- the end of a build that may be recorded, with all the memory that it takes
 pub record IsReadyToEnd (i : Premises) (past : List Entry) (t : Ticket) (refs : List (List (List ℕ))) (stores : Stored) (a : Additions) : Type 0 where
@@ -99,4 +99,4 @@ pub record IsReadyToEnd (i : Premises) (past : List Entry) (t : Ticket) (refs : 
   pub started : is_started t.drv past ≡ true
   pub right : AreReferencesRight i past t.drv refs
   pub fits : Fits stores a
-  pub adds : AreBuiltAdditions i t.drv t.machine refs a
+  pub adds : AreBuiltAdditions i stores t.drv t.machine refs a

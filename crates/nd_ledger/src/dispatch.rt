@@ -569,7 +569,7 @@ impl Dispatch {
             drop(inputs);
             return Err(AllocError);
         };
-        let Ok(stores) = self.stores.try_clone() else {
+        let Ok(stores) = self.stores.try_clone(alloc) else {
             drop(inputs);
             drop(book);
             return Err(AllocError);

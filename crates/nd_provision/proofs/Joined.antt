@@ -1,16 +1,20 @@
 -- Lists of what derivations need.
-use Rattle.std.proofs.Common.{◌≡◌, ℕ, zero, suc, ◌+◌, ◌<◌, List, [], ◌∷◌, ◌++◌, length, get_or, take, map, sym, ap, subst, ◌∙◌, arith, inl, inr, Some}
+use Rattle.std.proofs.Common.{◌≡◌, ℕ, zero, suc, ◌+◌, ◌<◌, List, [], ◌∷◌, ◌++◌, length, get_or, take, map, sym, ap, subst, ◌∙◌, arith, inl, inr, Some, false}
 use Rattle.std.specs.List.{Contains, flat_map, slice_get}
 use Rattle.std.proofs.lemmas.List.{get_or-map, length-map, get_or_default, flat_map_more, take_more}
 use Rattle.std.proofs.lemmas.Option.{slice_get-get_or, get_or_from_slice_get}
 use Rattle.std.proofs.lemmas.List.Elements.{Contains-append_left, Contains-append_right, Contains-append_cases, Contains-get_or}
 use Rattle.nd_graph.specs.declared.graph.Input.{Input}
-use Rattle.nd_graph.specs.Graphs.{nodes_of, IsSound}
-use Rattle.nd_history.specs.Premises.{Premises}
+use Rattle.nd_graph.specs.Graphs.{Nodes, nodes_of, IsSound}
+use Rattle.nd_history.specs.Premises.{Premises, premises}
 use Rattle.nd_history.specs.References.{sources_of, outputs_of, inputs_at, IsSource, IsNeededBy}
 use Rattle.nd_provision.specs.Stored.{AreSources, AreNeeded, named_outputs}
 use Rattle.nd_history.proofs.Closing.{node_needed}
 use Rattle.nd_history.proofs.Reported.{nothing_in, contains_here, contains_there, contains_cases}
+
+-- premises with this graph, and nothing else
+abbrev pub with_graph : Nodes → Premises
+with_graph graph = premises graph [] (record { system = []; extra = []; features = []; jobs = 0 }) [] false
 
 -- ---- lists joined
 
@@ -59,7 +63,7 @@ sources_joined i = record { exact = λ p. (to p, from p) }
 -- ---- what one derivation needs
 
 -- an output at a named place, where the places are there
-named_there : (i : Premises) (input : Input) (p : List ℕ) → ((place : ℕ) → Contains input.outputs place → place < length (outputs_of i input.node)) → Contains (named_outputs i input) p
+named_there : (i : Premises) (input : Input) (p : List ℕ) → ((place : ℕ) → Contains input.outputs place → place < length (outputs_of i input.node)) → Contains (named_outputs i.graph input) p
     → (place : ℕ) × Contains input.outputs place × (slice_get (outputs_of i input.node) place ≡ Some p)
 named_there i input p ranged h =
     let at : h.0 < length input.outputs = subst (λ (n : ℕ). h.0 < n) (length-map input.outputs (λ k. get_or (outputs_of i input.node) k [])) h.1 in
@@ -68,7 +72,7 @@ named_there i input p ranged h =
     let path : get_or (outputs_of i input.node) place [] ≡ p = sym (get_or-map (λ k. get_or (outputs_of i input.node) k []) input.outputs h.0 0 p at) ∙ h.2 in
     (place, listed, slice_get-get_or (outputs_of i input.node) place [] (ranged place listed) ∙ ap Some path)
 
-named_listed : (i : Premises) (input : Input) (p : List ℕ) (place : ℕ) → Contains input.outputs place → slice_get (outputs_of i input.node) place ≡ Some p → Contains (named_outputs i input) p
+named_listed : (i : Premises) (input : Input) (p : List ℕ) (place : ℕ) → Contains input.outputs place → slice_get (outputs_of i input.node) place ≡ Some p → Contains (named_outputs i.graph input) p
 named_listed i input p place listed path = (
   listed.0,
   rw (length-map input.outputs (λ k. get_or (outputs_of i input.node) k [])) listed.1,
@@ -77,31 +81,31 @@ named_listed i input p place listed path = (
 )
 
 pub needed_joined : (i : Premises) (d : ℕ) → ((input : Input) (place : ℕ) → Contains (inputs_at i d) input → Contains input.outputs place → place < length (outputs_of i input.node))
-    → AreNeeded i d (sources_of i d ++ flat_map (named_outputs i) (inputs_at i d))
+    → AreNeeded i d (sources_of i d ++ flat_map (named_outputs i.graph) (inputs_at i d))
 needed_joined i d ranged = record { exact = λ p. (to p, from p) }
   where
-    to : (p : List ℕ) → Contains (sources_of i d ++ flat_map (named_outputs i) (inputs_at i d)) p → IsNeededBy i d p
-    to p h = elim (Contains-append_cases (sources_of i d) (flat_map (named_outputs i) (inputs_at i d)) p h) [
+    to : (p : List ℕ) → Contains (sources_of i d ++ flat_map (named_outputs i.graph) (inputs_at i d)) p → IsNeededBy i d p
+    to p h = elim (Contains-append_cases (sources_of i d) (flat_map (named_outputs i.graph) (inputs_at i d)) p h) [
       | inl source ↦ inl source
       | inr named ↦
-          let one = in_one (named_outputs i) (inputs_at i d) p named in
+          let one = in_one (named_outputs i.graph) (inputs_at i d) p named in
           let at = named_there i one.item p (λ place k. ranged one.item place one.listed k) one.there in
           inr (record { input = one.item; needed = one.listed; place = at.0; named = at.1; path = at.2 })
     ]
 
-    from : (p : List ℕ) → IsNeededBy i d p → Contains (sources_of i d ++ flat_map (named_outputs i) (inputs_at i d)) p
-    from p (inl source) = Contains-append_left (sources_of i d) (flat_map (named_outputs i) (inputs_at i d)) p source
-    from p (inr n) = Contains-append_right (sources_of i d) (flat_map (named_outputs i) (inputs_at i d)) p
-        (in_joined (named_outputs i) (inputs_at i d) n.input p n.needed (named_listed i n.input p n.place n.named n.path))
+    from : (p : List ℕ) → IsNeededBy i d p → Contains (sources_of i d ++ flat_map (named_outputs i.graph) (inputs_at i d)) p
+    from p (inl source) = Contains-append_left (sources_of i d) (flat_map (named_outputs i.graph) (inputs_at i d)) p source
+    from p (inr n) = Contains-append_right (sources_of i d) (flat_map (named_outputs i.graph) (inputs_at i d)) p
+        (in_joined (named_outputs i.graph) (inputs_at i d) n.input p n.needed (named_listed i n.input p n.place n.named n.path))
 
 -- one more input's named outputs
 pub needed_more : (i : Premises) (d n : ℕ) (input : Input) (places : List ℕ) (outputs : List (List ℕ)) → n < length (inputs_at i d) → input ≡ get_or (inputs_at i d) n input → places ≡ input.outputs → outputs ≡ outputs_of i input.node
-    → (sources_of i d ++ flat_map (named_outputs i) (take n (inputs_at i d))) ++ map (λ k. get_or outputs k []) places ≡ sources_of i d ++ flat_map (named_outputs i) (take (n + 1) (inputs_at i d))
+    → (sources_of i d ++ flat_map (named_outputs i.graph) (take n (inputs_at i d))) ++ map (λ k. get_or outputs k []) places ≡ sources_of i d ++ flat_map (named_outputs i.graph) (take (n + 1) (inputs_at i d))
 needed_more i d n input places outputs lt is at of =
-    ap (λ (ks : List ℕ). (sources_of i d ++ flat_map (named_outputs i) (take n (inputs_at i d))) ++ map (λ k. get_or outputs k []) ks) at
-    ∙ ap (λ (xs : List (List ℕ)). (sources_of i d ++ flat_map (named_outputs i) (take n (inputs_at i d))) ++ map (λ k. get_or xs k []) input.outputs) of
-    ∙ flat_map_more (named_outputs i) (sources_of i d) (take n (inputs_at i d)) input
-    ∙ ap (λ (xs : List Input). sources_of i d ++ flat_map (named_outputs i) xs) (sym (take_more (inputs_at i d) n input lt ∙ ap (λ (x : Input). take n (inputs_at i d) ++ x ∷ []) (sym is)))
+    ap (λ (ks : List ℕ). (sources_of i d ++ flat_map (named_outputs i.graph) (take n (inputs_at i d))) ++ map (λ k. get_or outputs k []) ks) at
+    ∙ ap (λ (xs : List (List ℕ)). (sources_of i d ++ flat_map (named_outputs i.graph) (take n (inputs_at i d))) ++ map (λ k. get_or xs k []) input.outputs) of
+    ∙ flat_map_more (named_outputs i.graph) (sources_of i d) (take n (inputs_at i d)) input
+    ∙ ap (λ (xs : List Input). sources_of i d ++ flat_map (named_outputs i.graph) xs) (sym (take_more (inputs_at i d) n input lt ∙ ap (λ (x : Input). take n (inputs_at i d) ++ x ∷ []) (sym is)))
 
 -- the node of an input is there
 pub node_there : (i : Premises) (d : ℕ) (input : Input) → IsSound i.graph → Contains (inputs_at i d) input → input.node < length i.graph.paths

@@ -1,6 +1,8 @@
 pub mod Gains
 pub mod Joined
 pub mod Lookalikes
-pub mod Unheld
+pub mod Entering
+pub mod Checking
+pub mod Preparing
 pub mod Whole
 pub mod Storing

@@ -1,24 +1,30 @@
 -- What is kept of references and holdings tells the definitions over the history, and follows it.
-use Rattle.std.proofs.Common.{◌≡◌, ◌≢◌, ◌⊎◌, ℕ, zero, suc, ◌+◌, ◌<◌, ◌≤◌, Bool, true, false, ◌||◌, ◌&&◌, ◌==◌, if◌then◌else◌, cond, List, [], ◌∷◌, ◌++◌, length, refl, sym, ap, subst, ◌∙◌, arith, inl, inr, Option, Some, count_by, eq-eqb}
+use Rattle.std.proofs.Common.{◌≡◌, ◌≢◌, ◌⊎◌, ℕ, zero, suc, ◌+◌, ◌<◌, ◌≤◌, Bool, true, false, ◌||◌, ◌&&◌, ◌==◌, if◌then◌else◌, cond, List, [], ◌∷◌, ◌++◌, length, map, refl, sym, ap, subst, ◌∙◌, arith, inl, inr, Option, Some, count_by, eq-eqb}
 use Rattle.std.specs.Prelude.{◌↔◌}
 use Rattle.std.specs.Bool.{MatchBool}
 use Rattle.std.specs.List.{Contains, find, list_any, zip}
-use Rattle.std.proofs.lemmas.Bool.{cases_Bool, cases_eq, ne_eqb, eqb-true}
+use Rattle.std.proofs.lemmas.Bool.{cases_Bool, cases_eq, cases_lt, ne_eqb, eqb-true}
 use Rattle.std.proofs.lemmas.Grind.{common_steps}
 use Rattle.std.specs.Cmp.Lexicographic.{nat_list_eq_equiv}
-use Rattle.std.proofs.lemmas.List.{append-nil, append_assoc}
+use Rattle.std.proofs.lemmas.List.{append-nil, append_assoc, get_or_past}
 use Rattle.std.proofs.lemmas.List.Elements.{Contains-append_left, Contains-append_right, Contains-append_cases}
 use Rattle.nd_path.specs.StorePath.{path_eq}
 use Rattle.nd_path.specs.SamePaths.{paths_same}
 use Rattle.nd_path.specs.PathSets.{HasSameMembers}
 use Rattle.nd_closure.specs.Tables.{is_listed, refs_of}
-use Rattle.nd_closure.specs.Sets.{Stock, stock_of, is_held, IsDifference}
+use Rattle.nd_closure.specs.Sets.{is_held}
 use Rattle.nd_closure.specs.Closures.{IsReached, HoldsAll}
+use Rattle.nd_path_numbers.specs.Numbers.{Numbered, path_in, row_in, AreNumbersOf, AreNumbered}
+use Rattle.nd_path_numbers.specs.Held.{Hold, hold_of}
+use Rattle.nd_path_numbers.specs.Searches.{IsUnheld, FindsUnheld}
+use Rattle.nd_path_numbers.proofs.Growing.{known_stay, names_stay, numbered_grown}
+use Rattle.nd_path_numbers.proofs.Searched.{named, has_name}
 use Rattle.nd_closure.specs.Closures.IsReached.{seed as start, step as onward}
 use Rattle.nd_closure.proofs.Members.{member_by_test}
 use Rattle.nd_history.specs.declared.entry.Entry.{Entry}
 use Rattle.nd_history.specs.declared.entry.Entry.TheVariants.{Started, Built}
 use Rattle.nd_leases.specs.declared.ticket.Ticket.{Ticket}
+use Rattle.nd_provision.specs.declared.copying.Listing.{Listing}
 use Rattle.nd_provision.specs.declared.copying.Additions.{Additions}
 use Rattle.nd_provision.specs.declared.copying.PathsError.TheVariants.{Uncovered, Extra}
 use Rattle.nd_history.specs.Premises.{Premises}
@@ -28,12 +34,13 @@ use Rattle.nd_history.specs.Legal.{IsLegal}
 use Rattle.nd_history.specs.References.{IsAlong, outputs_of, IsGiven, reports, Refers, IsBuiltPath, is_leased_on, brought, IsHeld, ArePathsRight}
 use Rattle.nd_history.specs.References.IsAlong.{seed, step}
 use Rattle.nd_history.specs.References.Refers.{listed, reported}
-use Rattle.nd_provision.specs.Stored.{Stored, LooksLike, IsGivenTable, AreReferences, HoldsReferences, AreStored, is_quiet, IsSameStored, AreGivenEntries, AreNeeded, AreSources, IsClosureBy, IsUnheld, IsMissingBy, ArePathsRightBy, IsPathsFaultBy, AreReferencesRightBy, IsCovered, IsBare, IsOutside, AreAllWithin, IsStray, HasGained, HasTaken, AreStartAdditions, AreBuiltAdditions}
+use Rattle.nd_provision.specs.Stored.{Stored, LooksLike, IsGivenTable, AreReferences, HoldsReferences, AreStored, is_quiet, IsSameStored, AreGivenEntries, AreNeeded, AreSeeds, AreSeedsIn, AreSources, IsClosureBy, IsMissingBy, ArePathsRightBy, IsPathsFaultBy, AreReferencesRightBy, IsCovered, IsBare, IsOutside, AreAllWithin, IsStray, paths_on, seeds_of, AreNamed, Lacks, entry_of, HasEntered, HasGained, HasTaken, AreStartAdditions, AreBuiltAdditions}
 use Rattle.nd_history.proofs.Slots.{lease_once, count_cons}
 use Rattle.nd_history.proofs.Reported.{rest_true, or_true, one_of, nothing_in, contains_cases, refs_first, refs_second, built_on}
 use Rattle.nd_history.proofs.Closing.{along_more, along_within, refers_alike}
 use Rattle.nd_history.proofs.Provisions.{IsKept, held_known, known_held, adding, leased_there}
 use Rattle.nd_provision.proofs.Whole.{local_whole, first_whole, start_whole, built_whole, grown_to, to_grown}
+use Rattle.nd_provision.proofs.Gains.{gained_at, taken_at, taken_known}
 use Rattle.nd_provision.proofs.Lookalikes.{looks_same, looks_through, looks_longer}
 
 -- ---- the table tells what each path refers to
@@ -83,27 +90,35 @@ closure_by i s d needed paths are reached = record {
   );
 }
 
+-- where this is kept, no path has two numbers, and what is held is known
+pub named_in : (i : Premises) (past : List Entry) (s : Stored) (m : ℕ) → AreStored i past s → AreNamed s.numbers.paths (hold_of s.stocks m).numbers
+named_in i past s m kept = record { distinct = kept.numbered.distinct; known = kept.holdings.known m }
+
 -- what it lacks on a machine is missing
-pub missing_by : (i : Premises) (s : Stored) (d m : ℕ) (closure paths : List (List ℕ)) → m < length s.stocks → IsClosureBy i s d closure → IsDifference closure (stock_of s.stocks m).paths paths → IsMissingBy i s d m paths
+pub missing_by : (i : Premises) (s : Stored) (d m : ℕ) (closure paths : List (List ℕ)) → m < length s.stocks → IsClosureBy i s d closure → Lacks s.numbers.paths (hold_of s.stocks m).numbers closure paths → IsMissingBy i s d m paths
 missing_by i s d m closure paths within close lacks = record {
-  tells = λ past kept. record {
-    needed = λ p h. (close.tells past kept p).0 (lacks.of p h);
-    lacked = λ p h held. lacks.lacked p h ((kept.holdings.held m within p).1 held);
-    all = λ p h. elim (lacks.all p ((close.tells past kept p).1 h)) [
-      | inl there ↦ inl there
-      | inr held ↦ inr ((kept.holdings.held m within p).0 held)
-    ];
-  };
+  tells = λ past kept.
+      let lacking = lacks.tells (named_in i past s m kept) in
+      record {
+        needed = λ p h. (close.tells past kept p).0 (lacking.of p h);
+        lacked = λ p h held. lacking.lacked p h ((kept.holdings.held m within p).1 held);
+        all = λ p h. elim (lacking.all p ((close.tells past kept p).1 h)) [
+          | inl there ↦ inl there
+          | inr held ↦ inr ((kept.holdings.held m within p).0 held)
+        ];
+      };
 }
 
 -- and so is what a search finds that stops at held paths, where with a path the machine holds what it refers to
-pub unheld_by : (i : Premises) (s : Stored) (d m : ℕ) (needed paths : List (List ℕ)) → m < length s.stocks → s.whole ≡ true → AreNeeded i d needed → IsUnheld s.entries (stock_of s.stocks m).paths needed paths → IsMissingBy i s d m paths
-unheld_by i s d m needed paths within whole are found = record {
+pub unheld_by : (i : Premises) (s : Stored) (d m : ℕ) (paths : List (List ℕ)) → m < length s.stocks → d < length i.graph.paths → s.whole ≡ true → FindsUnheld s.numbers (hold_of s.stocks m).numbers (row_in s.seeds d) paths → IsMissingBy i s d m paths
+unheld_by i s d m paths within ranged whole finds = record {
   tells = λ past kept.
+      let found : IsUnheld s.entries (paths_on s m) (seeds_of s d) paths = finds.tells s.entries kept.numbered (kept.holdings.known m) (kept.seeds.known d) in
+      let are = kept.seeds.needed d ranged in
       let refers = table_refers i past s.entries kept.references in
       let holds = kept.whole whole m within in
       record {
-        needed = λ p h. reached_along s.entries needed (λ q k. (are.exact q).0 k) (λ q r k. (refers q r).0 k) p (found.reached p h);
+        needed = λ p h. reached_along s.entries (seeds_of s d) (λ q k. (are.exact q).0 k) (λ q r k. (refers q r).0 k) p (found.reached p h);
         lacked = λ p h held. found.lacked p h ((kept.holdings.held m within p).1 held);
         all = λ p h. along_within (λ x. Contains paths x ⊎ IsHeld i past m x)
             (λ q k. elim (found.seeded q ((are.exact q).1 k)) [ inl there ↦ inl there | inr held ↦ inr ((kept.holdings.held m within q).0 held) ])
@@ -122,7 +137,7 @@ exact_by i s d m paths are = record {
 }
 
 -- copied paths are right where they lie in the closure and cover it
-pub right_by : (i : Premises) (s : Stored) (d m : ℕ) (closure paths : List (List ℕ)) → m < length s.stocks → IsClosureBy i s d closure → IsCovered closure (stock_of s.stocks m).paths paths → HoldsAll closure paths → ArePathsRightBy i s d m paths
+pub right_by : (i : Premises) (s : Stored) (d m : ℕ) (closure paths : List (List ℕ)) → m < length s.stocks → IsClosureBy i s d closure → IsCovered closure (paths_on s m) paths → HoldsAll closure paths → ArePathsRightBy i s d m paths
 right_by i s d m closure paths within close covers lie = record {
   tells = λ past kept. record {
     needed = λ p h. (close.tells past kept p).0 (lie.each p h);
@@ -133,17 +148,19 @@ right_by i s d m closure paths within close covers lie = record {
   };
 }
 
-pub uncovered_by : (i : Premises) (s : Stored) (d m : ℕ) (closure paths : List (List ℕ)) → m < length s.stocks → IsClosureBy i s d closure → IsBare closure (stock_of s.stocks m).paths paths → IsPathsFaultBy i s d m paths Uncovered
-uncovered_by i s d m closure paths within close bare = record {
-  tells = λ past kept. record {
-    path = bare.path;
-    needed = (close.tells past kept bare.path).0 bare.needed;
-    lacked = λ held. bare.lacked ((kept.holdings.held m within bare.path).1 held);
-    uncopied = bare.uncopied;
-  };
+pub uncovered_by : (i : Premises) (s : Stored) (d m : ℕ) (closure paths : List (List ℕ)) → m < length s.stocks → IsClosureBy i s d closure → (AreNamed s.numbers.paths (hold_of s.stocks m).numbers → IsBare closure (paths_on s m) paths) → IsPathsFaultBy i s d m paths Uncovered
+uncovered_by i s d m closure paths within close is_bare = record {
+  tells = λ past kept.
+      let bare = is_bare (named_in i past s m kept) in
+      record {
+        path = bare.path;
+        needed = (close.tells past kept bare.path).0 bare.needed;
+        lacked = λ held. bare.lacked ((kept.holdings.held m within bare.path).1 held);
+        uncopied = bare.uncopied;
+      };
 }
 
-pub extra_by : (i : Premises) (s : Stored) (d m : ℕ) (closure paths : List (List ℕ)) → m < length s.stocks → IsClosureBy i s d closure → IsCovered closure (stock_of s.stocks m).paths paths → IsOutside closure paths → IsPathsFaultBy i s d m paths Extra
+pub extra_by : (i : Premises) (s : Stored) (d m : ℕ) (closure paths : List (List ℕ)) → m < length s.stocks → IsClosureBy i s d closure → IsCovered closure (paths_on s m) paths → IsOutside closure paths → IsPathsFaultBy i s d m paths Extra
 extra_by i s d m closure paths within close covers outside = record {
   tells = λ past kept. record {
     covered = λ p h. elim (covers.each p ((close.tells past kept p).1 h)) [
@@ -240,38 +257,66 @@ held_at_first i p = (λ h. known p (held_known i [] tt p h), λ g. known_held i 
     known p (inl g) = g
     known p (inr b) = let none = b.built in cc
 
-pub stored_at_first : (i : Premises) (given : List (List ℕ)) (entries table : List (List ℕ × List (List ℕ))) (spare : ℕ) (empty stocks : List Stock)
-    → ((p : List ℕ) → Contains given p ↔ IsGiven i p) → AreGivenEntries i.info given entries → LooksLike table entries
-    → length empty ≡ machines_in i → ((m : ℕ) → (stock_of empty m).paths ≡ []) → HasGained empty stocks 0 given → AreStored i [] (record { entries = table; spare = spare; stocks = stocks; whole = true })
-stored_at_first i given entries table spare empty stocks exact are looks park none gained = record {
+-- what each derivation needs, for premises with this graph
+pub seeds_in : (i : Premises) (s : Stored) → AreSeedsIn i.graph s.numbers.paths s.seeds → length s.seeds ≡ length i.graph.paths → AreSeeds i s
+seeds_in i s are sized = record {
+  known = λ d. elim (cases_lt d (length s.seeds)) [
+    | inl within ↦ (are.each d within).known
+    | inr past ↦ (let none : row_in s.seeds d ≡ [] = get_or_past s.seeds d [] past in rw none (record { each = λ n h. absurd (omega (arith, h.1)) }))
+  ];
+  needed = λ d lt. (are.each d (omega (arith, sized, lt))).needed.tells i refl;
+}
+
+pub stored_at_first : (i : Premises) (given : List (List ℕ)) (entries : List Listing) (before : Numbered) (own : List ℕ) (empty : List Hold) (s : Stored)
+    → ((p : List ℕ) → Contains given p ↔ IsGiven i p) → AreGivenEntries i.info given (map entry_of entries) → HasEntered [] s.entries before s.numbers entries → AreNumbered [] before
+    → AreSeeds i s → AreNumbersOf s.numbers.paths given own → length empty ≡ machines_in i → ((m : ℕ) → (hold_of empty m).numbers ≡ []) → HasGained empty s.stocks 0 own → AreStored i [] s
+stored_at_first i given entries before own empty s exact are entered told seeds owned park none gained = record {
   references = record {
-    given = entries;
-    base = given_table i given entries exact are;
-    looks = looks_through table entries (entries ++ []) looks (looks_same entries (entries ++ []) (sym (append-nil entries)));
+    given = map entry_of entries;
+    base = given_table i given (map entry_of entries) exact are;
+    looks = looks_through s.entries (map entry_of entries) (map entry_of entries ++ []) entered.looks (looks_same (map entry_of entries) (map entry_of entries ++ []) (sym (append-nil (map entry_of entries))));
   };
+  numbered = entered.numbered told;
+  seeds = seeds;
   holdings = record {
     park = gained.size ∙ park;
+    known = λ m. record {
+      each = λ n h. elim ((gained_at empty s.stocks 0 own gained m n).0 h) [
+        | inl old ↦ (let never : Contains [] n = subst (λ (xs : List ℕ). Contains xs n) (none m) old in absurd (omega (arith, never.1)))
+        | inr there ↦ owned.known.each n there.1
+      ];
+    };
     held = at;
   };
   whole = λ _ m lt. first_whole i m;
 }
   where
-    at : (m : ℕ) → m < length stocks → (p : List ℕ) → Contains (stock_of stocks m).paths p ↔ IsHeld i [] m p
+    among : (m : ℕ) (p : List ℕ) → Contains (paths_on s m) p → (m ≡ 0) × Contains given p
+    among m p h =
+        let it = named s.numbers.paths (hold_of s.stocks m).numbers p h in
+        elim ((gained_at empty s.stocks 0 own gained m it.0).0 it.1) [
+          | inl old ↦ (let never : Contains [] it.0 = subst (λ (xs : List ℕ). Contains xs it.0) (none m) old in absurd (omega (arith, never.1)))
+          | inr there ↦ (there.0, subst (λ (xs : List (List ℕ)). Contains xs p) owned.named (subst (λ (x : List ℕ). Contains (map (path_in s.numbers.paths) own) x) it.2 (has_name s.numbers.paths own it.0 there.1)))
+        ]
+
+    has : (p : List ℕ) → Contains given p → Contains (paths_on s 0) p
+    has p h =
+        let it = named s.numbers.paths own p (subst (λ (xs : List (List ℕ)). Contains xs p) (sym owned.named) h) in
+        subst (λ (x : List ℕ). Contains (paths_on s 0) x) it.2 (has_name s.numbers.paths (hold_of s.stocks 0).numbers it.0 ((gained_at empty s.stocks 0 own gained 0 it.0).1 (inr (refl, it.1))))
+
+    at : (m : ℕ) → m < length s.stocks → (p : List ℕ) → Contains (paths_on s m) p ↔ IsHeld i [] m p
     at zero lt p = (
-      λ h. (held_at_first i p).1 ((exact p).0 (elim ((gained.gained p).0 h) [
-        | inl old ↦ absurd (nothing_in p (subst (λ (xs : List (List ℕ)). Contains xs p) (none 0) old))
-        | inr there ↦ there
-      ])),
-      λ h. (gained.gained p).1 (inr ((exact p).1 ((held_at_first i p).0 h))),
+      λ h. (held_at_first i p).1 ((exact p).0 (among 0 p h).1),
+      λ h. has p ((exact p).1 ((held_at_first i p).0 h)),
     )
     at (suc k) lt p = (
-      λ h. subst (λ (xs : List (List ℕ)). Contains xs p) (ap (λ (s : Stock). s.paths) (gained.others (suc k) (λ same. omega arith)) ∙ none (suc k)) h,
+      λ h. let never = (among (suc k) p h).0 in absurd (omega arith),
       λ h. absurd (nothing_in p h),
     )
 
 -- ---- one more entry
 
--- reserving room changes nothing
+-- reserving room, and numbers for more paths, change nothing
 pub stored_same : (i : Premises) (past : List Entry) (old new : Stored) → IsSameStored old new → AreStored i past old → AreStored i past new
 stored_same i past old new same are = record {
   references = record {
@@ -279,9 +324,20 @@ stored_same i past old new same are = record {
     base = are.references.base;
     looks = looks_through new.entries old.entries (are.references.given ++ reports i past) (looks_same new.entries old.entries same.entries) are.references.looks;
   };
+  numbered = rw same.entries (numbered_grown old.entries old.numbers new.numbers same.numbers are.numbered);
+  seeds = record {
+    known = λ d. rw same.seeds (known_stay old.numbers new.numbers (row_in old.seeds d) same.numbers (are.seeds.known d));
+    needed = λ d lt.
+        let rows : row_in new.seeds d ≡ row_in old.seeds d = ap (λ (rs : List (List ℕ)). row_in rs d) same.seeds in
+        let names : seeds_of new d ≡ seeds_of old d = ap (map (path_in new.numbers.paths)) rows ∙ names_stay old.numbers new.numbers (row_in old.seeds d) same.numbers (are.seeds.known d) in
+        subst (λ (xs : List (List ℕ)). AreNeeded i d xs) (sym names) (are.seeds.needed d lt);
+  };
   holdings = record {
     park = same.park ∙ are.holdings.park;
-    held = λ m lt p. subst (λ (xs : List (List ℕ)). Contains xs p ↔ IsHeld i past m p) (sym (same.paths m)) (are.holdings.held m (subst (λ (n : ℕ). m < n) same.park lt) p);
+    known = λ m. rw (same.held m) (known_stay old.numbers new.numbers (hold_of old.stocks m).numbers same.numbers (are.holdings.known m));
+    held = λ m lt p.
+        let names : paths_on new m ≡ paths_on old m = ap (map (path_in new.numbers.paths)) (same.held m) ∙ names_stay old.numbers new.numbers (hold_of old.stocks m).numbers same.numbers (are.holdings.known m) in
+        subst (λ (xs : List (List ℕ)). Contains xs p ↔ IsHeld i past m p) (sym names) (are.holdings.held m (subst (λ (n : ℕ). m < n) same.park lt) p);
   };
   whole = λ w m lt. are.whole (sym same.whole ∙ w) m (subst (λ (n : ℕ). m < n) same.park lt);
 }
@@ -309,8 +365,11 @@ stored_on i past e s same held are = record {
     looks = looks_through s.entries (are.references.given ++ reports i past) (are.references.given ++ reports i (e ∷ past)) are.references.looks
         (looks_same _ _ (ap (λ (t : List (List ℕ × List (List ℕ))). are.references.given ++ t) (sym same)));
   };
+  numbered = are.numbered;
+  seeds = are.seeds;
   holdings = record {
     park = are.holdings.park;
+    known = are.holdings.known;
     held = λ m lt p. (λ h. (held m p).0 ((are.holdings.held m lt p).0 h), λ h. (are.holdings.held m lt p).1 ((held m p).1 h));
   };
   whole = λ w m lt. record { each = λ p q h r. (held m q).0 ((are.whole w m lt).each p q ((held m p).1 h) (refers_alike i (e ∷ past) past same p q r)) };
@@ -405,27 +464,12 @@ leased_on_is i past legal d m t found =
 
 -- ---- starts and builds
 
--- what every machine holds after paths were added to one
-pub gained_at : (old new : List Stock) (m : ℕ) (paths : List (List ℕ)) → HasGained old new m paths → (k : ℕ) (p : List ℕ) → Contains (stock_of new k).paths p ↔ Contains (stock_of old k).paths p ⊎ ((k ≡ m) × Contains paths p)
-gained_at old new m paths g k p = elim (cases_eq k m) [
-  | inl same ↦ (
-    λ h. elim ((g.gained p).0 (subst (λ (n : ℕ). Contains (stock_of new n).paths p) same h)) [
-      | inl before ↦ inl (subst (λ (n : ℕ). Contains (stock_of old n).paths p) (sym same) before)
-      | inr among ↦ inr (same, among)
-    ],
-    λ h. subst (λ (n : ℕ). Contains (stock_of new n).paths p) (sym same) ((g.gained p).1 (elim h [
-      | inl before ↦ inl (subst (λ (n : ℕ). Contains (stock_of old n).paths p) same before)
-      | inr among ↦ inr among.1
-    ])),
-  )
-  | inr other ↦ (
-    λ h. inl (subst (λ (s : Stock). Contains s.paths p) (g.others k other) h),
-    λ h. elim h [
-      | inl before ↦ subst (λ (s : Stock). Contains s.paths p) (sym (g.others k other)) before
-      | inr among ↦ absurd (other among.0)
-    ],
-  )
-]
+-- what is needed stays, where paths and seeds do
+seeds_stay : (i : Premises) (old new : Stored) → new.numbers.paths ≡ old.numbers.paths → new.seeds ≡ old.seeds → AreSeeds i old → AreSeeds i new
+seeds_stay i old new paths seeds are = record {
+  known = λ d. rw (paths, seeds) (are.known d);
+  needed = λ d lt. rw (paths, seeds) (are.needed d lt);
+}
 
 -- what a builder got
 abbrev part : ℕ → List (List ℕ) → List (List ℕ)
@@ -460,17 +504,20 @@ builder_holds i past legal d k t paths before p found =
 
 -- a start is taken in
 pub stored_start : (i : Premises) (past : List Entry) (d : ℕ) (t : Ticket) (paths : List (List ℕ)) (old new : Stored) (a : Additions)
-    → IsLegal i past → lease_of d past ≡ Some t → ArePathsRight i past d t.machine paths → AreStored i past old → AreStartAdditions t.machine paths a → HasTaken old new a → AreStored i (Started d paths ∷ past) new
+    → IsLegal i past → lease_of d past ≡ Some t → ArePathsRight i past d t.machine paths → AreStored i past old → AreStartAdditions old t.machine paths a → HasTaken old new a → AreStored i (Started d paths ∷ past) new
 stored_start i past d t paths old new a legal found right are adds took = record {
   references = record {
     given = are.references.given;
     base = are.references.base;
     looks = looks_through new.entries old.entries (are.references.given ++ reports i past)
-        (looks_through new.entries (old.entries ++ a.entries.items) old.entries took.entries
-        (looks_same (old.entries ++ a.entries.items) old.entries (ap (λ (x : List (List ℕ × List (List ℕ))). old.entries ++ x) adds.entries ∙ append-nil old.entries))) are.references.looks;
+        (looks_through new.entries (old.entries ++ map entry_of a.entries.items) old.entries took.entered.looks
+        (looks_same (old.entries ++ map entry_of a.entries.items) old.entries (ap (λ (x : List Listing). old.entries ++ map entry_of x) adds.entries ∙ append-nil old.entries))) are.references.looks;
   };
+  numbered = took.entered.numbered are.numbered;
+  seeds = seeds_stay i old new took.entered.paths took.seeds are.seeds;
   holdings = record {
     park = took.brought.size ∙ took.own.size ∙ are.holdings.park;
+    known = taken_known old new a took are.holdings.known;
     held = λ m lt p. at m (subst (λ (n : ℕ). m < n) (took.brought.size ∙ took.own.size) lt) p;
   };
   whole = λ w m lt. start_whole i past d t.machine paths m (λ on. only_there i past legal d m t found on) right
@@ -478,22 +525,22 @@ stored_start i past d t paths old new a legal found right are adds took = record
 }
   where
     -- what is held is what was held, and on the ticket's machine what came to it
-    now : (m : ℕ) (p : List ℕ) → Contains (stock_of new.stocks m).paths p ↔ Contains (stock_of old.stocks m).paths p ⊎ ((m ≡ t.machine) × Contains (part t.machine paths) p)
+    now : (m : ℕ) (p : List ℕ) → Contains (paths_on new m) p ↔ Contains (paths_on old m) p ⊎ ((m ≡ t.machine) × Contains (part t.machine paths) p)
     now m p = (
-      λ h. elim ((gained_at took.between new.stocks a.machine a.brought.items took.brought m p).0 h) [
-        | inl before ↦ (elim ((gained_at old.stocks took.between 0 a.own.items took.own m p).0 before) [
-          | inl first ↦ inl first
-          | inr own ↦ absurd (nothing_in p (subst (λ (xs : List (List ℕ)). Contains xs p) adds.own own.1))
+      λ h. elim ((taken_at old new a took m p).0 h) [
+        | inl first ↦ inl first
+        | inr more ↦ (elim more [
+          | inl own ↦ absurd (nothing_in p (subst (λ (xs : List ℕ). Contains (map (path_in old.numbers.paths) xs) p) adds.own own.1))
+          | inr came ↦ inr (came.0 ∙ adds.machine, subst (λ (xs : List (List ℕ)). Contains xs p) adds.brought came.1)
         ])
-        | inr came ↦ inr (came.0 ∙ adds.machine, subst (λ (xs : List (List ℕ)). Contains xs p) adds.brought came.1)
       ],
-      λ h. (gained_at took.between new.stocks a.machine a.brought.items took.brought m p).1 (elim h [
-        | inl first ↦ inl ((gained_at old.stocks took.between 0 a.own.items took.own m p).1 (inl first))
-        | inr came ↦ inr (came.0 ∙ sym adds.machine, subst (λ (xs : List (List ℕ)). Contains xs p) (sym adds.brought) came.1)
+      λ h. (taken_at old new a took m p).1 (elim h [
+        | inl first ↦ inl first
+        | inr came ↦ inr (inr (came.0 ∙ sym adds.machine, subst (λ (xs : List (List ℕ)). Contains xs p) (sym adds.brought) came.1))
       ]),
     )
 
-    at : (m : ℕ) → m < length old.stocks → (p : List ℕ) → Contains (stock_of new.stocks m).paths p ↔ IsHeld i (Started d paths ∷ past) m p
+    at : (m : ℕ) → m < length old.stocks → (p : List ℕ) → Contains (paths_on new m) p ↔ IsHeld i (Started d paths ∷ past) m p
     at zero lt p =
         let stays = local_stays i past (Started d paths) refl (λ e. refl) p in (
           λ h. stays.0 ((are.holdings.held 0 lt p).0 (elim ((now 0 p).0 h) [
@@ -515,26 +562,29 @@ stored_start i past d t paths old new a legal found right are adds took = record
         )
 
 -- the reports of a build are taken in
-built_references : (i : Premises) (past : List Entry) (d m : ℕ) (refs : List (List (List ℕ))) (old new : List (List ℕ × List (List ℕ))) (a : Additions)
-    → AreReferences i past old → AreBuiltAdditions i d m refs a → LooksLike new (old ++ a.entries.items) → AreReferences i (Built d refs ∷ past) new
-built_references i past d m refs old new a are adds took = record {
+built_references : (i : Premises) (past : List Entry) (d : ℕ) (refs : List (List (List ℕ))) (old new : List (List ℕ × List (List ℕ))) (listings : List Listing)
+    → AreReferences i past old → map entry_of listings ≡ zip (outputs_of i d) refs → LooksLike new (old ++ map entry_of listings) → AreReferences i (Built d refs ∷ past) new
+built_references i past d refs old new listings are is took = record {
   given = are.given;
   base = are.base;
   looks = looks_through new ((are.given ++ reports i past) ++ zip (outputs_of i d) refs) (are.given ++ (reports i past ++ zip (outputs_of i d) refs))
       (looks_through new (old ++ zip (outputs_of i d) refs) ((are.given ++ reports i past) ++ zip (outputs_of i d) refs)
-      (looks_through new (old ++ a.entries.items) (old ++ zip (outputs_of i d) refs) took
-      (looks_same _ _ (ap (λ (x : List (List ℕ × List (List ℕ))). old ++ x) adds.entries)))
+      (looks_through new (old ++ map entry_of listings) (old ++ zip (outputs_of i d) refs) took
+      (looks_same _ _ (ap (λ (x : List (List ℕ × List (List ℕ))). old ++ x) is)))
       (looks_longer old (are.given ++ reports i past) (zip (outputs_of i d) refs) are.looks))
       (looks_same _ _ (append_assoc are.given (reports i past) (zip (outputs_of i d) refs)));
 }
 
 -- a build is taken in
 pub stored_built : (i : Premises) (past : List Entry) (d : ℕ) (t : Ticket) (refs : List (List (List ℕ))) (old new : Stored) (a : Additions)
-    → IsLegal i (Built d refs ∷ past) → lease_of d past ≡ Some t → AreStored i past old → AreBuiltAdditions i d t.machine refs a → HasTaken old new a → AreStored i (Built d refs ∷ past) new
+    → IsLegal i (Built d refs ∷ past) → lease_of d past ≡ Some t → AreStored i past old → AreBuiltAdditions i old d t.machine refs a → HasTaken old new a → AreStored i (Built d refs ∷ past) new
 stored_built i past d t refs old new a legal found are adds took = record {
-  references = built_references i past d t.machine refs old.entries new.entries a are.references adds took.entries;
+  references = built_references i past d refs old.entries new.entries a.entries.items are.references adds.entries took.entered.looks;
+  numbered = took.entered.numbered are.numbered;
+  seeds = seeds_stay i old new took.entered.paths took.seeds are.seeds;
   holdings = record {
     park = took.brought.size ∙ took.own.size ∙ are.holdings.park;
+    known = taken_known old new a took are.holdings.known;
     held = λ m lt p. at m (subst (λ (n : ℕ). m < n) (took.brought.size ∙ took.own.size) lt) p;
   };
   whole = λ w m lt.
@@ -547,34 +597,34 @@ stored_built i past d t refs old new a legal found are adds took = record {
     whole was has zero lt = local_whole i (Built d refs ∷ past)
     whole was has (suc k) lt = built_whole i past d refs k legal (are.whole was (suc k) lt) (λ on p q out r.
         let same : suc k ≡ t.machine = only_there i past legal.1 d (suc k) t found on in
-        let refers = table_refers i (Built d refs ∷ past) new.entries (built_references i past d t.machine refs old.entries new.entries a are.references adds took.entries) p q in
-        let said : Contains (refs_of (old.entries ++ a.entries.items) p) q = subst (λ (rs : List (List ℕ)). Contains rs q) (took.entries.refs p) (refers.1 r) in
-        elim ((took.provided.held has).each p q (subst (λ (xs : List (List ℕ)). Contains xs p) (sym adds.own) out) said) [
-          | inl held ↦ inl ((are.holdings.held (suc k) lt q).0 (subst (λ (n : ℕ). Contains (stock_of old.stocks n).paths q) (adds.machine ∙ sym same) held))
+        let refers = table_refers i (Built d refs ∷ past) new.entries (built_references i past d refs old.entries new.entries a.entries.items are.references adds.entries took.entered.looks) p q in
+        let said : Contains (refs_of (old.entries ++ map entry_of a.entries.items) p) q = subst (λ (rs : List (List ℕ)). Contains rs q) (took.entered.looks.refs p) (refers.1 r) in
+        elim ((took.provided.held are.numbered has).each p q (subst (λ (xs : List (List ℕ)). Contains xs p) (sym adds.own) out) said) [
+          | inl held ↦ inl ((are.holdings.held (suc k) lt q).0 (subst (λ (n : ℕ). Contains (paths_on old n) q) (adds.machine ∙ sym same) held))
           | inr own ↦ inr (subst (λ (xs : List (List ℕ)). Contains xs q) adds.own own)
         ])
 
     -- what is held is what was held, on the local machine the outputs, and on the ticket's machine what came to it
-    now : (m : ℕ) (p : List ℕ) → Contains (stock_of new.stocks m).paths p
-        ↔ Contains (stock_of old.stocks m).paths p ⊎ (((m ≡ 0) × Contains (outputs_of i d) p) ⊎ ((m ≡ t.machine) × Contains (part t.machine (outputs_of i d)) p))
+    now : (m : ℕ) (p : List ℕ) → Contains (paths_on new m) p
+        ↔ Contains (paths_on old m) p ⊎ (((m ≡ 0) × Contains (outputs_of i d) p) ⊎ ((m ≡ t.machine) × Contains (part t.machine (outputs_of i d)) p))
     now m p = (
-      λ h. elim ((gained_at took.between new.stocks a.machine a.brought.items took.brought m p).0 h) [
-        | inl before ↦ (elim ((gained_at old.stocks took.between 0 a.own.items took.own m p).0 before) [
-          | inl first ↦ inl first
-          | inr own ↦ inr (inl (own.0, subst (λ (xs : List (List ℕ)). Contains xs p) adds.own own.1))
-        ])
-        | inr came ↦ inr (inr (came.0 ∙ adds.machine, subst (λ (xs : List (List ℕ)). Contains xs p) adds.brought came.1))
-      ],
-      λ h. (gained_at took.between new.stocks a.machine a.brought.items took.brought m p).1 (elim h [
-        | inl first ↦ inl ((gained_at old.stocks took.between 0 a.own.items took.own m p).1 (inl first))
+      λ h. elim ((taken_at old new a took m p).0 h) [
+        | inl first ↦ inl first
         | inr more ↦ (elim more [
-          | inl own ↦ inl ((gained_at old.stocks took.between 0 a.own.items took.own m p).1 (inr (own.0, subst (λ (xs : List (List ℕ)). Contains xs p) (sym adds.own) own.1)))
-          | inr came ↦ inr (came.0 ∙ sym adds.machine, subst (λ (xs : List (List ℕ)). Contains xs p) (sym adds.brought) came.1)
+          | inl own ↦ inr (inl (own.0, subst (λ (xs : List (List ℕ)). Contains xs p) adds.own own.1))
+          | inr came ↦ inr (inr (came.0 ∙ adds.machine, subst (λ (xs : List (List ℕ)). Contains xs p) adds.brought came.1))
+        ])
+      ],
+      λ h. (taken_at old new a took m p).1 (elim h [
+        | inl first ↦ inl first
+        | inr more ↦ (elim more [
+          | inl own ↦ inr (inl (own.0, subst (λ (xs : List (List ℕ)). Contains xs p) (sym adds.own) own.1))
+          | inr came ↦ inr (inr (came.0 ∙ sym adds.machine, subst (λ (xs : List (List ℕ)). Contains xs p) (sym adds.brought) came.1))
         ])
       ]),
     )
 
-    at : (m : ℕ) → m < length old.stocks → (p : List ℕ) → Contains (stock_of new.stocks m).paths p ↔ IsHeld i (Built d refs ∷ past) m p
+    at : (m : ℕ) → m < length old.stocks → (p : List ℕ) → Contains (paths_on new m) p ↔ IsHeld i (Built d refs ∷ past) m p
     at zero lt p =
         let adding_p = adding i past d refs legal p in (
           λ h. adding_p.1 (elim ((now 0 p).0 h) [

@@ -1,28 +1,42 @@
 //! Copies of paths, and what is added to tables of references and to holdings.
 
-ghost use Rattle.std.specs.Prelude.{◌≡◌, ◌+◌, ◌<◌, ◌≤◌, ◌++◌, List, length, IfOk, OnOk};
-ghost use Rattle.std.specs.List.{Contains, zip};
+ghost use Rattle.std.specs.Prelude.{◌≡◌, ◌+◌, ◌<◌, ◌≤◌, ◌++◌, ◌∷◌, [], length, IfOk, OnOk};
 ghost use Rattle.nd_path.specs.PathSets.{HasSameMembers};
-ghost use Rattle.nd_closure.specs.Sets.{stock_of};
+ghost use Rattle.nd_path_numbers.specs.Held.{hold_of};
 ghost use Rattle.nd_provision.specs.declared.copying.PathsError.TheVariants.{Memory};
-ghost use Rattle.nd_provision.specs.Stored.{LooksLike, HasGained};
+ghost use Rattle.nd_provision.specs.Stored.{IsListing, AreListings, HasEntered, HasGained};
 
-use nd_closure::{Holdings, RefTable};
+use nd_bytes::Items;
+use nd_closure::RefTable;
 use nd_path::{PathSet, StorePath};
+use nd_path_numbers::{Holdings, PathNumbers};
 use std::alloc::{AllocError, Global};
 
+/// A path with the set of what it refers to, and the same by number.
+#[derive(Drop, Debug)]
+pub struct Listing {
+    /// The path.
+    pub path: StorePath,
+    /// What it refers to.
+    pub refs: PathSet,
+    /// The path's number.
+    pub number: usize,
+    /// The numbers of what it refers to.
+    pub row: Items<usize>,
+}
+
 /// What a start or a build adds to a table of references and to the holdings of a machine and of the
-/// local one: copies of it, made before anything is changed.
+/// local one, made before anything is changed.
 #[derive(Drop, Debug)]
 pub struct Additions {
     /// The machine.
     pub machine: usize,
     /// Paths with their references.
-    pub entries: Vec<(StorePath, PathSet)>,
-    /// What the local machine gets.
-    pub own: Vec<StorePath>,
-    /// What the machine gets, where it isn't the local one.
-    pub brought: Vec<StorePath>,
+    pub entries: Vec<Listing>,
+    /// The numbers of what the local machine gets.
+    pub own: Vec<usize>,
+    /// The numbers of what the machine gets, where it isn't the local one.
+    pub brought: Vec<usize>,
     /// Where this is so, the machine has what the new paths of the local one refer to, or gets it.
     pub provided: bool,
 }
@@ -80,44 +94,47 @@ pub(crate) fn set_of(alloc: Global, paths: &[StorePath]) -> Result<PathSet, Allo
     PathSet::from_vec(copy_all(alloc, paths)?)
 }
 
-/// Copies of these paths, each beside a copy of its set of references.
-pub(crate) fn copy_beside(
-    alloc: Global,
-    paths: &[StorePath],
-    refs: &[PathSet],
-) -> Result<Vec<(StorePath, PathSet)>, AllocError>
-    requires { length refs.now ≡ length paths.now }
-    ensures { IfOk result (λ v. v.items ≡ zip paths.now refs.now) }
+/// Enters a path in a table that has room for it, and by number, where it isn't listed. It takes no memory.
+fn enter_one(table: &mut RefTable, numbers: &mut PathNumbers, listing: Listing)
+    requires room { 0 < table.old.spare }
+    requires listed { IsListing numbers.old.paths listing }
+    ensures entered { HasEntered table.old.entries table.new.entries numbers.old numbers.new (listing ∷ []) }
+    ensures room { table.old.spare ≤ table.new.spare + 1 }
 {
-    let mut entries = Vec::new(alloc);
-    for i in 0..paths.len() {
-        entries.push((paths[i].try_clone()?, refs[i].try_clone()?))?;
-    }
-    Ok(entries)
-}
-
-/// Adds these entries to a table that has room for them: of two entries for a path the first counts.
-/// It takes no memory.
-pub(crate) fn enter_all(table: &mut RefTable, entries: Vec<(StorePath, PathSet)>)
-    requires { length entries.items ≤ table.old.spare }
-    ensures { LooksLike table.new.entries (table.old.entries ++ entries.items) }
-{
-    for entry in entries {
-        let (path, refs) = entry;
-        let Ok(_) = table.add(path, refs) else {
-            unreachable!()
-        };
+    let Listing {
+        path,
+        refs,
+        number,
+        row,
+    } = listing;
+    let Ok(added) = table.add(path, refs) else {
+        unreachable!()
+    };
+    if added {
+        numbers.set_row(number, row);
     }
 }
 
-/// Adds these paths to what machine `m` holds, which has room for them. It takes no memory.
-pub(crate) fn put_all(holdings: &mut Holdings, m: usize, paths: Vec<StorePath>)
+/// Enters these paths in a table that has room for them, and by number: of two entries for a path the first
+/// counts. It takes no memory.
+pub(crate) fn enter_all(table: &mut RefTable, numbers: &mut PathNumbers, listings: Vec<Listing>)
+    requires room { length listings.items ≤ table.old.spare }
+    requires listed { AreListings numbers.old.paths listings.items }
+    ensures { HasEntered table.old.entries table.new.entries numbers.old numbers.new listings.items }
+{
+    for listing in listings {
+        enter_one(table, numbers, listing);
+    }
+}
+
+/// Adds these numbers to what machine `m` holds, which has room for them. It takes no memory.
+pub(crate) fn put_all(holdings: &mut Holdings, m: usize, numbers: &[usize])
     requires machine { m < length holdings.old }
-    requires room { length paths.items ≤ (stock_of holdings.old m).spare }
-    ensures { HasGained holdings.old holdings.new m paths.items }
+    requires room { length numbers.now ≤ (hold_of holdings.old m).spare }
+    ensures { HasGained holdings.old holdings.new m numbers.now }
 {
-    for path in paths {
-        let Ok(_) = holdings.add(m, path) else {
+    for number in numbers {
+        let Ok(_) = holdings.add(m, *number) else {
             unreachable!()
         };
     }

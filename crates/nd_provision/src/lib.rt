@@ -4,7 +4,7 @@
 mod checks;
 pub mod copying;
 mod needs;
-mod searching;
+mod numbering;
 pub mod stores;
 
 pub use copying::{Additions, PathsError};

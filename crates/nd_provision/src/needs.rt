@@ -4,13 +4,14 @@
 ghost use Rattle.std.specs.Prelude.{◌≡◌, ◌<◌, ◌++◌, [], length, map, slice_index_or, IfOk, OnOk};
 ghost use Rattle.std.specs.List.{All, flat_map};
 ghost use Rattle.nd_graph.specs.Graphs.{IsSound};
-ghost use Rattle.nd_history.specs.Premises.{premises_of};
-ghost use Rattle.nd_provision.specs.Stored.{AreNeeded};
+ghost use Rattle.nd_path_numbers.specs.Numbers.{HasGrown};
+ghost use Rattle.nd_provision.specs.Stored.{AreNeededIn, AreSeedsIn, IsSeedRow};
 
 use crate::copying::add_copies;
+use nd_bytes::Items;
 use nd_graph::Graph;
-use nd_history::inputs::Inputs;
 use nd_path::StorePath;
+use nd_path_numbers::PathNumbers;
 use std::alloc::{AllocError, Global};
 
 /// All input sources, node by node.
@@ -27,20 +28,53 @@ pub(crate) fn all_sources(alloc: Global, graph: &Graph) -> Result<Vec<StorePath>
 /// The sources of derivation `drv` and the outputs that it names of its inputs.
 pub(crate) fn needed_by(
     alloc: Global,
-    inputs: &Inputs,
+    graph: &Graph,
     drv: usize,
 ) -> Result<Vec<StorePath>, AllocError>
-    requires { drv < length inputs.now.graph.paths }
-    ensures { IfOk result (λ v. AreNeeded (premises_of inputs.now) drv v.items) }
+    requires { drv < length graph.now.paths }
+    ensures { IfOk result (λ v. AreNeededIn graph.now drv v.items) }
 {
-    learn_graph(inputs);
+    learn_graph(graph);
     let mut needed = Vec::new(alloc);
-    add_copies(&mut needed, inputs.graph.sources(drv))?;
-    for input in inputs.graph.inputs(drv) {
-        let outputs = inputs.graph.outputs(input.node);
+    add_copies(&mut needed, graph.sources(drv))?;
+    for input in graph.inputs(drv) {
+        let outputs = graph.outputs(input.node);
         add_named(&mut needed, outputs, input.outputs.as_slice())?;
     }
     Ok(needed)
+}
+
+/// For each derivation the numbers of what it needs at once.
+pub(crate) fn seeds_by_number(
+    alloc: Global,
+    numbers: &mut PathNumbers,
+    graph: &Graph,
+) -> Result<Vec<Items<usize>>, AllocError>
+    ensures seeds { IfOk result (λ v. AreSeedsIn graph.now numbers.new.paths v.items) }
+    ensures all { IfOk result (λ v. length v.items ≡ length graph.now.paths) }
+    ensures grown { HasGrown numbers.old numbers.new }
+{
+    let mut rows = Vec::with_capacity(alloc, graph.len())?;
+    for drv in 0..graph.len() {
+        let row = seed_row(alloc, numbers, graph, drv)?;
+        rows.push(row)?;
+    }
+    Ok(rows)
+}
+
+/// The numbers of what derivation `drv` needs at once.
+fn seed_row(
+    alloc: Global,
+    numbers: &mut PathNumbers,
+    graph: &Graph,
+    drv: usize,
+) -> Result<Items<usize>, AllocError>
+    requires { drv < length graph.now.paths }
+    ensures row { IfOk result (IsSeedRow graph.now numbers.new.paths drv) }
+    ensures grown { HasGrown numbers.old numbers.new }
+{
+    let needed = needed_by(alloc, graph, drv)?;
+    Ok(Items::new(numbers.know_all(alloc, needed.as_slice())?))
 }
 
 /// Appends copies of the outputs at these places.
@@ -59,8 +93,8 @@ fn add_named(
 }
 
 /// The nodes and the outputs that inputs name are there.
-fn learn_graph(inputs: &Inputs)
-    ensures { IsSound inputs.now.graph }
+fn learn_graph(graph: &Graph)
+    ensures { IsSound graph.now }
 {
-    let _drvs = inputs.graph.len();
+    let _drvs = graph.len();
 }

@@ -1,27 +1,31 @@
 //! What machines hold and what paths refer to, kept beside the entries of a history.
 
-ghost use Rattle.std.specs.Prelude.{◌≡◌, ◌<◌, ◌≤◌, ◌++◌, [], length, IfOk, OnOk, IfErr, IsTrue};
+ghost use Rattle.std.specs.Prelude.{◌≡◌, ◌<◌, ◌≤◌, ◌++◌, length, map, IfOk, OnOk, IfErr, IsTrue};
 ghost use Rattle.std.specs.List.{zip};
-ghost use Rattle.nd_closure.specs.Sets.{stock_of};
+ghost use Rattle.nd_path_numbers.specs.Numbers.{AreKnown, AreNumbered, path_in, row_in};
 ghost use Rattle.nd_history.specs.Premises.{premises_of};
 ghost use Rattle.nd_history.specs.References.{outputs_of};
-ghost use Rattle.nd_provision.specs.Stored.{IsFirstFor, IsSameStored, IsClosureBy, IsMissingBy, ArePathsRightBy, IsPathsFaultBy, AreReferencesRightBy, Fits, HasTaken, AreStartAdditions, AreBuiltAdditions, AreGivenEntries, AreRefsHeld};
+ghost use Rattle.nd_provision.specs.Stored.{entry_of, AreListings, IsFirstFor, IsSameStored, IsClosureBy, IsMissingBy, ArePathsRightBy, IsPathsFaultBy, AreReferencesRightBy, Fits, HasTaken, AreStartAdditions, AreBuiltAdditions, AreRefsHeld, HasRoomFor, paths_on};
 
-use crate::checks::{all_lie_in, are_lists_covered, are_refs_covered, is_covered, lie_in};
-use crate::copying::{
-    Additions, PathsError, add_copies, copy_all, copy_beside, enter_all, put_all, set_of, set_with,
-};
-use crate::needs::{all_sources, needed_by};
-use crate::searching::reach_unheld;
-use nd_closure::{Holdings, RefTable, Refs, reach};
+use crate::checks::{all_lie_in, are_listings_held, are_rows_held, is_covered, lacked, lie_in};
+use crate::copying::{Additions, Listing, PathsError, enter_all, put_all, set_with};
+use crate::needs::{all_sources, needed_by, seeds_by_number};
+use crate::numbering::{number_build, number_given, numbers_for};
+use nd_bytes::Items;
+use nd_closure::{RefTable, Refs, reach};
 use nd_graph::Graph;
 use nd_history::inputs::Inputs;
 use nd_path::{PathSet, StorePath};
+use nd_path_numbers::{Holdings, PathNumbers, copy_rows, reach_unheld};
 use std::alloc::{AllocError, Global};
 use std::marker::Model;
 
 /// A table of what each path refers to, and the set of the paths that each machine holds. Both follow
 /// a history entry by entry, so that no closure and no copy is found by a search of the entries.
+///
+/// Paths have numbers here, which are given before the first entry to those that are given or that some
+/// derivation needs, and to the other outputs when they are built. What a derivation needs at once, what a
+/// path refers to and what a machine holds is kept by number, so a search compares no paths.
 ///
 /// A machine that holds a path mostly holds all that the path refers to, since closures are copied whole.
 /// It is otherwise only where a build has an output that another build had first, or that is given, with
@@ -30,6 +34,8 @@ use std::marker::Model;
 #[derive(Drop, Debug)]
 pub struct Stores {
     table: RefTable,
+    numbers: PathNumbers,
+    seeds: Vec<Items<usize>>,
     holdings: Holdings,
     whole: bool,
 }
@@ -39,7 +45,7 @@ impl Model for Stores {
 
     ghost Value = { Stored };
 
-    ghost view = { λ s. record { entries = s.table.entries; spare = s.table.spare; stocks = s.holdings; whole = s.whole } };
+    ghost view = { λ s. record { entries = s.table.entries; spare = s.table.spare; numbers = s.numbers; seeds = s.seeds.items; stocks = s.holdings; whole = s.whole } };
 }
 
 impl Stores {
@@ -56,26 +62,37 @@ impl Stores {
     {
         let sources = all_sources(alloc, graph)?;
         let given = reach(alloc, sources.as_slice(), info)?;
-        let entries = given_entries(alloc, given.as_slice(), info)?;
+        let mut numbers = PathNumbers::new(alloc);
+        let seeds = seeds_by_number(alloc, &mut numbers, graph)?;
+        let Additions { entries, own, .. } = number_given(
+            alloc,
+            &mut numbers,
+            given.as_slice(),
+            info,
+        )?;
         let mut table = RefTable::new(alloc);
         table.reserve(entries.len())?;
-        enter_all(&mut table, entries);
+        enter_all(&mut table, &mut numbers, entries);
         let mut holdings = Holdings::new(alloc, builders + 1)?;
-        holdings.reserve(0, given.len())?;
-        put_all(&mut holdings, 0, given.into_vec());
+        holdings.reserve(0, own.len())?;
+        put_all(&mut holdings, 0, own.as_slice());
         Ok(Stores {
             table,
+            numbers,
+            seeds,
             holdings,
             whole: true,
         })
     }
 
     /// A copy with the same references and the same holdings. Reserved room is no part of this.
-    pub fn try_clone(&self) -> Result<Stores, AllocError>
+    pub fn try_clone(&self, alloc: Global) -> Result<Stores, AllocError>
         ensures { IfOk result (IsSameStored self.now) }
     {
         Ok(Stores {
             table: self.table.try_clone()?,
+            numbers: self.numbers.try_clone(alloc)?,
+            seeds: copy_rows(alloc, self.seeds.as_slice())?,
             holdings: self.holdings.try_clone()?,
             whole: self.whole,
         })
@@ -91,7 +108,7 @@ impl Stores {
         requires { drv < length inputs.now.graph.paths }
         ensures { IfOk result (IsClosureBy (premises_of inputs.now) self.now drv) }
     {
-        let needed = needed_by(alloc, inputs, drv)?;
+        let needed = needed_by(alloc, &inputs.graph, drv)?;
         reach(alloc, needed.as_slice(), &self.table)
     }
 
@@ -111,8 +128,18 @@ impl Stores {
         if !self.whole {
             return self.walk_missing(alloc, inputs, drv, m);
         }
-        let needed = needed_by(alloc, inputs, drv)?;
-        reach_unheld(alloc, needed.as_slice(), &self.table, self.holdings.held(m))
+        let seeds = self.seeds(drv);
+        reach_unheld(alloc, seeds, &self.numbers, self.holdings.held(m))
+    }
+
+    /// The numbers of what derivation `drv` needs at once.
+    fn seeds(&self, drv: usize) -> &[usize]
+        ensures { result.now ≡ row_in self.now.seeds drv }
+    {
+        match self.seeds.get(drv) {
+            Some(row) => row.as_slice(),
+            None => &[],
+        }
     }
 
     /// The same by a walk over the whole closure.
@@ -128,7 +155,7 @@ impl Stores {
         ensures { IfOk result (IsMissingBy (premises_of inputs.now) self.now drv m) }
     {
         let closure = self.closure(alloc, inputs, drv)?;
-        self.holdings.held(m).missing(alloc, &closure)
+        lacked(alloc, &closure, &self.numbers, self.holdings.held(m))
     }
 
     /// Tests paths that were copied for a build of derivation `drv` on machine `m`: they are to lie in
@@ -171,7 +198,8 @@ impl Stores {
         ensures refused { IfErr result (IsPathsFaultBy (premises_of inputs.now) self.now drv m paths.now) }
     {
         let closure = self.closure(alloc, inputs, drv)?;
-        if !is_covered(closure.as_slice(), self.holdings.held(m), paths) {
+        let held = self.holdings.held(m);
+        if !is_covered(closure.as_slice(), &self.numbers, held, paths) {
             return Err(PathsError::Uncovered);
         }
         if !lie_in(paths.as_slice(), &closure) {
@@ -196,7 +224,7 @@ impl Stores {
         if refs.lists().len() != outputs.len() {
             return Ok(false);
         }
-        let near = set_with(needed_by(alloc, inputs, drv)?, outputs)?;
+        let near = set_with(needed_by(alloc, &inputs.graph, drv)?, outputs)?;
         if all_lie_in(refs.lists(), &near) {
             return Ok(true);
         }
@@ -231,12 +259,9 @@ impl Stores {
         requires { m < length self.old.stocks }
         ensures same { IsSameStored self.old self.new }
         ensures fits { IfOk result (Fits self.new) }
-        ensures additions { IfOk result (AreStartAdditions m paths.now) }
+        ensures additions { IfOk result (AreStartAdditions self.new m paths.now) }
     {
-        let mut brought = Vec::new(alloc);
-        if m != 0 {
-            add_copies(&mut brought, paths.as_slice())?;
-        }
+        let brought = numbers_for(alloc, &mut self.numbers, m, paths.as_slice())?;
         self.holdings.reserve(m, brought.len())?;
         Ok(Additions {
             machine: m,
@@ -262,46 +287,47 @@ impl Stores {
         requires sized { length refs.now ≡ length (outputs_of (premises_of inputs.now) drv) }
         ensures same { IsSameStored self.old self.new }
         ensures fits { IfOk result (Fits self.new) }
-        ensures additions { IfOk result (AreBuiltAdditions (premises_of inputs.now) drv m refs.now) }
+        ensures additions { IfOk result (AreBuiltAdditions (premises_of inputs.now) self.new drv m refs.now) }
     {
         let outputs = inputs.graph.outputs(drv);
-        let entries = copy_beside(alloc, outputs, refs.lists())?;
-        let own = copy_all(alloc, outputs)?;
-        let provided = self.is_provided(alloc, m, outputs, refs.lists())?;
-        let mut brought = Vec::new(alloc);
-        if m != 0 {
-            add_copies(&mut brought, outputs)?;
-        }
-        self.table.reserve(entries.len())?;
-        self.holdings.reserve(m, brought.len())?;
-        self.holdings.reserve(0, own.len())?;
-        Ok(Additions {
-            machine: m,
-            entries,
-            own,
-            brought,
-            provided,
-        })
+        let mut additions = number_build(alloc, &mut self.numbers, m, outputs, refs.lists())?;
+        additions.provided = self.is_provided(
+            m,
+            additions.own.as_slice(),
+            additions.entries.as_slice(),
+        );
+        self.make_room(&additions)?;
+        Ok(additions)
     }
 
-    /// Whether machine `m` holds what these outputs refer to once these sets are reported for them, but
-    /// for the outputs themselves.
-    fn is_provided(
-        &self,
-        alloc: Global,
-        m: usize,
-        outputs: &[StorePath],
-        lists: &[PathSet],
-    ) -> Result<bool, AllocError>
-        requires { m < length self.now.stocks }
-        ensures { IfOk result (λ yes. IsTrue yes → AreRefsHeld (self.now.entries ++ zip outputs.now lists.now) outputs.now (stock_of self.now.stocks m).paths) }
+    /// Makes room for these additions, and changes nothing.
+    fn make_room(&mut self, additions: &Additions) -> Result<(), AllocError>
+        requires machine { additions.now.machine < length self.old.stocks }
+        requires alone { additions.now.machine ≡ 0 → length additions.now.brought.items ≡ 0 }
+        ensures same { IsSameStored self.old self.new }
+        ensures numbers { self.new.numbers ≡ self.old.numbers }
+        ensures room { OnOk result (HasRoomFor self.new additions.now) }
+    {
+        self.table.reserve(additions.entries.len())?;
+        self.holdings
+            .reserve(additions.machine, additions.brought.len())?;
+        self.holdings.reserve(0, additions.own.len())?;
+        Ok(())
+    }
+
+    /// Whether machine `m` holds what the outputs with these numbers refer to once these are entered, but for
+    /// the outputs themselves.
+    fn is_provided(&self, m: usize, own: &[usize], entries: &[Listing]) -> bool
+        requires machine { m < length self.now.stocks }
+        requires known { AreKnown self.now.numbers.paths own.now }
+        requires listed { AreListings self.now.numbers.paths entries.now }
+        ensures { AreNumbered self.now.entries self.now.numbers → IsTrue result → AreRefsHeld (self.now.entries ++ map entry_of entries.now) (map (path_in self.now.numbers.paths) own.now) (paths_on self.now m) }
     {
         let held = self.holdings.held(m);
-        let own = set_of(alloc, outputs)?;
-        if !are_refs_covered(&self.table, outputs, held, &own) {
-            return Ok(false);
+        if !are_rows_held(&self.numbers, held, own) {
+            return false;
         }
-        Ok(are_lists_covered(lists, held, &own))
+        are_listings_held(entries, held, own)
     }
 
     /// Takes these additions in. It takes no memory.
@@ -316,24 +342,9 @@ impl Stores {
             brought,
             provided,
         } = additions;
-        enter_all(&mut self.table, entries);
-        put_all(&mut self.holdings, 0, own);
-        put_all(&mut self.holdings, machine, brought);
+        enter_all(&mut self.table, &mut self.numbers, entries);
+        put_all(&mut self.holdings, 0, own.as_slice());
+        put_all(&mut self.holdings, machine, brought.as_slice());
         self.whole &= provided;
     }
-}
-
-/// These paths, each with the set of what the info table lists for it.
-fn given_entries(
-    alloc: Global,
-    given: &[StorePath],
-    info: &RefTable,
-) -> Result<Vec<(StorePath, PathSet)>, AllocError>
-    ensures { IfOk result (λ v. AreGivenEntries info.now.entries given.now v.items) }
-{
-    let mut entries = Vec::new(alloc);
-    for path in given {
-        entries.push((path.try_clone()?, set_of(alloc, info.refs(path))?))?;
-    }
-    Ok(entries)
 }

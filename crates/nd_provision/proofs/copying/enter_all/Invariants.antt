@@ -1,11 +1,11 @@
 use Rattle.std.proofs.Common.{◌≡◌, ◌≤◌, ◌++◌, length}
 use Rattle.std.specs.Vec.Iter.{into_iter_items}
-use Rattle.nd_provision.specs.Stored.{LooksLike}
+use Rattle.nd_provision.specs.Stored.{HasEntered}
 use Rattle.nd_provision.proofs.copying.enter_all.Given as goal
 
-abbrev pub invariant-loop-entry : goal.invariant-loop-entry
-invariant-loop-entry l = record {
-  looks : LooksLike l.table.entries (l.fn.table.entries ++ l.yielded);
-  whole : l.fn.entries.items ≡ l.yielded ++ into_iter_items l.entry-iterator;
-  room : length (into_iter_items l.entry-iterator) ≤ l.table.spare;
+abbrev pub invariant-loop-listing : goal.invariant-loop-listing
+invariant-loop-listing l = record {
+  entered : HasEntered l.fn.table.entries l.table.entries l.fn.numbers l.numbers l.yielded;
+  whole : l.fn.listings.items ≡ l.yielded ++ into_iter_items l.listing-iterator;
+  room : length (into_iter_items l.listing-iterator) ≤ l.table.spare;
 }

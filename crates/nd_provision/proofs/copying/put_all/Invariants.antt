@@ -1,12 +1,10 @@
-use Rattle.std.proofs.Common.{◌≡◌, ◌≤◌, ◌++◌, length}
-use Rattle.std.specs.Vec.Iter.{into_iter_items}
-use Rattle.nd_closure.specs.Sets.{stock_of}
+use Rattle.std.proofs.Common.{◌≤◌, ◌+◌, length, take}
+use Rattle.nd_path_numbers.specs.Held.{hold_of}
 use Rattle.nd_provision.specs.Stored.{HasGained}
 use Rattle.nd_provision.proofs.copying.put_all.Given as goal
 
-abbrev pub invariant-loop-path : goal.invariant-loop-path
-invariant-loop-path l = record {
-  gained : HasGained l.fn.holdings l.holdings l.m l.yielded;
-  whole : l.fn.paths.items ≡ l.yielded ++ into_iter_items l.path-iterator;
-  room : length (into_iter_items l.path-iterator) ≤ (stock_of l.holdings l.m).spare;
+abbrev pub invariant-loop-number : goal.invariant-loop-number
+invariant-loop-number l = record {
+  gained : HasGained l.fn.holdings l.holdings l.m (take l.number-index l.numbers);
+  room : length l.numbers ≤ (hold_of l.holdings l.m).spare + l.number-index;
 }

@@ -2,16 +2,16 @@ use Rattle.std.proofs.Common.{◌≡◌, ◌<◌, ◌≤◌, List, ℕ, [], ◌+
 use Rattle.std.specs.List.{Contains, flat_map}
 use Rattle.std.proofs.lemmas.List.{take_all}
 use Rattle.nd_graph.specs.declared.graph.Input.{Input}
-use Rattle.nd_history.specs.Premises.{premises_of}
+use Rattle.nd_graph.specs.Graphs.{Nodes, IsSound}
 use Rattle.nd_history.specs.References.{sources_of, inputs_at}
 use Rattle.nd_provision.specs.Stored.{AreNeeded, named_outputs}
 use Rattle.nd_provision.proofs.Gains.{read_there}
-use Rattle.nd_provision.proofs.Joined.{needed_joined, needed_more, node_there, places_there}
+use Rattle.nd_provision.proofs.Joined.{with_graph, needed_joined, needed_more, node_there, places_there}
 use Rattle.nd_provision.proofs.needs.needed_by.Goals as goal
 
 pub outputs-outputs-requires : goal.outputs-outputs-requires
 outputs-outputs-requires c =
-    let i = premises_of c.args.inputs.now in
+    let i = with_graph c.args.graph.now in
     let there : Contains (inputs_at i c.args.drv) c.input-item.result =
     subst (λ (xs : List Input). Contains xs c.input-item.result) c.inputs-input-items.ensures.inputs
     (read_there c.inputs-input-items.result.now c.loop-input.input-index c.input-item.result c.loop-input-test.true c.input-item.is) in
@@ -19,7 +19,7 @@ outputs-outputs-requires c =
 
 pub add_named-requires : goal.add_named-requires
 add_named-requires c =
-    let i = premises_of c.args.inputs.now in
+    let i = with_graph c.args.graph.now in
     let there : Contains (inputs_at i c.args.drv) c.input-item.result =
     subst (λ (xs : List Input). Contains xs c.input-item.result) c.inputs-input-items.ensures.inputs
     (read_there c.inputs-input-items.result.now c.loop-input.input-index c.input-item.result c.loop-input-test.true c.input-item.is) in
@@ -27,7 +27,7 @@ add_named-requires c =
 
 pub loop-input-preserved : goal.loop-input-preserved
 loop-input-preserved c =
-    let i = premises_of c.args.inputs.now in
+    let i = with_graph c.args.graph.now in
     let at : c.loop-input.input-index < length (inputs_at i c.args.drv) = subst (λ (xs : List Input). c.loop-input.input-index < length xs) c.inputs-input-items.ensures.inputs c.loop-input-test.true in
     let is : c.input-item.result ≡ get_or (inputs_at i c.args.drv) c.loop-input.input-index c.input-item.result =
     subst (λ (xs : List Input). c.input-item.result ≡ get_or xs c.loop-input.input-index c.input-item.result) c.inputs-input-items.ensures.inputs c.input-item.is in
@@ -37,8 +37,14 @@ loop-input-preserved c =
 
 pub returns : goal.returns
 returns c =
-    let i = premises_of c.args.inputs.now in
+    let i = with_graph c.args.graph.now in
     let past_all : length (inputs_at i c.args.drv) ≤ c.loop-input.input-index = subst (λ (xs : List Input). length xs ≤ c.loop-input.input-index) c.inputs-input-items.ensures.inputs c.loop-input-test.false in
-    subst (λ (xs : List (List ℕ)). AreNeeded i c.args.drv xs)
-    (sym (c.loop-input.invariant ∙ ap (λ (xs : List Input). sources_of i c.args.drv ++ flat_map (named_outputs i) xs) (take_all c.loop-input.input-index (inputs_at i c.args.drv) past_all)))
-    (needed_joined i c.args.drv (λ input place h k. c.learn_graph.ensures.names.named c.args.drv input place h k))
+    let all : c.loop-input.needed.items ≡ sources_of i c.args.drv ++ flat_map (named_outputs c.args.graph.now) (inputs_at i c.args.drv) =
+    c.loop-input.invariant ∙ ap (λ (xs : List Input). sources_of i c.args.drv ++ flat_map (named_outputs c.args.graph.now) xs) (take_all c.loop-input.input-index (inputs_at i c.args.drv) past_all) in
+    record {
+      tells = λ j same.
+          let sound : IsSound j.graph = subst (λ (g : Nodes). IsSound g) (sym same) c.learn_graph.ensures in
+          subst (λ (xs : List (List ℕ)). AreNeeded j c.args.drv xs) (sym all)
+          (subst (λ (g : Nodes). AreNeeded j c.args.drv (sources_of (with_graph g) c.args.drv ++ flat_map (named_outputs g) (inputs_at (with_graph g) c.args.drv))) same
+          (needed_joined j c.args.drv (λ input place h k. sound.names.named c.args.drv input place h k)));
+    }

@@ -1,9 +1,9 @@
 use Rattle.std.proofs.Common.{◌≡◌, ◌++◌, take}
 use Rattle.std.specs.List.{flat_map}
-use Rattle.nd_history.specs.Premises.{premises_of}
 use Rattle.nd_history.specs.References.{sources_of, inputs_at}
 use Rattle.nd_provision.specs.Stored.{named_outputs}
+use Rattle.nd_provision.proofs.Joined.{with_graph}
 use Rattle.nd_provision.proofs.needs.needed_by.Given as goal
 
 abbrev pub invariant-loop-input : goal.invariant-loop-input
-invariant-loop-input l = l.needed.items ≡ sources_of (premises_of l.inputs) l.drv ++ flat_map (named_outputs (premises_of l.inputs)) (take l.input-index (inputs_at (premises_of l.inputs) l.drv))
+invariant-loop-input l = l.needed.items ≡ sources_of (with_graph l.graph) l.drv ++ flat_map (named_outputs l.graph) (take l.input-index (inputs_at (with_graph l.graph) l.drv))

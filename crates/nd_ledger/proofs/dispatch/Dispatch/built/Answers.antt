@@ -1,5 +1,5 @@
 use Rattle.std.proofs.Common.{refl, reverse, subst}
-use Rattle.nd_ledger.proofs.Keeping.{kept_built, found_marked}
+use Rattle.nd_ledger.proofs.Keeping.{kept_built, kept_stores, found_marked}
 use Rattle.nd_history.specs.Premises.{premises_of}
 use Rattle.nd_history.specs.Legal.{IsAllowed}
 use Rattle.nd_ledger.specs.Worlds.{World}
@@ -37,3 +37,6 @@ enter-requires-clause-turn c =
     let ready = c.in-Ok.ensures.ready in
     can_turn d (Built c.args.ticket.drv c.args.refs) c.self.invariant
     (allowed_built (premises_of d.inputs) (reverse d.book.entries) c.args.ticket c.args.refs c.self.invariant.legal ready.live ready.started ready.right)
+
+pub invariant_of-self-in-Err : goal.invariant_of-self-in-Err
+invariant_of-self-in-Err c = kept_stores c.self.inside c.prepare_end.new.stores c.in-Err.ensures.stores c.self.invariant

@@ -1,6 +1,6 @@
-use Rattle.std.proofs.Common.{refl, reverse, subst}
+use Rattle.std.proofs.Common.{refl, reverse, subst, arith}
 use Rattle.nd_ledger.specs.Refusals.{IsLive}
-use Rattle.nd_ledger.proofs.Keeping.{kept_started}
+use Rattle.nd_ledger.proofs.Keeping.{kept_started, kept_room, kept_stores}
 use Rattle.nd_history.specs.Premises.{premises_of}
 use Rattle.nd_history.specs.Legal.{IsAllowed}
 use Rattle.nd_ledger.specs.Worlds.{World}
@@ -35,3 +35,11 @@ enter-requires-clause-turn c =
     same_turn d.book c.prepare_start.new.book d.board d.turns (Started c.args.ticket.drv c.args.paths) c.in-Ok.ensures.book.entries
     (can_turn d (Started c.args.ticket.drv c.args.paths) c.self.invariant
     (allowed_started (premises_of d.inputs) (reverse d.book.entries) c.args.ticket c.args.paths c.self.invariant.legal ready.live ready.fresh ready.right))
+
+pub invariant_of-self-in-Err : goal.invariant_of-self-in-Err
+invariant_of-self-in-Err c =
+    let d = c.self.inside in
+    let roomier = c.in-Err.ensures.book in
+    let roomy = kept_room d c.prepare_start.new.book 0
+    (record { entries = roomier.entries; drvs = roomier.drvs; machines = roomier.machines; room = roomier.room; more = omega arith }) c.self.invariant in
+    kept_stores (record d { book = c.prepare_start.new.book }) c.prepare_start.new.stores c.in-Err.ensures.stores roomy

@@ -1,4 +1,4 @@
-use Rattle.std.proofs.Common.{◌≡◌, List, ℕ, ◌++◌, length, ap, sym, ◌∙◌, subst, arith}
+use Rattle.std.proofs.Common.{◌≡◌, List, ℕ, ◌++◌, length, ap, refl, sym, ◌∙◌, subst, arith}
 use Rattle.nd_path.specs.PathSets.{HasSameMembers}
 use Rattle.nd_history.specs.Premises.{premises_of}
 use Rattle.nd_history.specs.References.{outputs_of}
@@ -17,4 +17,4 @@ returns-then-all_lie_in c =
     let same : HasSameMembers (needed ++ outputs_of i c.args.drv) near =
     subst (λ (xs : List (List ℕ)). HasSameMembers (needed ++ xs) near) c.outputs-outputs.ensures c.in_ok-near.ensures in
     let within : AreAllWithin near c.args.refs.now = subst (λ (xs : List (List (List ℕ))). AreAllWithin near xs) c.lists-2.ensures c.if-all_lie_in.ensures in
-    references_near i c.args.self.now c.args.drv c.args.refs.now needed near sized c.in_ok-needed_by.ensures same within
+    references_near i c.args.self.now c.args.drv c.args.refs.now needed near sized (c.in_ok-needed_by.ensures.tells i refl) same within

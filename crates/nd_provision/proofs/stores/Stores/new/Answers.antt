@@ -1,33 +1,45 @@
-use Rattle.std.proofs.Common.{◌≡◌, ◌+◌, List, ℕ, [], ◌++◌, length, ap, sym, ◌∙◌, subst, inl, inr}
+use Rattle.std.proofs.Common.{◌≡◌, ◌+◌, List, ℕ, [], length, map, true, ap, sym, ◌∙◌, subst, inl, inr}
 use Rattle.std.specs.Prelude.{◌↔◌}
 use Rattle.std.specs.List.{Contains, flat_map}
 use Rattle.std.proofs.lemmas.Bool.{cases_eq}
 use Rattle.nd_graph.specs.Graphs.{Nodes}
-use Rattle.nd_closure.specs.Sets.{Stock, stock_of}
 use Rattle.nd_closure.specs.Closures.{IsReached}
+use Rattle.nd_path_numbers.specs.Numbers.{Numbered, AreNumbersOf, AreNumbered}
+use Rattle.nd_path_numbers.specs.Held.{Hold, hold_of}
+use Rattle.nd_path_numbers.proofs.Growing.{grown_through}
 use Rattle.nd_history.specs.References.{IsGiven}
-use Rattle.nd_provision.specs.Stored.{AreSources, AreGivenEntries, LooksLike, HasGained}
-use Rattle.nd_provision.proofs.Lookalikes.{looks_same, looks_through}
+use Rattle.nd_provision.specs.declared.copying.Listing.{Listing}
+use Rattle.nd_provision.specs.Stored.{Stored, AreSources, AreSeeds, AreSeedsIn, AreGivenEntries, HasEntered, HasGained, IsNumberedGiven, entry_of}
 use Rattle.nd_provision.proofs.Joined.{sources_joined}
-use Rattle.nd_provision.proofs.Storing.{stored_at_first, given_reached}
+use Rattle.nd_provision.proofs.Preparing.{first_numbers, seeds_stay}
+use Rattle.nd_provision.proofs.Storing.{stored_at_first, seeds_in, given_reached}
 use Rattle.nd_provision.proofs.stores.Stores.new.Goals as goal
 
 pub returns : goal.returns
 returns c =
     let given : List (List ℕ) = c.in_ok-given.given in
-    let entries : List (List ℕ × List (List ℕ)) = c.in_ok-entries.entries.items in
-    let listed : AreGivenEntries c.args.info.now.entries given entries = subst (λ (xs : List (List ℕ)). AreGivenEntries c.args.info.now.entries xs entries) c.as_slice-2.ensures.value c.in_ok-entries.ensures in
+    let before : Numbered = c.number_given.new.numbers in
+    let after : Numbered = c.enter_all.new.numbers in
+    let listings : List Listing = c.in_ok-entries.field-0.entries.items in
+    let own : List ℕ = c.in_ok-entries.field-0.own.items in
+    let rows : List (List ℕ) = c.in_ok-seeds.seeds.items in
+    let s : Stored = record { entries = c.enter_all.new.table.entries; spare = c.enter_all.new.table.spare; numbers = after; seeds = rows; stocks = c.put_all.new.holdings; whole = true } in
+    let numbered : IsNumberedGiven c.args.info.now.entries before.paths c.as_slice-2.result.now c.in_ok-entries.field-0 = c.in_ok-entries.ensures.given in
+    let listed : AreGivenEntries c.args.info.now.entries given (map entry_of listings) =
+    subst (λ (xs : List (List ℕ)). AreGivenEntries c.args.info.now.entries xs (map entry_of listings)) c.as_slice-2.ensures.value numbered.entries in
+    let owned : AreNumbersOf before.paths given own = subst (λ (xs : List (List ℕ)). AreNumbersOf before.paths xs own) c.as_slice-2.ensures.value numbered.own in
     let empty_table : c.reserve.new.self.entries ≡ [] = c.in_ok-reserve.ensures.kept ∙ c.new-table.ensures in
-    let looks : LooksLike c.enter_all.new.table.entries entries =
-    looks_through c.enter_all.new.table.entries (c.reserve.new.self.entries ++ entries) entries c.enter_all.ensures
-    (looks_same (c.reserve.new.self.entries ++ entries) entries (ap (λ (xs : List (List ℕ × List (List ℕ))). xs ++ entries) empty_table)) in
-    let stocks : List Stock = c.reserve-2.new.self in
-    let park : length stocks ≡ c.args.builders + 1 = c.in_ok-reserve-2.ensures.others.size ∙ c.in_ok-holdings.ensures.machines in
-    let none : (m : ℕ) → (stock_of stocks m).paths ≡ [] = λ m. elim (cases_eq m 0) [
-      | inl same ↦ subst (λ (k : ℕ). (stock_of stocks k).paths ≡ []) (sym same) (c.in_ok-reserve-2.ensures.kept ∙ c.in_ok-holdings.ensures.empty 0)
-      | inr other ↦ ap (λ (s : Stock). s.paths) (c.in_ok-reserve-2.ensures.others.others m other) ∙ c.in_ok-holdings.ensures.empty m
+    let entered : HasEntered [] s.entries before after listings = subst (λ (es : List (List ℕ × List (List ℕ))). HasEntered es s.entries before after listings) empty_table c.enter_all.ensures in
+    let told : AreNumbered [] before = first_numbers c.new-numbers.result before c.new-numbers.ensures.paths c.new-numbers.ensures.rows
+    (grown_through c.new-numbers.result c.seeds_by_number.new.numbers before c.in_ok-seeds.ensures.grown c.in_ok-entries.ensures.grown) in
+    let seeds : AreSeedsIn c.args.graph.now before.paths rows = seeds_stay c.args.graph.now c.seeds_by_number.new.numbers before rows c.in_ok-entries.ensures.grown c.in_ok-seeds.ensures.seeds in
+    let holds : List Hold = c.reserve-2.new.self in
+    let park : length holds ≡ c.args.builders + 1 = c.in_ok-reserve-2.ensures.others.size ∙ c.in_ok-holdings.ensures.machines in
+    let none : (m : ℕ) → (hold_of holds m).numbers ≡ [] = λ m. elim (cases_eq m 0) [
+      | inl same ↦ subst (λ (k : ℕ). (hold_of holds k).numbers ≡ []) (sym same) (c.in_ok-reserve-2.ensures.kept ∙ c.in_ok-holdings.ensures.empty 0)
+      | inr other ↦ ap (λ (h : Hold). h.numbers) (c.in_ok-reserve-2.ensures.others.others m other) ∙ c.in_ok-holdings.ensures.empty m
     ] in
-    let gained : HasGained stocks c.put_all.new.holdings 0 given = subst (λ (xs : List (List ℕ)). HasGained stocks c.put_all.new.holdings 0 xs) c.into_vec.ensures c.put_all.ensures in
+    let gained : HasGained holds s.stocks 0 own = subst (λ (xs : List ℕ). HasGained holds s.stocks 0 xs) c.as_slice-3.ensures.value c.put_all.ensures in
     record {
       tells = λ i graph builders info.
           let sources : AreSources i c.as_slice.result.now =
@@ -36,7 +48,11 @@ returns c =
           let reached : (p : List ℕ) → Contains given p ↔ IsReached i.info c.as_slice.result.now p =
           subst (λ (t : List (List ℕ × List (List ℕ))). (p : List ℕ) → Contains given p ↔ IsReached t c.as_slice.result.now p) (sym info) c.in_ok-given.ensures.reached in
           let exact : (p : List ℕ) → Contains given p ↔ IsGiven i p = given_reached i c.as_slice.result.now given sources reached in
-          let are : AreGivenEntries i.info given entries = subst (λ (t : List (List ℕ × List (List ℕ))). AreGivenEntries t given entries) (sym info) listed in
-          stored_at_first i given entries c.enter_all.new.table.entries c.enter_all.new.table.spare stocks c.put_all.new.holdings exact are looks
+          let are : AreGivenEntries i.info given (map entry_of listings) = subst (λ (t : List (List ℕ × List (List ℕ))). AreGivenEntries t given (map entry_of listings)) (sym info) listed in
+          let kept : AreSeeds i s = seeds_in i s
+          (subst (λ (ps : List (List ℕ)). AreSeedsIn i.graph ps rows) (sym entered.paths) (subst (λ (g : Nodes). AreSeedsIn g before.paths rows) (sym graph) seeds))
+          (subst (λ (g : Nodes). length rows ≡ length g.paths) (sym graph) c.in_ok-seeds.ensures.all) in
+          stored_at_first i given listings before own holds s exact are entered told kept
+          (subst (λ (ps : List (List ℕ)). AreNumbersOf ps given own) (sym entered.paths) owned)
           (park ∙ ap (λ (n : ℕ). n + 1) (sym builders)) none gained;
     }

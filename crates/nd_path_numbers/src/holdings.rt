@@ -1,0 +1,140 @@
+//! The paths that machines hold, by number.
+
+ghost use Rattle.std.specs.Prelude.{◌≡◌, ℕ, ◌+◌, ◌<◌, ◌≤◌, ◌∷◌, ◌++◌, [], length, not, if◌then◌else◌, IfOk, OnOk, OnErr, IsOk, IsTrue, ◌↔◌};
+ghost use Rattle.std.specs.List.{Contains};
+ghost use Rattle.nd_path_numbers.specs.Held.{is_among, hold_of, KeepsOthers, HoldTheSame};
+
+use indexmap::IndexSet;
+use std::alloc::{AllocError, Global};
+use std::marker::Model;
+
+/// The numbers of the paths that one machine holds. Contracts see the list of them in the order in which
+/// they came, each once, and beside it the reserved room, of which "equal" and "as before" do not speak.
+#[derive(Debug, Drop)]
+pub struct Held {
+    numbers: IndexSet<usize>,
+}
+
+impl Model for Held {
+    ghost use Rattle.indexmap.specs.IndexSet.{spare};
+    ghost use Rattle.nd_path_numbers.specs.Held.{Hold};
+
+    ghost Value = { Hold };
+
+    ghost view = { λ h. record { numbers = h.numbers.keys; spare = spare h.numbers } };
+}
+
+impl Held {
+    /// Nothing is held. It takes no memory.
+    pub fn new(alloc: Global) -> Held
+        ensures { result.numbers ≡ [] }
+    {
+        Held {
+            numbers: IndexSet::new(alloc),
+        }
+    }
+
+    /// Whether the path with this number is held. It takes no memory.
+    pub fn contains(&self, number: usize) -> bool
+        ensures { IsTrue result ↔ Contains self.now.numbers number }
+    {
+        self.numbers.contains(&number)
+    }
+
+    fn reserve(&mut self, n: usize) -> Result<(), AllocError>
+        ensures room { OnOk result (n ≤ self.new.spare) }
+        ensures kept { self.new.numbers ≡ self.old.numbers }
+    {
+        self.numbers.reserve(n)
+    }
+
+    fn add(&mut self, number: usize) -> Result<bool, AllocError>
+        ensures added { IfOk result (λ added. added ≡ not (is_among self.old.numbers number)) }
+        ensures numbers { IfOk result (λ added. self.new.numbers ≡ (if added then self.old.numbers ++ number ∷ [] else self.old.numbers)) }
+        ensures refused { OnErr result (self.new.numbers ≡ self.old.numbers) }
+        ensures succeeds { 0 < self.old.spare → IsOk result }
+        ensures room { self.old.spare ≤ self.new.spare + 1 }
+    {
+        Ok(self.numbers.insert(number)?)
+    }
+}
+
+impl Clone for Held {
+    ghost is_clone = { λ h k. k.numbers ≡ h.numbers };
+
+    fn clone(&self) -> Result<Held, AllocError> {
+        Ok(Held {
+            numbers: self.numbers.clone()?,
+        })
+    }
+}
+
+/// The paths that the machines of a park hold, by number, one set for each machine, numbered from 0.
+/// Contracts see the list of the sets. A machine that holds nothing has no room of its own.
+#[derive(Debug, Drop)]
+pub struct Holdings {
+    machines: Vec<Held>,
+}
+
+impl Model for Holdings {
+    ghost use Rattle.std.specs.Prelude.{List};
+    ghost use Rattle.nd_path_numbers.specs.Held.{Hold};
+
+    ghost Value = { List Hold };
+
+    ghost view = { λ h. h.machines.items };
+}
+
+impl Holdings {
+    /// This many machines, each with nothing held.
+    pub fn new(alloc: Global, machines: usize) -> Result<Holdings, AllocError>
+        ensures machines { IfOk result (λ h. length h ≡ machines) }
+        ensures empty { IfOk result (λ h. (m : ℕ) → (hold_of h m).numbers ≡ []) }
+    {
+        let mut sets = Vec::with_capacity(alloc, machines)?;
+        for _machine in 0..machines {
+            sets.push(Held::new(alloc))?;
+        }
+        Ok(Holdings { machines: sets })
+    }
+
+    /// Makes room for at least `n` more paths on machine `m`, and changes no machine's paths.
+    pub fn reserve(&mut self, m: usize, n: usize) -> Result<(), AllocError>
+        requires { m < length self.old }
+        ensures room { OnOk result (n ≤ (hold_of self.new m).spare) }
+        ensures kept { (hold_of self.new m).numbers ≡ (hold_of self.old m).numbers }
+        ensures others { KeepsOthers self.old self.new m }
+    {
+        self.machines[m].reserve(n)
+    }
+
+    /// Adds a path to those that machine `m` holds, and says whether it was new there. Within reserved
+    /// room it takes no memory and succeeds; a refusal changes nothing.
+    pub fn add(&mut self, m: usize, number: usize) -> Result<bool, AllocError>
+        requires { m < length self.old }
+        ensures added { IfOk result (λ added. added ≡ not (is_among (hold_of self.old m).numbers number)) }
+        ensures numbers { IfOk result (λ added. (hold_of self.new m).numbers ≡ (if added then (hold_of self.old m).numbers ++ number ∷ [] else (hold_of self.old m).numbers)) }
+        ensures refused { OnErr result ((hold_of self.new m).numbers ≡ (hold_of self.old m).numbers) }
+        ensures others { KeepsOthers self.old self.new m }
+        ensures succeeds { 0 < (hold_of self.old m).spare → IsOk result }
+        ensures room { (hold_of self.old m).spare ≤ (hold_of self.new m).spare + 1 }
+    {
+        self.machines[m].add(number)
+    }
+
+    /// What machine `m` holds. It takes no memory.
+    pub fn held(&self, m: usize) -> &Held
+        requires { m < length self.now }
+        ensures { result.now ≡ hold_of self.now m }
+    {
+        &self.machines[m]
+    }
+
+    /// A copy whose machines hold the same paths.
+    pub fn try_clone(&self) -> Result<Holdings, AllocError>
+        ensures { IfOk result (HoldTheSame self.now) }
+    {
+        let machines = self.machines.clone()?;
+        Ok(Holdings { machines })
+    }
+}

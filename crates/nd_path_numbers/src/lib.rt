@@ -1,0 +1,10 @@
+//! Store paths by number: what they refer to, which machines hold them, and what is reached from them.
+#![tactic(auto)]
+
+mod holdings;
+mod path_numbers;
+mod searching;
+
+pub use holdings::{Held, Holdings};
+pub use path_numbers::{PathNumbers, copy_rows};
+pub use searching::reach_unheld;

@@ -1,0 +1,139 @@
+//! Store paths, each with a number.
+
+ghost use Rattle.std.specs.Prelude.{◌≡◌, ◌<◌, [], length, slice_set, IfOk, OnOk};
+ghost use Rattle.nd_path_numbers.specs.Numbers.{row_in, AreNumbersOf, IsNumberOf, IsLookedUp, HasGrown, IsSetOf};
+
+use indexmap::IndexSet;
+use nd_bytes::Items;
+use nd_path::{PathSet, StorePath};
+use std::alloc::{AllocError, Global};
+use std::marker::Model;
+
+/// Store paths by number, in the order in which they became known, and for each the numbers of the paths
+/// that it refers to. A path is compared with others once, when it is given its number.
+#[derive(Debug, Drop)]
+pub struct PathNumbers {
+    paths: IndexSet<StorePath>,
+    rows: Vec<Items<usize>>,
+}
+
+impl Model for PathNumbers {
+    ghost use Rattle.std.specs.Prelude.{◌≤◌, length};
+    ghost use Rattle.nd_path_numbers.specs.Numbers.{Numbered};
+
+    ghost Value = { Numbered };
+
+    ghost view = { λ n. record { paths = n.paths.keys; rows = n.rows.items } };
+
+    ghost invariant = { λ n. length n.paths.keys ≤ length n.rows.items };
+}
+
+impl PathNumbers {
+    /// No path is known. It takes no memory.
+    pub fn new(alloc: Global) -> PathNumbers
+        ensures paths { result.paths ≡ [] }
+        ensures rows { result.rows ≡ [] }
+    {
+        PathNumbers {
+            paths: IndexSet::new(alloc),
+            rows: Vec::new(alloc),
+        }
+    }
+
+    /// The number of a path: its own, or the next one where it was not known. Its row is empty then.
+    /// Refuses only where an allocation is refused.
+    pub fn know(&mut self, alloc: Global, path: &StorePath) -> Result<usize, AllocError>
+        ensures number { IfOk result (IsNumberOf self.new.paths path.now) }
+        ensures grown { HasGrown self.old self.new }
+    {
+        self.make_row(alloc)?;
+        let (number, _) = self.paths.insert_full(path.try_clone()?)?;
+        Ok(number)
+    }
+
+    /// Makes sure that there is a row for one path more.
+    fn make_row(&mut self, alloc: Global) -> Result<(), AllocError>
+        ensures grown { HasGrown self.old self.new }
+        ensures same { self.new.paths ≡ self.old.paths }
+        ensures room { OnOk result (length self.old.paths < length self.new.rows) }
+    {
+        if self.rows.len() == self.paths.len() {
+            self.rows.push(Items::new(Vec::new(alloc)))?;
+        }
+        Ok(())
+    }
+
+    /// The numbers of these paths, one after another. Refuses only where an allocation is refused.
+    pub fn know_all(&mut self, alloc: Global, paths: &[StorePath]) -> Result<Vec<usize>, AllocError>
+        ensures numbers { IfOk result (λ v. AreNumbersOf self.new.paths paths.now v.items) }
+        ensures grown { HasGrown self.old self.new }
+    {
+        let mut numbers = Vec::with_capacity(alloc, paths.len())?;
+        for path in paths {
+            numbers.push(self.know(alloc, path)?)?;
+        }
+        Ok(numbers)
+    }
+
+    /// The number of a path that is known. It takes no memory.
+    pub fn number(&self, path: &StorePath) -> Option<usize>
+        ensures { IsLookedUp self.now.paths path.now result }
+    {
+        self.paths.get_index_of(path)
+    }
+
+    /// The numbers of what the path with this number refers to, as far as it was set. It takes no memory.
+    pub fn row(&self, number: usize) -> &[usize]
+        ensures { result.now ≡ row_in self.now.rows number }
+    {
+        match self.rows.get(number) {
+            Some(row) => row.as_slice(),
+            None => &[],
+        }
+    }
+
+    /// Says what a path refers to. It takes no memory.
+    pub fn set_row(&mut self, number: usize, row: Items<usize>)
+        requires { number < length self.old.paths }
+        ensures paths { self.new.paths ≡ self.old.paths }
+        ensures rows { self.new.rows ≡ slice_set self.old.rows number row }
+        ensures within { number < length self.old.rows }
+    {
+        self.rows[number] = row;
+    }
+
+    /// The set of the paths with these numbers. Refuses only where an allocation is refused.
+    pub fn set_of(&self, alloc: Global, numbers: &[usize]) -> Result<PathSet, AllocError>
+        ensures { IfOk result (IsSetOf self.now.paths numbers.now) }
+    {
+        let mut paths = Vec::with_capacity(alloc, numbers.len())?;
+        for number in numbers {
+            let Some(path) = self.paths.get_index(*number) else {
+                continue;
+            };
+            paths.push(path.try_clone()?)?;
+        }
+        PathSet::from_vec(paths)
+    }
+
+    /// A copy with the same numbers and the same rows.
+    pub fn try_clone(&self, alloc: Global) -> Result<PathNumbers, AllocError>
+        ensures { IfOk result (λ n. n ≡ self.now) }
+    {
+        Ok(PathNumbers {
+            paths: self.paths.clone()?,
+            rows: copy_rows(alloc, self.rows.as_slice())?,
+        })
+    }
+}
+
+/// A copy of these rows of numbers. Refuses only where an allocation is refused.
+pub fn copy_rows(alloc: Global, rows: &[Items<usize>]) -> Result<Vec<Items<usize>>, AllocError>
+    ensures { IfOk result (λ v. v.items ≡ rows.now) }
+{
+    let mut copies = Vec::with_capacity(alloc, rows.len())?;
+    for row in rows {
+        copies.push(Items::new(Vec::from_slice(alloc, row.as_slice())?))?;
+    }
+    Ok(copies)
+}

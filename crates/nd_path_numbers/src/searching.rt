@@ -1,0 +1,64 @@
+//! The search for what a machine lacks of a closure.
+
+ghost use Rattle.std.specs.Prelude.{◌<◌, ◌^◌, length, IfOk, OnOk};
+ghost use Rattle.nd_path_numbers.specs.Searches.{IsCovered, AddsUnheld, AreUnheld, FindsUnheld};
+
+use crate::holdings::Held;
+use crate::path_numbers::PathNumbers;
+use indexmap::IndexSet;
+use nd_path::PathSet;
+use std::alloc::{AllocError, Global};
+
+/// The paths that are reached from the seeds through paths that aren't held: at a held path the search
+/// stops, and what that path refers to isn't looked at. It costs a look-up of a number for each path that
+/// is found, for each of its references and for each seed, however much is held; only what is found is
+/// looked up as a path. Refuses only where an allocation is refused.
+pub fn reach_unheld(
+    alloc: Global,
+    seeds: &[usize],
+    numbers: &PathNumbers,
+    held: &Held,
+) -> Result<PathSet, AllocError>
+    ensures { IfOk result (FindsUnheld numbers.now held.now.numbers seeds.now) }
+{
+    let found = search(alloc, seeds, numbers, held)?;
+    numbers.set_of(alloc, found.as_slice())
+}
+
+/// The same as numbers.
+fn search(
+    alloc: Global,
+    seeds: &[usize],
+    numbers: &PathNumbers,
+    held: &Held,
+) -> Result<IndexSet<usize>, AllocError>
+    ensures { IfOk result (λ s. AreUnheld numbers.now.rows held.now.numbers seeds.now s.keys) }
+{
+    let mut found: IndexSet<usize> = IndexSet::new(alloc);
+    add_unheld(&mut found, seeds, held)?;
+    // A set has fewer members than the counter has values, so the search ends at the `break`.
+    for next in 0..usize::MAX {
+        let Some(number) = found.get_index(next) else {
+            break;
+        };
+        let row = numbers.row(*number);
+        add_unheld(&mut found, row, held)?;
+    }
+    // For the proof: a set's length is small.
+    let _len = found.len();
+    Ok(found)
+}
+
+/// Adds each number that is not held, behind those that the set has, where it hasn't got it.
+fn add_unheld(found: &mut IndexSet<usize>, numbers: &[usize], held: &Held) -> Result<(), AllocError>
+    ensures only { OnOk result (AddsUnheld held.now.numbers found.old.keys found.new.keys numbers.now) }
+    ensures all { OnOk result (IsCovered numbers.now held.now.numbers found.new.keys) }
+{
+    for number in numbers {
+        if held.contains(*number) {
+            continue;
+        }
+        found.insert(*number)?;
+    }
+    Ok(())
+}

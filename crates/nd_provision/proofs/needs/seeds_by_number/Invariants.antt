@@ -1,0 +1,11 @@
+use Rattle.std.proofs.Common.{◌≡◌, length}
+use Rattle.nd_path_numbers.specs.Numbers.{HasGrown}
+use Rattle.nd_provision.specs.Stored.{AreSeedsIn}
+use Rattle.nd_provision.proofs.needs.seeds_by_number.Given as goal
+
+abbrev pub invariant-loop-drv : goal.invariant-loop-drv
+invariant-loop-drv l = record {
+  grown : HasGrown l.fn.numbers l.numbers;
+  size : length l.rows.items ≡ l.drv;
+  seeds : AreSeedsIn l.graph l.numbers.paths l.rows.items;
+}

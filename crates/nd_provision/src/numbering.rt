@@ -1,0 +1,136 @@
+//! What is added to references and holdings, by number.
+
+ghost use Rattle.std.specs.Prelude.{◌≡◌, ◌==◌, [], length, map, if◌then◌else◌, IfOk};
+ghost use Rattle.std.specs.List.{zip};
+ghost use Rattle.nd_path_numbers.specs.Numbers.{AreNumbersOf, HasGrown};
+ghost use Rattle.nd_provision.specs.Stored.{entry_of, IsListing, AreListings, AreGivenEntries, IsNumberedGiven, IsNumberedBuild};
+
+use crate::copying::{Additions, Listing, set_of};
+use nd_bytes::Items;
+use nd_closure::RefTable;
+use nd_path::{PathSet, StorePath};
+use nd_path_numbers::PathNumbers;
+use std::alloc::{AllocError, Global};
+
+/// What the local machine has before the first entry: these paths, with what the info table lists for them.
+pub(crate) fn number_given(
+    alloc: Global,
+    numbers: &mut PathNumbers,
+    given: &[StorePath],
+    info: &RefTable,
+) -> Result<Additions, AllocError>
+    ensures given { IfOk result (IsNumberedGiven info.now.entries numbers.new.paths given.now) }
+    ensures grown { HasGrown numbers.old numbers.new }
+{
+    let entries = list_given(alloc, numbers, given, info)?;
+    let own = numbers.know_all(alloc, given)?;
+    Ok(Additions {
+        machine: 0,
+        entries,
+        own,
+        brought: Vec::new(alloc),
+        provided: true,
+    })
+}
+
+/// What a build on machine `m` with these outputs and references adds; whether the machine has what they
+/// refer to isn't looked at.
+pub(crate) fn number_build(
+    alloc: Global,
+    numbers: &mut PathNumbers,
+    m: usize,
+    outputs: &[StorePath],
+    refs: &[PathSet],
+) -> Result<Additions, AllocError>
+    requires { length refs.now ≡ length outputs.now }
+    ensures build { IfOk result (IsNumberedBuild numbers.new.paths m outputs.now refs.now) }
+    ensures grown { HasGrown numbers.old numbers.new }
+{
+    let entries = list_beside(alloc, numbers, outputs, refs)?;
+    let own = numbers.know_all(alloc, outputs)?;
+    let brought = numbers_for(alloc, numbers, m, outputs)?;
+    Ok(Additions {
+        machine: m,
+        entries,
+        own,
+        brought,
+        provided: false,
+    })
+}
+
+/// The numbers of what is brought to machine `m`: of these paths, or none where it is the local one.
+pub(crate) fn numbers_for(
+    alloc: Global,
+    numbers: &mut PathNumbers,
+    m: usize,
+    paths: &[StorePath],
+) -> Result<Vec<usize>, AllocError>
+    ensures numbers { IfOk result (λ v. AreNumbersOf numbers.new.paths (if m == 0 then [] else paths.now) v.items) }
+    ensures grown { HasGrown numbers.old numbers.new }
+{
+    if m == 0 {
+        return numbers.know_all(alloc, &[]);
+    }
+    numbers.know_all(alloc, paths)
+}
+
+/// A path and its set of references, with their numbers.
+fn list_one(
+    alloc: Global,
+    numbers: &mut PathNumbers,
+    path: &StorePath,
+    refs: PathSet,
+) -> Result<Listing, AllocError>
+    ensures listed { IfOk result (IsListing numbers.new.paths) }
+    ensures entry { IfOk result (λ l. entry_of l ≡ (path.now, refs)) }
+    ensures grown { HasGrown numbers.old numbers.new }
+{
+    let number = numbers.know(alloc, path)?;
+    let row = Items::new(numbers.know_all(alloc, refs.as_slice())?);
+    Ok(Listing {
+        path: path.try_clone()?,
+        refs,
+        number,
+        row,
+    })
+}
+
+/// These paths, each with its set of references, by number too.
+fn list_beside(
+    alloc: Global,
+    numbers: &mut PathNumbers,
+    paths: &[StorePath],
+    refs: &[PathSet],
+) -> Result<Vec<Listing>, AllocError>
+    requires { length refs.now ≡ length paths.now }
+    ensures entries { IfOk result (λ v. map entry_of v.items ≡ zip paths.now refs.now) }
+    ensures listed { IfOk result (λ v. AreListings numbers.new.paths v.items) }
+    ensures grown { HasGrown numbers.old numbers.new }
+{
+    let mut listings = Vec::new(alloc);
+    for i in 0..paths.len() {
+        let listing = list_one(alloc, numbers, &paths[i], refs[i].try_clone()?)?;
+        listings.push(listing)?;
+    }
+    Ok(listings)
+}
+
+/// These paths, each with the set of what the info table lists for it, by number too.
+fn list_given(
+    alloc: Global,
+    numbers: &mut PathNumbers,
+    given: &[StorePath],
+    info: &RefTable,
+) -> Result<Vec<Listing>, AllocError>
+    ensures entries { IfOk result (λ v. AreGivenEntries info.now.entries given.now (map entry_of v.items)) }
+    ensures listed { IfOk result (λ v. AreListings numbers.new.paths v.items) }
+    ensures grown { HasGrown numbers.old numbers.new }
+{
+    let mut listings = Vec::new(alloc);
+    for path in given {
+        let refs = set_of(alloc, info.refs(path))?;
+        let listing = list_one(alloc, numbers, path, refs)?;
+        listings.push(listing)?;
+    }
+    Ok(listings)
+}
