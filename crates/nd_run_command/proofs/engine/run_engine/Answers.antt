@@ -1,6 +1,6 @@
 use Rattle.std.proofs.Common.{vec_len, arith}
-use Rattle.std.proofs.lemmas.Result.{IfErr-weaker}
-use Rattle.nd_run_command.proofs.Endings.{came_back, run_fault, refused_fault, so_many}
+use Rattle.std.proofs.lemmas.Result.{IfErr-weaker, IfOk-weaker}
+use Rattle.nd_run_command.proofs.Endings.{came_back, runs_to, run_fault, refused_fault, so_many}
 use Rattle.nd_run_command.proofs.engine.run_engine.Goals as goal
 
 pub returns-in-Ok-clause-fault : goal.returns-in-Ok-clause-fault
@@ -16,3 +16,12 @@ pub returns-in-Err-clause-fault : goal.returns-in-Err-clause-fault
 returns-in-Err-clause-fault g c =
     refused_fault c.args.dispatch _ (vec_len c.args.workers) c.args.report g.W.Write.contents c.args.output.now c.in-Err.refused.why c.refusal-fault.result
     c.in-Err.ensures.refused (so_many _ _ _ (let whole = c.args.workers.ok.0 in omega arith)) c.refusal-fault.ensures
+
+pub returns-in-Ok-clause-answer : goal.returns-in-Ok-clause-answer
+returns-in-Ok-clause-answer g c =
+    let end = c.in-Ok.end in
+    let told = c.write_and_answer-answer in
+    let back = came_back c.args.dispatch end.dispatch end.fault told.ensures.legal c.in-Ok.ensures.runs c.in-Ok.ensures.goes_on c.in-Ok.ensures.quiet c.in-Ok.ensures.thread c.in-Ok.ensures.memory in
+    IfOk-weaker told.result _ _
+    (λ status h. runs_to c.args.dispatch end.dispatch end.fault c.args.report status (g.W.Write.contents c.args.output.now.device) (g.W.Write.contents told.new.output.device) back h)
+    told.ensures.answer
