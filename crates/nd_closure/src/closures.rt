@@ -1,10 +1,9 @@
-//! Closures under references, and set difference.
+//! Closures under references.
 
 ghost use Rattle.std.specs.Prelude.{◌≡◌, ◌<◌, ◌^◌, ℕ, List, length, IfOk, OnOk, ◌↔◌};
 ghost use Rattle.std.specs.List.{Contains};
 ghost use Rattle.nd_path.specs.PathSets.{HasSameMembers};
 ghost use Rattle.nd_closure.specs.Closures.{IsReached, IsLeastClosed, HoldsAll, AddsOnly};
-ghost use Rattle.nd_closure.specs.Sets.{IsDifference};
 
 use crate::ref_table::RefTable;
 use indexmap::IndexSet;
@@ -29,20 +28,6 @@ pub fn reach(alloc: Global, seeds: &[StorePath], table: &RefTable) -> Result<Pat
         add_all(&mut found, refs)?;
     }
     sorted(alloc, found)
-}
-
-/// The members of `paths` that `held` lacks. Refuses only where an allocation is refused.
-pub fn missing(alloc: Global, paths: &PathSet, held: &PathSet) -> Result<PathSet, AllocError>
-    ensures { IfOk result (IsDifference paths.now held.now) }
-{
-    let mut lacked = Vec::new(alloc);
-    for path in paths.as_slice() {
-        if held.contains(path) {
-            continue;
-        }
-        lacked.push(path.try_clone()?)?;
-    }
-    PathSet::from_vec(lacked)
 }
 
 /// Adds a copy of each path that the set does not hold yet, behind those that it holds.

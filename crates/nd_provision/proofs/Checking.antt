@@ -3,7 +3,7 @@ use Rattle.std.proofs.Common.{◌≡◌, ℕ, ◌+◌, ◌<◌, Bool, true, fals
 use Rattle.std.specs.Prelude.{◌↔◌}
 use Rattle.std.specs.List.{Contains}
 use Rattle.nd_path.specs.PathSets.{HasSameMembers}
-use Rattle.nd_closure.proofs.Differences.{passed_over, taken, difference_as_set}
+use Rattle.nd_provision.proofs.Differences.{passed_over, taken, difference_as_set}
 use Rattle.nd_path_numbers.specs.Numbers.{path_in, IsNumberOf, IsLookedUp}
 use Rattle.nd_path_numbers.proofs.Searched.{named, has_name}
 use Rattle.nd_provision.specs.Stored.{AreNamed, IsOnMachine, Lacks}

@@ -1,3 +1,4 @@
+pub mod Differences
 pub mod Gains
 pub mod Joined
 pub mod Lookalikes

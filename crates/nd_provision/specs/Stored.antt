@@ -11,7 +11,7 @@ use Rattle.nd_path.specs.PathSets.{HasSameMembers}
 use Rattle.nd_graph.specs.declared.graph.Input.{Input}
 use Rattle.nd_graph.specs.Graphs.{Nodes}
 use Rattle.nd_closure.specs.Tables.{is_listed, refs_of}
-use Rattle.nd_closure.specs.Sets.{IsDifference}
+use Rattle.nd_provision.specs.Differences.{IsDifference}
 use Rattle.nd_path_numbers.specs.Numbers.{Numbered, path_in, row_in, AreDistinct, AreKnown, AreNumbersOf, HasGrown, AreNumbered}
 use Rattle.nd_path_numbers.specs.Held.{Hold, hold_of}
 use Rattle.nd_path_numbers.specs.Searches.{IsCovered as IsCoveredIn}

@@ -4,12 +4,12 @@
 //! A text is written here with the digits 1, 2 and 3 for the three paths, and a list of paths as
 //! their digits.
 
-use nd_closure::{Held, Holdings, InfoError, RefTable, Refs, missing, parse_info, reach};
+use nd_closure::{InfoError, RefTable, Refs, parse_info, reach};
 use nd_path::{PathSet, StorePath};
 use std::alloc::{AllocError, Global};
 
 /// The path that a digit stands for.
-fn path_named(digit: u8) -> &'static [u8] {
+pub(crate) fn path_named(digit: u8) -> &'static [u8] {
     match digit {
         b'1' => b"/nix/store/pppppppppppppppppppppppppppppppp-s1",
         b'2' => b"/nix/store/qqqqqqqqqqqqqqqqqqqqqqqqqqqqqqqq-s2",
@@ -30,7 +30,7 @@ fn spelled(alloc: Global, text: &[u8]) -> Result<Vec<u8>, AllocError> {
 }
 
 /// The path with these bytes.
-fn path(alloc: Global, bytes: &[u8]) -> Result<StorePath, AllocError> {
+pub(crate) fn path(alloc: Global, bytes: &[u8]) -> Result<StorePath, AllocError> {
     match StorePath::parse(alloc, bytes) {
         Ok(path) => Ok(path),
         Err(_) => Err(AllocError),
@@ -38,7 +38,7 @@ fn path(alloc: Global, bytes: &[u8]) -> Result<StorePath, AllocError> {
 }
 
 /// The set of the paths that these digits stand for.
-fn set(alloc: Global, digits: &[u8]) -> Result<PathSet, AllocError> {
+pub(crate) fn set(alloc: Global, digits: &[u8]) -> Result<PathSet, AllocError> {
     let mut paths = Vec::new(alloc);
     for digit in digits {
         paths.push(path(alloc, path_named(*digit))?)?;
@@ -47,7 +47,7 @@ fn set(alloc: Global, digits: &[u8]) -> Result<PathSet, AllocError> {
 }
 
 /// Whether these are just the paths that the digits stand for, in this order.
-fn are(paths: &[StorePath], digits: &[u8]) -> bool {
+pub(crate) fn are(paths: &[StorePath], digits: &[u8]) -> bool {
     if paths.len() != digits.len() {
         return false;
     }
@@ -147,99 +147,6 @@ fn bad_info_lines(rt: HostRuntime) {
         assert!(rt; bad_line(rt.alloc(), text) == Some(*line), "line {line}");
     }
     assert!(rt; is_refusal_printed(rt.alloc()));
-}
-
-/// Two machines, with room on the second.
-fn machines(alloc: Global) -> Result<Holdings, AllocError> {
-    let mut holdings = Holdings::new(alloc, 2)?;
-    if holdings.len() == 2 {
-        holdings.reserve(1, 2)?;
-    }
-    Ok(holdings)
-}
-
-/// Whether the path that a digit stands for is added to the second machine, or none where memory is
-/// wanting.
-fn is_added(alloc: Global, holdings: &mut Holdings, digit: u8) -> Option<bool> {
-    if holdings.len() != 2 {
-        return None;
-    }
-    match path(alloc, path_named(digit)) {
-        Ok(path) => holdings.add(1, path).ok(),
-        Err(_) => None,
-    }
-}
-
-/// Whether just these of the paths 1 and 3 are missing on the second machine. Want of memory is a no.
-fn is_missing(alloc: Global, held: &Held, digits: &[u8]) -> bool {
-    let Ok(closure) = set(alloc, b"31") else {
-        return false;
-    };
-    match held.missing(alloc, &closure) {
-        Ok(missing) => are(missing.as_slice(), digits),
-        Err(_) => false,
-    }
-}
-
-/// Whether the first machine holds nothing, and the second lacks just these of the paths 1 and 3.
-fn lacks(alloc: Global, holdings: &Holdings, digits: &[u8]) -> bool {
-    if holdings.len() != 2 {
-        return false;
-    }
-    holdings.held(0).is_empty() && is_missing(alloc, holdings.held(1), digits)
-}
-
-/// Whether just these of the paths 1 and 3 are in no such set. Want of memory is a no.
-fn is_left(alloc: Global, held: &PathSet, digits: &[u8]) -> bool {
-    let Ok(closure) = set(alloc, b"31") else {
-        return false;
-    };
-    match missing(alloc, &closure, held) {
-        Ok(left) => are(left.as_slice(), digits),
-        Err(_) => false,
-    }
-}
-
-/// Whether just the paths 1 and 2 are held, so that of 1 and 3 the latter is left. Want of memory is a no.
-fn holds_both(alloc: Global, held: &Held) -> bool {
-    match held.to_set(alloc) {
-        Ok(held) => are(held.as_slice(), b"12") && is_left(alloc, &held, b"3"),
-        Err(_) => false,
-    }
-}
-
-/// Whether they are held on the second machine of a copy. Want of memory is a no.
-fn is_copied(alloc: Global, holdings: &Holdings) -> bool {
-    match holdings.try_clone() {
-        Ok(copy) => copy.len() == 2 && holds_both(alloc, copy.held(1)),
-        Err(_) => false,
-    }
-}
-
-/// Whether the second machine takes the paths 1 and 2, each once, and then lacks 3 alone of 1 and 3.
-fn takes(alloc: Global, holdings: &mut Holdings) -> bool {
-    let before = lacks(alloc, holdings, b"13");
-    let first = is_added(alloc, holdings, b'1');
-    let second = is_added(alloc, holdings, b'2');
-    let again = is_added(alloc, holdings, b'1');
-    before && first == Some(true) && second == Some(true) && again == Some(false)
-}
-
-/// The same of two new machines, and then of a copy of them. Want of memory is a no.
-fn are_copies_right(alloc: Global) -> bool {
-    match machines(alloc) {
-        Ok(mut holdings) => {
-            takes(alloc, &mut holdings)
-                && lacks(alloc, &holdings, b"3")
-                && is_copied(alloc, &holdings)
-        }
-        Err(_) => false,
-    }
-}
-
-#[test]
-fn copies_in_flight(rt: HostRuntime) {
-    assert!(rt; are_copies_right(rt.alloc()));
 }
 
 /// A copy of the references of two outputs: two paths, and none.

@@ -11,6 +11,8 @@ mod closures;
 #[cfg(test)]
 mod explaining;
 #[cfg(test)]
+mod holdings;
+#[cfg(test)]
 mod lines;
 #[cfg(test)]
 mod long_bundles;

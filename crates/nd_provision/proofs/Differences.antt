@@ -4,14 +4,7 @@ use Rattle.std.specs.List.{Contains}
 use Rattle.std.proofs.lemmas.List.{take_more}
 use Rattle.std.proofs.lemmas.List.Elements.{Contains-push, Contains-push_cases, Contains-append_left}
 use Rattle.nd_path.specs.PathSets.{HasSameMembers}
-use Rattle.nd_closure.specs.Sets.{IsDifference}
-
-pub difference_none : (held : List (List ℕ)) → IsDifference [] held []
-difference_none held = record {
-  of = λ p h. h;
-  lacked = λ p h _. omega (arith, h.1);
-  all = λ p h. inl h;
-}
+use Rattle.nd_provision.specs.Differences.{IsDifference}
 
 -- a path that is held is passed over
 pub passed_over : (paths held missing : List (List ℕ)) (i : ℕ) (p : List ℕ) → i < length paths → p ≡ get_or paths i p → IsDifference (take i paths) held missing → Contains held p
