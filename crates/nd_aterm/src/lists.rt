@@ -23,7 +23,8 @@ fn listed_at<'t, T: Part<'t>>(
     ensures none { IfErr result (λ e. Refuses e ((xs : List T) (rest : List ℕ)
         → T.text first bytes.now ≡ listed T.text xs (right_bracket ∷ rest) → ⊥)) }
 {
-    let mut items = Vec::new(alloc);
+    // Most lists are of one item: an input derivation's, say, of the outputs that are needed.
+    let mut items = Vec::with_capacity(alloc, 1)?;
     items.push(first)?;
     let mut rest = bytes;
     while let Some(after) = strip(rest, b',') {
