@@ -4,7 +4,7 @@ use Rattle.std.specs.List.{Contains, IsDistinct, list_any, position}
 use Rattle.std.specs.Cmp.Lexicographic.{nat_list_eq_equiv}
 use Rattle.std.proofs.lemmas.Bool.{cases_lt}
 use Rattle.std.proofs.lemmas.List.{get_or_default, append-nil, append_assoc, length-append, get_or_append_left, get_or_past, take_more, map-append}
-use Rattle.std.proofs.lemmas.List.Elements.{Contains-push_cases, Contains-append_left}
+use Rattle.std.proofs.lemmas.List.Elements.{Contains-push_cases, Contains-append_cases, Contains-append_left}
 use Rattle.std.proofs.lemmas.List.Folds.{list_any_at}
 use Rattle.std.proofs.lemmas.List.Quantifiers.{position-Some}
 use Rattle.std.proofs.lemmas.Option.{get_or_from_slice_get}
@@ -14,7 +14,7 @@ use Rattle.nd_path.specs.StorePath.{path_eq}
 use Rattle.nd_path.specs.SamePaths.{paths_same}
 use Rattle.nd_path.specs.PathSets.{HasSameMembers}
 use Rattle.nd_closure.specs.Tables.{refs_of}
-use Rattle.nd_path_numbers.specs.Numbers.{AreNumbered, IsSetOf, Numbered, path_in, row_in, AreDistinct, AreKnown, AreNumbersOf, IsNumberOf, IsLookedUp, HasGrown, Gathers}
+use Rattle.nd_path_numbers.specs.Numbers.{AreNumbered, IsSetOf, Numbered, path_in, row_in, AreDistinct, AreKnown, AreNumbersOf, IsNumberOf, IsLookedUp, HasGrown, AddsOnly, Gathers}
 
 -- ---- numbers of paths
 
@@ -131,6 +131,31 @@ path_grown old p keys is apart = record {
     put : (b : Bool) (paths : List (List ℕ)) → (if b then paths else paths ++ p ∷ []) ≡ paths ++ (if b then [] else p ∷ [])
     put true paths = sym (append-nil paths)
     put false paths = refl
+
+-- ---- no other path becomes known
+
+pub only_none : (paths these : List (List ℕ)) → AddsOnly paths paths these
+only_none paths these = record { each = λ p h. inl h }
+
+-- a path was put behind the others, where it was not among them
+pub only_this : (old : List (List ℕ)) (p : List ℕ) (keys : List (List ℕ)) → keys ≡ (if list_any (path_eq p) old then old else old ++ p ∷ []) → AddsOnly old keys (p ∷ [])
+only_this old p keys is = rw is (put (list_any (path_eq p) old))
+  where
+    put : (b : Bool) → AddsOnly old (if b then old else old ++ p ∷ []) (p ∷ [])
+    put true = only_none old (p ∷ [])
+    put false = record { each = λ q h. Contains-append_cases old (p ∷ []) q h }
+
+-- the next of the paths became known
+pub only_next : (one two three these : List (List ℕ)) (i : ℕ) (p : List ℕ) → i < length these → p ≡ get_or these i p → AddsOnly one two these → AddsOnly two three (p ∷ []) → AddsOnly one three these
+only_next one two three these i p lt at h k = record {
+  each = λ q there. elim (k.each q there) [
+    | inl before ↦ h.each q before
+    | inr this ↦ (elim (Contains-push_cases [] p q this) [
+      | inl none ↦ absurd (omega (arith, none.1))
+      | inr same ↦ inr (subst (λ (x : List ℕ). Contains these x) same (i, lt, sym at))
+    ])
+  ];
+}
 
 pub number_found : (keys : List (List ℕ)) (n : ℕ) (p k : List ℕ) → n < length keys → slice_get keys n ≡ Some k → path_eq p k ≡ true → IsNumberOf keys p n
 number_found keys n p k within at same = record { known = within; named = get_or_from_slice_get keys n k [] at ∙ sym (paths_same p k same) }

@@ -1,6 +1,6 @@
 -- Store paths by number: a path's number is its place among those that are known.
 -- Public clauses cite this, but `Gathers` serves private clauses alone.
-use Rattle.std.specs.Prelude.{◌≡◌, ℕ, ◌<◌, List, [], ◌++◌, length, map, slice_index_or, Option, None, Some}
+use Rattle.std.specs.Prelude.{◌≡◌, ℕ, ◌<◌, List, [], ◌++◌, ◌⊎◌, length, map, slice_index_or, Option, None, Some}
 use Rattle.std.specs.List.{Contains}
 use Rattle.nd_path.specs.PathSets.{HasSameMembers}
 use Rattle.nd_closure.specs.Tables.{refs_of}
@@ -47,6 +47,10 @@ pub record HasGrown (old new : Numbered) : Type 0 where
   pub paths : new.paths ≡ old.paths ++ more
   pub rows : (n : ℕ) → row_in new.rows n ≡ row_in old.rows n
   pub distinct : AreDistinct old.paths → AreDistinct new.paths
+
+-- each path that is known was known, or is one of these
+pub record AddsOnly (old new these : List (List ℕ)) : Type 0 where
+  pub each : (p : List ℕ) → Contains new p → Contains old p ⊎ Contains these p
 
 -- this set is that of the paths with these numbers, if each is a path's
 pub record IsSetOf (known : List (List ℕ)) (numbers : List ℕ) (paths : List (List ℕ)) : Type 0 where

@@ -1,7 +1,7 @@
 //! Store paths, each with a number.
 
-ghost use Rattle.std.specs.Prelude.{◌≡◌, ◌<◌, [], length, slice_set, IfOk, OnOk};
-ghost use Rattle.nd_path_numbers.specs.Numbers.{row_in, AreNumbersOf, IsNumberOf, IsLookedUp, HasGrown, IsSetOf};
+ghost use Rattle.std.specs.Prelude.{◌≡◌, ◌<◌, ◌∷◌, [], length, slice_set, IfOk, OnOk};
+ghost use Rattle.nd_path_numbers.specs.Numbers.{row_in, AreNumbersOf, IsNumberOf, IsLookedUp, HasGrown, AddsOnly, IsSetOf};
 
 use indexmap::IndexSet;
 use nd_bytes::Items;
@@ -41,10 +41,11 @@ impl PathNumbers {
     }
 
     /// The number of a path: its own, or the next one where it was not known. Its row is empty then.
-    /// Refuses only where an allocation is refused.
+    /// No other path becomes known. Refuses only where an allocation is refused.
     pub fn know(&mut self, alloc: Global, path: &StorePath) -> Result<usize, AllocError>
         ensures number { IfOk result (IsNumberOf self.new.paths path.now) }
         ensures grown { HasGrown self.old self.new }
+        ensures only { AddsOnly self.old.paths self.new.paths (path.now ∷ []) }
     {
         self.make_row(alloc)?;
         let (number, _) = self.paths.insert_full(path.try_clone()?)?;
@@ -63,10 +64,12 @@ impl PathNumbers {
         Ok(())
     }
 
-    /// The numbers of these paths, one after another. Refuses only where an allocation is refused.
+    /// The numbers of these paths, one after another; no other path becomes known. Refuses only where an
+    /// allocation is refused.
     pub fn know_all(&mut self, alloc: Global, paths: &[StorePath]) -> Result<Vec<usize>, AllocError>
         ensures numbers { IfOk result (λ v. AreNumbersOf self.new.paths paths.now v.items) }
         ensures grown { HasGrown self.old self.new }
+        ensures only { AddsOnly self.old.paths self.new.paths paths.now }
     {
         let mut numbers = Vec::with_capacity(alloc, paths.len())?;
         for path in paths {
