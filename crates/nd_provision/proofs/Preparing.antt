@@ -10,7 +10,7 @@ use Rattle.nd_path_numbers.proofs.Growing.{known_stay, names_stay, grown_through
 use Rattle.nd_history.specs.Premises.{Premises}
 use Rattle.nd_history.specs.References.{outputs_of}
 use Rattle.nd_provision.specs.declared.copying.Additions.{Additions}
-use Rattle.nd_provision.specs.Stored.{Stored, paths_on, IsSameStored, AreNeededIn, IsSeedRow, AreSeedsIn, AreRefsHeld, Fits, IsNumberedBuild, HasRoomFor, AreBuiltAdditions, entry_of}
+use Rattle.nd_provision.specs.Stored.{Stored, paths_on, IsSameStored, AreNeededIn, IsSeedRow, AreSeedsIn, AreRefsHeld, IsProvided, Fits, IsNumberedBuild, HasRoomFor, AreBuiltAdditions, entry_of}
 
 -- ---- seeds
 
@@ -68,7 +68,7 @@ none_brought paths m outputs numbers is zero_m =
     sym (length-map numbers (path_in paths)) ∙ ap (λ (xs : List (List ℕ)). length xs) (is ∙ ap (λ (b : Bool). if b then [] else outputs) (eq-eqb m 0 zero_m))
 
 pub fits_build : (mid new : Stored) (m : ℕ) (outputs : List (List ℕ)) (refs : List (List (List ℕ))) (a : Additions) → m < length mid.stocks → IsNumberedBuild mid.numbers.paths m outputs refs a → IsSameStored mid new → new.numbers ≡ mid.numbers → HasRoomFor new a
-    → (AreNumbered mid.entries mid.numbers → IsTrue a.provided → AreRefsHeld (mid.entries ++ map entry_of a.entries.items) (map (path_in mid.numbers.paths) a.own.items) (paths_on mid m)) → Fits new a
+    → IsProvided mid m a.own.items a.entries.items a.provided → Fits new a
 fits_build mid new m outputs refs a within is same numbers room provided =
     let machine : a.machine ≡ m = is.machine in
     let park : length new.stocks ≡ length mid.stocks = same.park in
@@ -86,7 +86,7 @@ fits_build mid new m outputs refs a within is same numbers room provided =
     }
   where
     held : AreNumbered mid.entries mid.numbers → IsTrue a.provided → AreRefsHeld (mid.entries ++ map entry_of a.entries.items) (map (path_in mid.numbers.paths) a.own.items) (map (path_in mid.numbers.paths) (hold_of new.stocks m).numbers)
-    held told has = subst (λ (ns : List ℕ). AreRefsHeld (mid.entries ++ map entry_of a.entries.items) (map (path_in mid.numbers.paths) a.own.items) (map (path_in mid.numbers.paths) ns)) (sym (same.held m)) (provided told has)
+    held told has = subst (λ (ns : List ℕ). AreRefsHeld (mid.entries ++ map entry_of a.entries.items) (map (path_in mid.numbers.paths) a.own.items) (map (path_in mid.numbers.paths) ns)) (sym (same.held m)) (provided.held told has)
 
 pub build_adds : (i : Premises) (mid new : Stored) (d m : ℕ) (refs : List (List (List ℕ))) (outputs : List (List ℕ)) (a : Additions) → outputs ≡ outputs_of i d → IsNumberedBuild mid.numbers.paths m outputs refs a → new.numbers ≡ mid.numbers → AreBuiltAdditions i new d m refs a
 build_adds i mid new d m refs outputs a at is numbers = record {

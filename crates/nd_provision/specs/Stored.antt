@@ -1,7 +1,7 @@
 -- What is kept beside the entries of references and holdings, so that closures and copies are found without a search of the history.
 -- The histories of these definitions stand newest first.
 -- Public clauses cite this, but `AreGivenEntries`, `AreNeeded`, `AreNeededIn`, `IsSeedRow`, `AreSeedsIn`, `IsClosureBy`, `IsCovered`, `IsBare`,
--- `IsOutside`, `AreAllWithin`, `IsStray`, `AreRefsHeld`, `IsOnMachine`, `IsCoveredBy`, `AreRowsCovered`,
+-- `IsOutside`, `AreAllWithin`, `IsStray`, `IsOnMachine`, `IsCoveredBy`, `AreRowsCovered`,
 -- `AreListingsCovered`, `Lacks`, `HasEntered`, `IsNumberedGiven`, `IsNumberedBuild` and `HasRoomFor` serve private
 -- clauses alone, and `is_quiet`, `named_outputs` and `AreSources` serve proofs alone.
 use Rattle.std.specs.Prelude.{◌≡◌, ◌≢◌, ℕ, ◌<◌, ◌≤◌, ◌↔◌, ◌⊎◌, IsTrue, Bool, true, false, List, [], ◌∷◌, ◌++◌, length, map, ◌==◌, ◌&&◌, if◌then◌else◌}
@@ -273,9 +273,9 @@ pub record HasRoomFor (s : Stored) (a : Additions) : Type 0 where
   pub own : length a.own.items ≤ (hold_of s.stocks 0).spare
   pub brought : length a.brought.items ≤ (hold_of s.stocks a.machine).spare
 
--- where the additions say so, their machine has what the new outputs refer to, but for the outputs
-pub record IsProvided (s : Stored) (a : Additions) : Type 0 where
-  pub held : AreNumbered s.entries s.numbers → IsTrue a.provided → AreRefsHeld (s.entries ++ map entry_of a.entries.items) (map (path_in s.numbers.paths) a.own.items) (paths_on s a.machine)
+-- where the answer is yes, machine m has what the outputs with these numbers refer to once these paths are entered, or it is among the outputs
+pub record IsProvided (s : Stored) (m : ℕ) (own : List ℕ) (listings : List Listing) (answer : Bool) : Type 0 where
+  pub held : AreNumbered s.entries s.numbers → IsTrue answer → AreRefsHeld (s.entries ++ map entry_of listings) (map (path_in s.numbers.paths) own) (paths_on s m)
 
 -- there is room for these additions, and their numbers are known
 pub record Fits (s : Stored) (a : Additions) : Type 0 where
@@ -289,7 +289,7 @@ pub record Fits (s : Stored) (a : Additions) : Type 0 where
   pub listings : AreListings s.numbers.paths a.entries.items
   pub own_known : AreKnown s.numbers.paths a.own.items
   pub brought_known : AreKnown s.numbers.paths a.brought.items
-  pub provided : IsProvided s a
+  pub provided : IsProvided s a.machine a.own.items a.entries.items a.provided
 
 -- these numbers were added to what machine m holds
 pub record HasGained (old new : List Hold) (m : ℕ) (numbers : List ℕ) : Type 0 where
@@ -307,7 +307,7 @@ pub record HasTaken (old new : Stored) (a : Additions) : Type 0 where
   pub own_known : AreKnown old.numbers.paths a.own.items
   pub brought_known : AreKnown old.numbers.paths a.brought.items
   pub whole : new.whole ≡ (old.whole && a.provided)
-  pub provided : IsProvided old a
+  pub provided : IsProvided old a.machine a.own.items a.entries.items a.provided
 
 -- the additions of a start on machine m: the copied paths, on a builder
 pub record AreStartAdditions (s : Stored) (m : ℕ) (paths : List (List ℕ)) (a : Additions) : Type 0 where

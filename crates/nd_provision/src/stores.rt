@@ -1,11 +1,10 @@
 //! What machines hold and what paths refer to, kept beside the entries of a history.
 
-ghost use Rattle.std.specs.Prelude.{◌≡◌, ◌<◌, ◌≤◌, ◌++◌, length, map, IfOk, OnOk, IfErr, IsTrue};
-ghost use Rattle.std.specs.List.{zip};
-ghost use Rattle.nd_path_numbers.specs.Numbers.{AreKnown, AreNumbered, path_in, row_in};
+ghost use Rattle.std.specs.Prelude.{◌≡◌, ◌<◌, ◌≤◌, length, IfOk, OnOk, IfErr};
+ghost use Rattle.nd_path_numbers.specs.Numbers.{AreKnown, row_in};
 ghost use Rattle.nd_history.specs.Premises.{premises_of};
 ghost use Rattle.nd_history.specs.References.{outputs_of};
-ghost use Rattle.nd_provision.specs.Stored.{entry_of, AreListings, IsFirstFor, IsSameStored, IsClosureBy, IsMissingBy, ArePathsRightBy, IsPathsFaultBy, AreReferencesRightBy, Fits, HasTaken, AreStartAdditions, AreBuiltAdditions, AreRefsHeld, HasRoomFor, paths_on};
+ghost use Rattle.nd_provision.specs.Stored.{AreListings, IsFirstFor, IsSameStored, IsClosureBy, IsMissingBy, ArePathsRightBy, IsPathsFaultBy, AreReferencesRightBy, Fits, HasTaken, AreStartAdditions, AreBuiltAdditions, IsProvided, HasRoomFor};
 
 use crate::checks::{all_lie_in, are_listings_held, are_rows_held, is_covered, lacked, lie_in};
 use crate::copying::{Additions, Listing, PathsError, enter_all, put_all, set_with};
@@ -321,7 +320,7 @@ impl Stores {
         requires machine { m < length self.now.stocks }
         requires known { AreKnown self.now.numbers.paths own.now }
         requires listed { AreListings self.now.numbers.paths entries.now }
-        ensures { AreNumbered self.now.entries self.now.numbers → IsTrue result → AreRefsHeld (self.now.entries ++ map entry_of entries.now) (map (path_in self.now.numbers.paths) own.now) (paths_on self.now m) }
+        ensures { IsProvided self.now m own.now entries.now result }
     {
         let held = self.holdings.held(m);
         if !are_rows_held(&self.numbers, held, own) {

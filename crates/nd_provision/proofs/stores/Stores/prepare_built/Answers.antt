@@ -1,8 +1,7 @@
-use Rattle.std.proofs.Common.{◌<◌, ◌++◌, List, ℕ, length, map, sym, subst, IsTrue}
-use Rattle.nd_path_numbers.specs.Numbers.{AreNumbered, path_in}
+use Rattle.std.proofs.Common.{◌<◌, List, ℕ, length, sym, subst}
 use Rattle.nd_provision.specs.declared.copying.Listing.{Listing}
 use Rattle.nd_provision.specs.declared.copying.Additions.{Additions}
-use Rattle.nd_provision.specs.Stored.{Stored, AreRefsHeld, IsNumberedBuild, entry_of, paths_on}
+use Rattle.nd_provision.specs.Stored.{Stored, IsNumberedBuild, IsProvided}
 use Rattle.nd_provision.proofs.Preparing.{fits_build}
 use Rattle.nd_provision.proofs.stores.Stores.prepare_built.Goals as goal
 
@@ -29,7 +28,7 @@ returns-clause-fits c =
     let within : c.args.m < length mid.stocks = subst (λ (s : Stored). c.args.m < length s.stocks) (sym c.self.view_is) c.requires.machine in
     let build : IsNumberedBuild mid.numbers.paths c.args.m c.outputs-outputs.result.now c.lists.result.now additions =
     record { machine = numbered.machine; entries = numbered.entries; listed = numbered.listed; own = numbered.own; brought = numbered.brought } in
-    let provided : AreNumbered mid.entries mid.numbers → IsTrue c.is_provided.result → AreRefsHeld (mid.entries ++ map entry_of entries) (map (path_in mid.numbers.paths) own) (paths_on mid c.args.m) =
-    subst (λ (ls : List Listing). AreNumbered mid.entries mid.numbers → IsTrue c.is_provided.result → AreRefsHeld (mid.entries ++ map entry_of ls) (map (path_in mid.numbers.paths) own) (paths_on mid c.args.m)) c.as_slice-2.ensures.value
-    (subst (λ (ns : List ℕ). AreNumbered mid.entries mid.numbers → IsTrue c.is_provided.result → AreRefsHeld (mid.entries ++ map entry_of c.as_slice-2.result.now) (map (path_in mid.numbers.paths) ns) (paths_on mid c.args.m)) c.as_slice.ensures.value c.is_provided.ensures) in
+    let provided : IsProvided mid c.args.m own entries c.is_provided.result =
+    subst (λ (ls : List Listing). IsProvided mid c.args.m own ls c.is_provided.result) c.as_slice-2.ensures.value
+    (subst (λ (ns : List ℕ). IsProvided mid c.args.m ns c.as_slice-2.result.now c.is_provided.result) c.as_slice.ensures.value c.is_provided.ensures) in
     fits_build mid c.make_room.new.self c.args.m c.outputs-outputs.result.now c.lists.result.now additions within build c.make_room.ensures.same c.make_room.ensures.numbers c.in_ok-make_room.ensures.room provided
