@@ -1,7 +1,9 @@
--- What is said of a fault of a journal. The words are this project's own: they are those of the table "Refusals" of README.md. Public clauses
--- cite `advice_words`; the others serve private ones.
+-- What is said of a fault of a journal, and which part of the journal is shown. The words are this project's own: they are those of the table
+-- "Refusals" of README.md. Public clauses cite `advice_words` and `part_named`; the others serve private ones.
 use Rattle.std.specs.Prelude.{ℕ, ◌+◌, ◌^◌, List, Option, Some, None, codes, nat_lt, if◌then◌else◌}
 use Rattle.nd_explain.specs.AdviceWords.{advice_words as words_on}
+use Rattle.nd_explain.specs.declared.parts.Part.{Part}
+use Rattle.nd_explain.specs.declared.parts.Part.TheVariants.{Nowhere, Line}
 use Rattle.nd_resume.specs.declared.resume_error.ResumeError.{ResumeError}
 use Rattle.nd_resume.specs.declared.resume_error.ResumeError.TheVariants.{BadLine, Illegal, Memory}
 use Rattle.nd_serve_command.specs.declared.fault.ServeFault.{ServeFault}
@@ -50,3 +52,11 @@ line_named NotEmpty = None
 line_named InUse = None
 line_named (Journal refusal) = line_of_journal refusal
 line_named JournalFailed = None
+
+-- the part of the journal that is shown: that line, where there is one
+abbrev pub part_of_line : Option ℕ → Part
+part_of_line (Some number) = Line number
+part_of_line None = Nowhere
+
+abbrev pub part_named : ServeFault → Part
+part_named fault = part_of_line (line_named fault)

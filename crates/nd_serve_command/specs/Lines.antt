@@ -1,4 +1,4 @@
--- The next line of a reader, as far as what it has left is known. No public clause cites this: it serves private clauses alone.
+-- The next line of a reader, as far as what it has left is known. A public clause cites `IsLineRead`; the others serve private ones.
 use Rattle.std.specs.Prelude.{◌≡◌, ◌==◌, ℕ, List, [], ◌∷◌, length, Option, Some, None}
 use Rattle.std.specs.Io.BufRead.{drop_through}
 use Rattle.nd_bytes.specs.Cut.{until}

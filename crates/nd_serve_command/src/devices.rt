@@ -1,7 +1,8 @@
 //! The devices of a session, as one desk.
 
-ghost use Rattle.std.specs.Prelude.{◌≡◌, ◌↔◌, IsTrue, is_ok, IfErr, OnOk};
+ghost use Rattle.std.specs.Prelude.{◌≡◌, ◌↔◌, IsTrue, is_ok, IfErr, IfOk, OnOk};
 ghost use Rattle.std.specs.Io.KnownBytes.{Appends};
+ghost use Rattle.nd_serve_command.specs.Lines.{IsLineRead};
 
 use crate::journals::Journal;
 use crate::lines::next_line;
@@ -12,8 +13,10 @@ use std::io::{self, BufRead, Write};
 
 /// A reader of lines, a writer and a journal. What is done to them isn't known to contracts, but for what
 /// the writer holds, where it says that, as one in memory does: an answer adds its bytes to it, and no other
-/// call adds any. Whatever the journal or the writer is refused for, the system's want of memory too, is
-/// their own refusal: a part of the bytes may be there.
+/// call adds any; and for what the reader has left, where it says that: a line that is heard is the next one
+/// of it. Each call leaves the two devices that it isn't about as they were. Whatever the journal or the
+/// writer is refused for, the system's want of memory too, is their own refusal: a part of the bytes may be
+/// there.
 #[derive(Drop)]
 pub struct Devices<R, W, J> {
     /// Where lines come from.
@@ -25,27 +28,45 @@ pub struct Devices<R, W, J> {
 }
 
 impl<R: BufRead, W: Write, J: Journal> Desk for Devices<R, W, J> {
-    ghost use Rattle.nd_desk.specs.Notes.{told_alone};
+    ghost use Rattle.nd_desk.specs.Notes.{told_alone, Notes, heard, tried};
+    ghost use Rattle.nd_desk.specs.declared.event.Event.{Event};
 
     ghost seen = { λ d. told_alone (W.contents d.output) };
 
     #[tactic(auto, using(crate::proofs::Passed::reads))]
-    fn hear(&mut self, alloc: Global) -> Result<Option<ByteString>, DeskFault> {
+    fn hear(&mut self, alloc: Global) -> Result<Option<ByteString>, DeskFault>
+        ensures noted { Notes (told_alone (W.contents self.old.output)) (told_alone (W.contents self.new.output)) (heard result) }
+        ensures output { self.new.output ≡ self.old.output }
+        ensures journal { self.new.journal ≡ self.old.journal }
+        ensures line { IfOk result (λ line. IsLineRead (R.remaining self.old.input) (R.remaining self.new.input) line) }
+    {
         next_line(alloc, &mut self.input)
     }
 
     #[tactic(auto, using(crate::proofs::Passed::appends))]
-    fn append(&mut self, bytes: &[u8]) -> Result<(), DeskFault> {
+    fn append(&mut self, bytes: &[u8]) -> Result<(), DeskFault>
+        ensures noted { Notes (told_alone (W.contents self.old.output)) (told_alone (W.contents self.new.output)) (tried result (Event.Appended bytes.now)) }
+        ensures input { self.new.input ≡ self.old.input }
+        ensures output { self.new.output ≡ self.old.output }
+    {
         done(self.journal.append(bytes))
     }
 
     #[tactic(auto, using(crate::proofs::Passed::syncs))]
-    fn sync(&mut self) -> Result<(), DeskFault> {
+    fn sync(&mut self) -> Result<(), DeskFault>
+        ensures noted { Notes (told_alone (W.contents self.old.output)) (told_alone (W.contents self.new.output)) (tried result Event.Synced) }
+        ensures input { self.new.input ≡ self.old.input }
+        ensures output { self.new.output ≡ self.old.output }
+    {
         done(self.journal.sync())
     }
 
     #[tactic(auto, using(crate::proofs::Passed::answers))]
-    fn answer(&mut self, bytes: &[u8]) -> Result<(), DeskFault> {
+    fn answer(&mut self, bytes: &[u8]) -> Result<(), DeskFault>
+        ensures noted { Notes (told_alone (W.contents self.old.output)) (told_alone (W.contents self.new.output)) (tried result (Event.Answered bytes.now)) }
+        ensures input { self.new.input ≡ self.old.input }
+        ensures journal { self.new.journal ≡ self.old.journal }
+    {
         pass_on(bytes, &mut self.output)
     }
 }

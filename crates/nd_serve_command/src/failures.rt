@@ -1,10 +1,11 @@
 //! A fault of a journal with what is known about it, and the lines that say so.
 
-ghost use Rattle.std.specs.Prelude.{◌≡◌};
-ghost use Rattle.nd_serve_command.specs.Advised.{advice_words, advice_words_of_journal, line_named};
+ghost use Rattle.std.specs.Prelude.{◌≡◌, IfSome, None, string_bytes};
+ghost use Rattle.nd_explain.specs.Shown.{IsShown};
+ghost use Rattle.nd_serve_command.specs.Advised.{advice_words, advice_words_of_journal, line_named, part_named};
 
 use crate::fault::ServeFault;
-use nd_explain::{Advice, advice_on, excerpt, line_of};
+use nd_explain::{Advice, Part, advice_on, excerpt, piece_of};
 use nd_resume::ResumeError;
 use std::alloc::Global;
 use std::{fmt, io};
@@ -26,7 +27,12 @@ pub struct JournalFailure<'a> {
 
 impl<'a> JournalFailure<'a> {
     /// A fault of the file.
-    pub fn of_file(fault: ServeFault, name: &'a str, system: Option<io::Error>) -> Self {
+    pub fn of_file(fault: ServeFault, name: &'a str, system: Option<io::Error>) -> Self
+        ensures fault { result.fault ≡ fault }
+        ensures name { result.name.now ≡ name.now }
+        ensures system { result.system ≡ system }
+        ensures text { result.text ≡ None }
+    {
         JournalFailure {
             fault,
             name,
@@ -36,12 +42,13 @@ impl<'a> JournalFailure<'a> {
     }
 
     /// A refusal of these bytes. Where there is no memory for the line that is refused, it isn't shown.
-    pub fn of_bytes(alloc: Global, fault: ServeFault, name: &'a str, bytes: &[u8]) -> Self {
-        let line = match line_at(&fault) {
-            Some(number) => line_of(bytes, number),
-            None => None,
-        };
-        let text = match line {
+    pub fn of_bytes(alloc: Global, fault: ServeFault, name: &'a str, bytes: &[u8]) -> Self
+        ensures fault { result.fault ≡ fault }
+        ensures name { result.name.now ≡ name.now }
+        ensures system { result.system ≡ None }
+        ensures text { IfSome result.text (λ s. IsShown bytes.now (part_named fault) (string_bytes s)) }
+    {
+        let text = match piece_of(bytes, part_at(&fault)) {
             Some(line) => excerpt(alloc, line).ok(),
             None => None,
         };
@@ -69,6 +76,16 @@ impl fmt::Display for JournalFailure<'_> {
         }
         let Advice { cause, cure } = journal_advice(&self.fault);
         write!(f, "cause: {cause}\ncure: {cure}")
+    }
+}
+
+/// The part of the journal that a fault is about: a line, or none.
+fn part_at(fault: &ServeFault) -> Part
+    ensures { result ≡ part_named fault.now }
+{
+    match line_at(fault) {
+        Some(number) => Part::Line(number),
+        None => Part::Nowhere,
     }
 }
 

@@ -22,9 +22,9 @@ use std::alloc::Global;
 /// was answered by a whole answer. Of a desk whose output is known: it gets all that was answered, and
 /// nothing else, unless it refuses an answer.
 ///
-/// What is noted of [`Devices`](crate::Devices) isn't known, and of what they do only that is proved which
-/// speaks of the output. That they hear the lines of their reader, and that their journal gets what is noted
-/// and makes it durable, is only tested.
+/// What is noted of [`Devices`](crate::Devices) isn't known, and of what they do in a session only that is
+/// proved which speaks of the output. That the session's lines are those of their reader, each of which `hear`
+/// has a clause for, and that their journal gets what is noted and makes it durable, is only tested.
 #[tactic(auto, using(crate::proofs::Ended::sessions))]
 pub fn serve_engine<D: Desk>(alloc: Global, opened: Opened, desk: &mut D) -> Result<u8, ServeFault>
     ensures ended { IfOk result (λ status. EndsSession opened.dispatch (opened.kept == 0) status (D.seen desk.old) (D.seen desk.new)) }
