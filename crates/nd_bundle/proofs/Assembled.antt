@@ -1,20 +1,18 @@
 -- What resolved inputs give of a graph.
-use Rattle.std.proofs.Common.{◌≡◌, ℕ, zero, suc, ◌+◌, ◌<◌, ◌≤◌, List, [], ◌∷◌, ◌++◌, length, get_or, map, Contains, Result, Ok, Err, refl, sym, ap, ◌∙◌, subst, inl, inr, arith}
+use Rattle.std.proofs.Common.{◌≡◌, ℕ, zero, suc, ◌<◌, ◌≤◌, List, [], ◌∷◌, length, get_or, map, Contains, refl, sym, ap, ◌∙◌, subst, inl, inr, arith}
 use Rattle.std.proofs.lemmas.Bool.{cases_lt}
 use Rattle.std.proofs.lemmas.List.{get_or_default, get_or_past, get_or-map, length-map}
 use Rattle.nd_eligible.specs.declared.need.Need.{Need}
 use Rattle.nd_bundle.specs.Columned.{HasColumns}
-use Rattle.nd_graph.specs.Graphs.{nodes_of, nodes_with, needed, node_limit, rows_of, Nodes, IsOrderFault, IsSound, NamesOutputs, IsAt}
-use Rattle.nd_bundle.specs.Numbered.{fault_at, of_order}
-use Rattle.nd_bundle.specs.Settled.{AreFit, AreSized, IsGraphRead, IsFit, IsRead, IsReadFault, IsResolved, ReadsFit, said, of_line, of_whole, ArePaired, AllNamesRise, NamesRise}
+use Rattle.nd_graph.specs.Graphs.{nodes_of, nodes_with, needed, node_limit, IsOrderFault, IsSound, NamesOutputs, IsAt}
+use Rattle.nd_bundle.specs.Numbered.{of_order}
+use Rattle.nd_bundle.specs.Settled.{AreFit, AreSized, IsFit, IsResolved, ArePaired, AllNamesRise, NamesRise}
 use Rattle.nd_graph.specs.Walks.{AreDistinct, AreInRange, IsAcyclic}
-use Rattle.nd_bundle.specs.Whole.{links_of, AllNumbered, AreNumbered, IsGraphOf, IsNumbered, IsTooMany, IsWholeFault}
+use Rattle.nd_bundle.specs.Whole.{AllNumbered, AreNumbered, IsNumbered, IsTooMany, IsWholeFault}
 use Rattle.nd_bundle.specs.declared.columns.Columns.{Columns}
-use Rattle.nd_bundle.specs.declared.fault.GraphError.{GraphError}
 use Rattle.nd_graph.specs.declared.fault.OrderError.{OrderError}
 use Rattle.nd_graph.specs.declared.fault.OrderError.TheVariants.{Cycle, Memory}
 use Rattle.nd_graph.specs.declared.graph.Input.{Input}
-use Rattle.nd_bundle.specs.declared.refusal.LineError.{LineError}
 use Rattle.nd_bundle.specs.declared.line.LineNode.{LineNode}
 use Rattle.nd_bundle.specs.declared.line.NamedInput.{NamedInput}
 use Rattle.nd_bundle.proofs.Linked.{rows_have}
@@ -138,24 +136,3 @@ too_many paths names wants rows distinct resolved acyclic many = record {
   acyclic = acyclic;
   many = many;
 }
-
--- the nodes that were read
-pub read_paired : (read : List (Result LineNode LineError)) (nodes : List LineNode) → ReadsFit read → IsRead read nodes → AreFit nodes
-read_paired read nodes pairs is = record {
-  fit = λ node on.
-      let there : Contains (map said nodes) (Ok node) = (
-        on.0,
-        rw (length-map nodes said) on.1,
-        get_or-map said nodes on.0 node (Ok node) on.1 ∙ ap said on.2,
-      ) in
-      pairs.fit node (subst (λ (xs : List (Result LineNode LineError)). Contains xs (Ok node)) (sym is.all) there);
-}
-
-pub graph_read : (read : List (Result LineNode LineError)) (nodes : List LineNode) (graph : Nodes) → IsRead read nodes → IsGraphOf nodes graph → IsSound graph → IsAcyclic (rows_of graph) → IsGraphRead read graph
-graph_read read nodes graph is of sound acyclic = record { nodes = nodes; read_is = is; of = of; sound = sound; acyclic = acyclic }
-
-pub fault_read : (read : List (Result LineNode LineError)) (nodes : List LineNode) (error : GraphError) → IsRead read nodes → IsWholeFault (links_of nodes) error → IsReadFault read error
-fault_read read nodes error is fault = of_whole nodes is fault
-
-pub line_refused : (read : List (Result LineNode LineError)) (nodes : List LineNode) (fault : LineError) (behind : List (Result LineNode LineError)) (error : GraphError) → read ≡ map said nodes ++ Err fault ∷ behind → error ≡ fault_at fault (length nodes + 1) → IsReadFault read error
-line_refused read nodes fault behind error parts is = of_line (record { before = nodes; fault = fault; behind = behind; parts = parts; error_is = is })

@@ -4,7 +4,7 @@ use Rattle.std.specs.Prelude.{is_none}
 use Rattle.std.specs.List.{AllZip, list_any}
 use Rattle.std.specs.Option.{unwrap_or}
 use Rattle.std.proofs.lemmas.Bool.{cases_lt}
-use Rattle.std.proofs.lemmas.List.{take_all, get_or_at, get_or_default, get_or-take, length-map, length-take-le}
+use Rattle.std.proofs.lemmas.List.{get_or_at, get_or_default, get_or-take, length-map, length-take-le}
 use Rattle.nd_graph.specs.Graphs.{IsAt, IsNumber}
 use Rattle.nd_graph.specs.Walks.{AreDistinct}
 use Rattle.nd_graph.specs.declared.graph.Input.{Input}
@@ -61,18 +61,11 @@ pub output_alone : (known : Known) (wants : List NamedInput) → HasInputs known
 output_alone known wants inputs lacks = record { inputs = inputs; lacks = lacks }
 
 -- line by line
-pub links_none : (known : Known) (wants : List (List NamedInput)) → AreLinks known (take 0 wants) []
-links_none known wants = record { each = tt }
+pub links_none : (known : Known) → AreLinks known [] []
+links_none known = record { each = tt }
 
-pub links_more : (known : Known) (wants : List (List NamedInput)) (rows : List (Result (List Input) LinkError)) (i : ℕ) (wanted : List NamedInput) (row : Result (List Input) LinkError) → i < length wants → wanted ≡ get_or wants i wanted
-    → AreLinks known (take i wants) rows → IsLink known wanted row → AreLinks known (take (i + 1) wants) (rows ++ row ∷ [])
-links_more known wants rows i wanted row lt is so here = record {
-  each = subst (λ (xs : List (List NamedInput)). AllZip (IsLink known) xs (rows ++ row ∷ [])) (sym (taken wants i wanted lt is))
-      (zip_push (IsLink known) (take i wants) rows wanted row so.each here);
-}
-
-pub links_all : (known : Known) (wants : List (List NamedInput)) (rows : List (Result (List Input) LinkError)) (i : ℕ) → AreLinks known (take i wants) rows → length wants ≤ i → AreLinks known wants rows
-links_all known wants rows i so all = subst (λ (xs : List (List NamedInput)). AreLinks known xs rows) (take_all i wants all) so
+pub links_more : (known : Known) (wants : List (List NamedInput)) (rows : List (Result (List Input) LinkError)) (wanted : List NamedInput) (row : Result (List Input) LinkError) → AreLinks known wants rows → IsLink known wanted row → AreLinks known (wants ++ wanted ∷ []) (rows ++ row ∷ [])
+links_more known wants rows wanted row so here = record { each = zip_push (IsLink known) wants rows wanted row so.each here }
 
 -- the search for a line without an input
 pub known_none : (rows : List (Result (List Input) LinkError)) → HaveInputs rows 0

@@ -1,7 +1,7 @@
 mod Apart
 pub mod Assembled
 mod Collecting
-mod Cutting
+pub mod Newlines
 pub mod Gathered
 pub mod Linked
 pub mod Numbers
@@ -11,5 +11,6 @@ pub mod OneDrvPath
 pub mod Rising
 mod Sayings
 mod Strings
+pub mod Taken
 pub mod Told
 pub mod Zipped

@@ -1,22 +1,26 @@
 -- From what was read of each line to the bundle.
-use Rattle.std.proofs.Common.{◌≡◌, ℕ, ◌+◌, Bool, List, [], ◌∷◌, ◌++◌, length, get_or, map, Result, Ok, Err, refl, sym, ap, ◌∙◌, subst, arith}
+use Rattle.std.proofs.Common.{◌≡◌, ℕ, ◌+◌, Bool, List, [], ◌∷◌, ◌++◌, length, get_or, map, Result, Ok, Err, IfOk, refl, sym, ap, ◌∙◌, subst, arith, append_assoc}
 use Rattle.std.specs.List.{AllZip}
 use Rattle.std.proofs.lemmas.List.{length-map}
 use Rattle.nd_aterm.specs.declared.records.Output.{Output}
 use Rattle.nd_bundle.specs.Bundles.{IsBundle, IsFirstFault, IsLineRefused}
-use Rattle.nd_graph.specs.Graphs.{Nodes}
+use Rattle.nd_graph.specs.Graphs.{Nodes, rows_of, IsSound}
+use Rattle.nd_graph.specs.Walks.{IsAcyclic}
+use Rattle.nd_bundle.specs.declared.columns.Columns.{Columns}
 use Rattle.nd_bundle.specs.Lines.{lines}
 use Rattle.nd_bundle.specs.Numbered.{fault_at}
 use Rattle.nd_bundle.specs.Reads.{IsFaulty, IsLine, Reads}
-use Rattle.nd_bundle.specs.Settled.{IsGraphRead, IsFit, IsRead, IsReadFault, ReadsFit, said, of_line, of_whole, of_memory}
-use Rattle.nd_bundle.specs.Whole.{links_of, IsWholeFault}
+use Rattle.nd_bundle.specs.Columned.{HasColumns, SayColumns, said}
+use Rattle.nd_bundle.specs.Settled.{links_in, AllNamesRise, AreFit, ArePaired, AreSized, IsFit, IsGraphOfColumns}
+use Rattle.nd_bundle.specs.Whole.{links_of, AllNumbered, IsGraphOf, IsWholeFault, Links}
 use Rattle.nd_bundle.specs.declared.fault.GraphError.{GraphError}
 use Rattle.nd_bundle.specs.declared.fault.GraphError.TheVariants as bundle
 use Rattle.nd_bundle.specs.declared.line.LineNode.{LineNode}
 use Rattle.nd_bundle.specs.declared.refusal.LineError.{LineError}
 use Rattle.nd_bundle.specs.declared.refusal.LineError.TheVariants.{BadLine, BadPath, BadDerivation, UnknownOutput, BadAttribute, WrongPath, Memory}
+use Rattle.nd_bundle.proofs.Assembled.{columns_paired, columns_rising, columns_sized}
 use Rattle.nd_bundle.proofs.Rising.{names_rise}
-use Rattle.nd_bundle.proofs.Zipped.{zip_at, zip_length}
+use Rattle.nd_bundle.proofs.Zipped.{both_zip, zip_at, zip_length}
 
 -- a line's node has as many output names as output paths, and its output names rise
 node_fit : (check : Bool) (line : List ℕ) (node : LineNode) → IsLine check line node → IsFit node
@@ -29,27 +33,21 @@ node_fit check line node is =
       rising = record { rises = names_rise check line node is };
     }
 
-pub reads_fit : (check : Bool) (text : List ℕ) (read : List (Result LineNode LineError)) → AllZip (Reads check) (lines text) read → ReadsFit read
-reads_fit check text read zip = record {
+-- .. of each line
+pub nodes_fit : (check : Bool) (ls : List (List ℕ)) (nodes : List LineNode) → AllZip (IsLine check) ls nodes → AreFit nodes
+nodes_fit check ls nodes zip = record {
   fit = λ node on.
-      let long : length (lines text) ≡ length read = zip_length (Reads check) (lines text) read zip in
-      let at : Reads check (get_or (lines text) on.0 []) (get_or read on.0 (Ok node)) = zip_at (Reads check) (lines text) read on.0 [] (Ok node) zip (omega (arith, on.1)) in
-      let is : IsLine check (get_or (lines text) on.0 []) node = subst (λ (r : Result LineNode LineError). Reads check (get_or (lines text) on.0 []) r) on.2 at in
-      node_fit check (get_or (lines text) on.0 []) node is;
+      let long : length ls ≡ length nodes = zip_length (IsLine check) ls nodes zip in
+      let at : IsLine check (get_or ls on.0 []) (get_or nodes on.0 node) = zip_at (IsLine check) ls nodes on.0 [] node zip (omega (arith, on.1)) in
+      node_fit check (get_or ls on.0 []) node (subst (λ (n : LineNode). IsLine check (get_or ls on.0 []) n) on.2 at);
 }
 
 -- the nodes of lines that were all read
-nodes_say : (check : Bool) (ls : List (List ℕ)) (nodes : List LineNode) → AllZip (Reads check) ls (map said nodes) → AllZip (IsLine check) ls nodes
+pub nodes_say : (check : Bool) (ls : List (List ℕ)) (nodes : List LineNode) → AllZip (Reads check) ls (map said nodes) → AllZip (IsLine check) ls nodes
 nodes_say check [] [] zip = tt
 nodes_say check [] (n ∷ nodes) zip = absurd zip
 nodes_say check (l ∷ ls) [] zip = absurd zip
 nodes_say check (l ∷ ls) (n ∷ nodes) zip = (zip.0, nodes_say check ls nodes zip.1)
-
-all_say : (check : Bool) (ls : List (List ℕ)) (read : List (Result LineNode LineError)) (nodes : List LineNode) → AllZip (Reads check) ls read → IsRead read nodes → AllZip (IsLine check) ls nodes
-all_say check ls read nodes zip is = nodes_say check ls nodes (subst (λ (rs : List (Result LineNode LineError)). AllZip (Reads check) ls rs) is.all zip)
-
-pub is_bundle : (check : Bool) (text : List ℕ) (read : List (Result LineNode LineError)) (graph : Nodes) → AllZip (Reads check) (lines text) read → IsGraphRead read graph → IsBundle check text graph
-is_bundle check text read graph zip is = record { nodes = is.nodes; says = all_say check (lines text) read is.nodes zip is.read_is; of = is.of; sound = is.sound; acyclic = is.acyclic }
 
 -- the lines up to the first that is refused
 record IsSplit (check : Bool) (ls : List (List ℕ)) (nodes : List LineNode) (fault : LineError) : Type 0 where
@@ -103,9 +101,53 @@ whole_fault check text nodes bundle.Cycle says is = record { nodes = nodes; says
 whole_fault check text nodes bundle.TooMany says is = record { nodes = nodes; says = says; refused = is }
 whole_fault check text nodes bundle.Memory says is = tt
 
-pub first_fault : (check : Bool) (text : List ℕ) (read : List (Result LineNode LineError)) (error : GraphError) → AllZip (Reads check) (lines text) read → IsReadFault read error → IsFirstFault check text error
-first_fault check text read error zip (of_line first) =
-    let split = split_lines check (lines text) first.before first.fault first.behind (subst (λ (rs : List (Result LineNode LineError)). AllZip (Reads check) (lines text) rs) first.parts zip) in
-    subst (λ (e : GraphError). IsFirstFault check text e) (sym first.error_is) (line_error check text first.fault (length first.before + 1) (refused_at check text first.before first.fault split))
-first_fault check text read error zip (of_whole nodes is fault) = whole_fault check text nodes error (all_say check (lines text) read nodes zip is) fault
-first_fault check text read error zip (of_memory is) = subst (λ (e : GraphError). IsFirstFault check text e) (sym is) tt
+pub first_refused : (check : Bool) (text : List ℕ) (ls more behind : List (List ℕ)) (nodes before : List LineNode) (fault : LineError) (rest : List (Result LineNode LineError)) → lines text ≡ ls ++ (more ++ behind) → AllZip (IsLine check) ls nodes
+    → AllZip (Reads check) more (map said before ++ Err fault ∷ rest) → IsFirstFault check text (fault_at fault (length (nodes ++ before) + 1))
+first_refused check text ls more behind nodes before fault rest parts says zip =
+    let split = split_lines check more before fault rest zip in
+    let tail : List (List ℕ) = split.line ∷ split.behind ++ behind in
+    let cut : more ++ behind ≡ split.before ++ tail = ap (λ (xs : List (List ℕ)). xs ++ behind) split.parts ∙ append_assoc split.before (split.line ∷ split.behind) behind in
+    let whole : lines text ≡ (ls ++ split.before) ++ tail = parts ∙ ap (λ (xs : List (List ℕ)). ls ++ xs) cut ∙ sym (append_assoc ls split.before tail) in
+    line_error check text fault (length (nodes ++ before) + 1) (refused_at check text (nodes ++ before) fault (record {
+      before = ls ++ split.before;
+      line = split.line;
+      behind = split.behind ++ behind;
+      parts = whole;
+      says = both_zip (IsLine check) ls split.before nodes before says split.says;
+      refused = split.refused;
+    }))
+
+-- ---- from columns to the bundle
+
+pub say_sized : (check : Bool) (ls : List (List ℕ)) (columns : Columns) → SayColumns check ls columns → AreSized columns
+say_sized check ls columns so = columns_sized so.nodes columns so.has
+
+pub say_paired : (check : Bool) (ls : List (List ℕ)) (columns : Columns) → SayColumns check ls columns → ArePaired columns.names.items columns.outputs.items
+say_paired check ls columns so = columns_paired so.nodes columns so.has (nodes_fit check ls so.nodes so.says)
+
+pub say_rising : (check : Bool) (ls : List (List ℕ)) (columns : Columns) → SayColumns check ls columns → AllNamesRise columns.names.items
+say_rising check ls columns so = columns_rising so.nodes columns so.has (nodes_fit check ls so.nodes so.says)
+
+-- the columns say the links of the nodes
+same_links : (nodes : List LineNode) (columns : Columns) → HasColumns nodes columns → links_in columns ≡ links_of nodes
+same_links nodes columns has = λ j. record { paths = has.paths j; wants = has.wants j; names = has.names j }
+
+graph_of_nodes : (nodes : List LineNode) (columns : Columns) (graph : Nodes) → HasColumns nodes columns → IsGraphOfColumns columns graph → IsGraphOf nodes graph
+graph_of_nodes nodes columns graph has of = record {
+  paths = of.paths ∙ has.paths;
+  needs = of.needs ∙ has.needs;
+  inputs = subst (λ (ls : Links). AllNumbered ls.paths ls.names ls.wants graph.inputs) (same_links nodes columns has) of.inputs;
+  sources = of.sources ∙ has.sources;
+  outputs = of.outputs ∙ has.outputs;
+}
+
+pub is_bundle : (check : Bool) (text : List ℕ) (columns : Columns) (graph : Nodes) → SayColumns check (lines text) columns → IsGraphOfColumns columns graph → IsSound graph → IsAcyclic (rows_of graph) → IsBundle check text graph
+is_bundle check text columns graph so of sound acyclic = record { nodes = so.nodes; says = so.says; of = graph_of_nodes so.nodes columns graph so.has of; sound = sound; acyclic = acyclic }
+
+-- .. of an answer that may be a refusal
+pub bundle_of : (check : Bool) (text : List ℕ) (columns : Columns) (answer : Result Nodes GraphError) → SayColumns check (lines text) columns → IfOk answer (λ graph. IsGraphOfColumns columns graph) → IfOk answer (λ graph. IsSound graph) → IfOk answer (λ graph. IsAcyclic (rows_of graph)) → IfOk answer (λ graph. IsBundle check text graph)
+bundle_of check text columns (Ok graph) so of sound acyclic = is_bundle check text columns graph so of sound acyclic
+bundle_of check text columns (Err error) so of sound acyclic = tt
+
+pub first_fault : (check : Bool) (text : List ℕ) (columns : Columns) (error : GraphError) → SayColumns check (lines text) columns → IsWholeFault (links_in columns) error → IsFirstFault check text error
+first_fault check text columns error so is = whole_fault check text so.nodes error so.says (subst (λ (ls : Links). IsWholeFault ls error) (same_links so.nodes columns so.has) is)

@@ -1,19 +1,16 @@
 -- What was read of the lines, put together. Serves proofs alone.
-use Rattle.std.specs.Prelude.{◌≡◌, ℕ, ◌+◌, ◌<◌, List, [], ◌∷◌, ◌++◌, length, map, Contains, Result, Ok, Err}
+use Rattle.std.specs.Prelude.{◌≡◌, ℕ, ◌<◌, List, [], length, Contains}
 use Rattle.std.specs.List.{slice_index_or}
 use Rattle.std.specs.List.Sorted.{IsStrictlySortedBy}
 use Rattle.nd_bytes.specs.Compared.{bytes_cmp}
 use Rattle.nd_bundle.specs.declared.line.LineNode.{LineNode}
 use Rattle.nd_bundle.specs.declared.line.NamedInput.{NamedInput}
-use Rattle.nd_bundle.specs.declared.refusal.LineError.{LineError}
 use Rattle.nd_bundle.specs.declared.fault.GraphError.{GraphError}
 use Rattle.nd_bundle.specs.declared.fault.GraphError.TheVariants.{MissingInput, MissingOutput, Memory}
 use Rattle.nd_bundle.specs.declared.columns.Columns.{Columns}
 use Rattle.nd_graph.specs.declared.graph.Input.{Input}
-use Rattle.nd_graph.specs.Graphs.{Nodes, rows_of, IsSound}
-use Rattle.nd_bundle.specs.Numbered.{fault_at}
-use Rattle.nd_graph.specs.Walks.{IsAcyclic}
-use Rattle.nd_bundle.specs.Whole.{links_of, AllNumbered, AreInputsThere, IsGraphOf, IsMissingInput, IsMissingOutput, IsWholeFault, Links}
+use Rattle.nd_graph.specs.Graphs.{Nodes}
+use Rattle.nd_bundle.specs.Whole.{AllNumbered, AreInputsThere, IsMissingInput, IsMissingOutput, Links}
 
 -- a list of names that rises
 pub record NamesRise (names : List (List ℕ)) : Type 0 where
@@ -36,40 +33,6 @@ pub record IsFit (node : LineNode) : Type 0 where
 -- each of the nodes is so
 pub record AreFit (nodes : List LineNode) : Type 0 where
   pub fit : (node : LineNode) → Contains nodes node → IsFit node
-
--- each node that was read is so
-pub record ReadsFit (read : List (Result LineNode LineError)) : Type 0 where
-  pub fit : (node : LineNode) → Contains read (Ok node) → IsFit node
-
--- a line was read
-abbrev pub said : LineNode → Result LineNode LineError
-said node = Ok node
-
--- all lines were read
-pub record IsRead (read : List (Result LineNode LineError)) (nodes : List LineNode) : Type 0 where
-  pub all : read ≡ map said nodes
-
--- a line was refused, after lines that were read, or memory was wanting
-pub record IsFirstErr (read : List (Result LineNode LineError)) (error : GraphError) : Type 0 where
-  pub before : List LineNode
-  pub fault : LineError
-  pub behind : List (Result LineNode LineError)
-  pub parts : read ≡ map said before ++ Err fault ∷ behind
-  pub error_is : error ≡ fault_at fault (length before + 1)
-
--- a line was refused, or the nodes are no graph together
-pub data IsReadFault (read : List (Result LineNode LineError)) (error : GraphError) : Type 0 where
-  of_line : IsFirstErr read error → IsReadFault read error
-  of_whole : (nodes : List LineNode) → IsRead read nodes → IsWholeFault (links_of nodes) error → IsReadFault read error
-  of_memory : error ≡ Memory → IsReadFault read error
-
--- the graph of what was read
-pub record IsGraphRead (read : List (Result LineNode LineError)) (graph : Nodes) : Type 0 where
-  pub nodes : List LineNode
-  pub read_is : IsRead read nodes
-  pub of : IsGraphOf nodes graph
-  pub sound : IsSound graph
-  pub acyclic : IsAcyclic (rows_of graph)
 
 -- the lists have one item per node
 pub record AreSized (columns : Columns) : Type 0 where

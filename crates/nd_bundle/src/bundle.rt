@@ -5,21 +5,21 @@ ghost use Rattle.nd_bundle.specs.declared.fault.GraphError.{GraphError};
 ghost use Rattle.nd_bundle.specs.Bundles.{IsBundle, IsFirstFault};
 ghost use Rattle.nd_graph.specs.Graphs.{Nodes};
 
-use crate::collect::read_lines_in_parallel;
+use crate::collect::read_lines_side_by_side;
 use crate::fault::GraphError;
 use crate::whole::graph_of;
 use nd_graph::Graph;
 use std::alloc::Global;
 use std::thread::Threads;
 
-/// The graph of a bundle, as `plain::read_bundle`, its lines read by as many threads as there are
-/// processors. The answer is that of `plain::read_bundle`, unless one of the two wants memory
-/// (`laws::one_bundle`).
+/// The graph of a bundle, as `plain::read_bundle`; the lines of a bundle of 64 KiB or more are read by as
+/// many threads as there are processors. The answer is that of `plain::read_bundle`, unless one of the two
+/// wants memory (`laws::one_bundle`).
 ///
 /// Refuses with the first of the refusals 1 to 6 of `GraphError` on the first line that has one,
 /// else with the first of 7 to 11 over the whole, and with `Memory` (12) where an allocation is
 /// refused.
-#[tactic(auto, using(crate::proofs::Told::reads_fit, crate::proofs::Told::is_bundle, crate::proofs::Told::first_fault))]
+#[tactic(auto, using(crate::proofs::Told::say_sized, crate::proofs::Told::say_paired, crate::proofs::Told::say_rising, crate::proofs::Told::is_bundle, crate::proofs::Told::first_fault))]
 pub fn read_bundle(
     rt: &(impl Threads + Sync),
     alloc: Global,
@@ -31,6 +31,6 @@ pub fn read_bundle(
     ensures exactly { (graph : Nodes) → IsBundle check_paths text.now graph
         → MatchResult result (λ g. g ≡ graph) (λ e. e ≡ GraphError.Memory) }
 {
-    let read = read_lines_in_parallel(rt, alloc, text, check_paths)?;
-    graph_of(alloc, read)
+    let columns = read_lines_side_by_side(rt, alloc, text, check_paths)?;
+    graph_of(alloc, columns)
 }

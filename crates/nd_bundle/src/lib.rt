@@ -5,6 +5,7 @@ mod attributes;
 mod bundle;
 mod collect;
 mod columns;
+mod cutting;
 mod derived;
 pub mod drv_paths;
 pub mod fault;

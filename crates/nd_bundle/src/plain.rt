@@ -18,13 +18,13 @@ use std::alloc::Global;
 /// Refuses with the first of the refusals 1 to 6 of `GraphError` on the first line that has one,
 /// else with the first of 7 to 11 over the whole, and with `Memory` (12) where an allocation is
 /// refused.
-#[tactic(auto, using(crate::proofs::Told::reads_fit, crate::proofs::Told::is_bundle, crate::proofs::Told::first_fault))]
+#[tactic(auto, using(crate::proofs::Told::say_sized, crate::proofs::Told::say_paired, crate::proofs::Told::say_rising, crate::proofs::Told::is_bundle, crate::proofs::Told::first_fault))]
 pub fn read_bundle(alloc: Global, text: &[u8], check_paths: bool) -> Result<Graph, GraphError>
     ensures ok { IfOk result (λ graph. IsBundle check_paths text.now graph) }
     ensures refused { IfErr result (λ fault. IsFirstFault check_paths text.now fault) }
     ensures exactly { (graph : Nodes) → IsBundle check_paths text.now graph
         → MatchResult result (λ g. g ≡ graph) (λ e. e ≡ GraphError.Memory) }
 {
-    let read = read_lines(alloc, text, check_paths)?;
-    graph_of(alloc, read)
+    let columns = read_lines(alloc, text, check_paths)?;
+    graph_of(alloc, columns)
 }

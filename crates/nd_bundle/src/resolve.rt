@@ -16,14 +16,15 @@ use nd_bytes::Items;
 use nd_graph::Input;
 use std::alloc::{AllocError, Global};
 
-/// The inputs of each line by number, or why they have none.
-#[tactic(auto, using(crate::proofs::Gathered::links_none, crate::proofs::Gathered::links_more, crate::proofs::Gathered::links_all))]
+/// The inputs of each line by number, or why they have none. What a line wants is let go of when it is
+/// linked.
+#[tactic(auto, using(crate::proofs::Gathered::links_none, crate::proofs::Gathered::links_more))]
 pub(crate) fn link_lines<'t>(
     alloc: Global,
     register: &Register<'_, 't>,
-    wants: &[Items<InputView<'t>>],
+    wants: Vec<Items<InputView<'t>>>,
 ) -> Result<Vec<Result<Items<Input>, LinkError>>, AllocError>
-    ensures { IfOk result (λ rows. AreLinks register.now wants.now rows.items) }
+    ensures { IfOk result (λ rows. AreLinks register.now wants.entry.items rows.items) }
 {
     let mut rows = Vec::with_capacity(alloc, wants.len())?;
     for inputs in wants {

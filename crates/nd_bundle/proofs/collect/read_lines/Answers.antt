@@ -1,12 +1,18 @@
-use Rattle.std.proofs.Common.{ap, ◌∙◌, Bor, List, ℕ, map}
-use Rattle.nd_bundle.proofs.Collecting.{one_read, all_read}
+use Rattle.std.proofs.Common.{ap, ◌∙◌, ◌∷◌, [], Bor, List, ℕ, map}
+use Rattle.std.proofs.lemmas.List.{take_more}
+use Rattle.std.proofs.lemmas.Result.{err_from_is_err_and}
+use Rattle.nd_bundle.proofs.Taken.{some_fault, some_says}
 use Rattle.nd_bundle.proofs.collect.read_lines.Goals as goal
+
+pub returns-in_err-take-clause-err : goal.returns-in_err-take-clause-err
+returns-in_err-take-clause-err c =
+    let p = err_from_is_err_and c.from_residual-in_err-take.result c.from_residual-in_err-take.ensures.1 in
+    rw (p.1, p.2)
+    (some_fault c.args.check c.args.text.now c.deref-line-items.result.now c.loop-line.line-index _ _ c.loop-line.columns (c.read_line.result ∷ []) c.in_err-take.field-0.0
+    (take_more c.deref-line-items.result.now c.loop-line.line-index _ c.loop-line-test.true)
+    (ap (map (λ (line : Bor (List ℕ)). line.now)) c.deref-line-items.ensures.value ∙ c.in_ok-lines.ensures) c.loop-line.invariant (c.read_line.ensures, tt) c.in_err-take.ensures.err)
 
 pub loop-line-preserved : goal.loop-line-preserved
 loop-line-preserved c =
-    one_read c.args.check c.deref-line-items.result.now c.loop-line.line-index _ c.loop-line.read.items c.push.new.self.items c.read_line.result c.loop-line-test.true c.in_ok-push.ensures.items c.loop-line.invariant c.read_line.ensures
-
-pub returns : goal.returns
-returns c =
-    all_read c.args.check c.args.text.now c.deref-line-items.result.now c.loop-line.line-index c.loop-line.read.items c.loop-line-test.false
-    (ap (map (λ (line : Bor (List ℕ)). line.now)) c.deref-line-items.ensures.value ∙ c.in_ok-lines.ensures) c.loop-line.invariant
+    some_says c.args.check c.deref-line-items.result.now c.loop-line.line-index _ _ c.loop-line.columns c.take.new.self (c.read_line.result ∷ [])
+    (take_more c.deref-line-items.result.now c.loop-line.line-index _ c.loop-line-test.true) c.loop-line.invariant (c.read_line.ensures, tt) c.in_ok-take.ensures.ok

@@ -1,7 +1,6 @@
-use Rattle.std.proofs.Common.{take}
-use Rattle.std.specs.List.{AllZip}
-use Rattle.nd_bundle.proofs.Collecting.{ReadsShown}
+use Rattle.std.proofs.Common.{map, take}
+use Rattle.nd_bundle.specs.Columned.{SayColumns}
 use Rattle.nd_bundle.proofs.collect.read_lines.Given as goal
 
 abbrev pub invariant-loop-line : goal.invariant-loop-line
-invariant-loop-line l = AllZip (ReadsShown l.check) (take l.line-index l.line-items) l.read.items
+invariant-loop-line l = SayColumns l.check (map (λ line. line.now) (take l.line-index l.line-items)) l.columns

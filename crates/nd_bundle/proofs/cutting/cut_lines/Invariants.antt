@@ -1,6 +1,6 @@
 use Rattle.std.proofs.Common.{◌≡◌, ◌++◌, length, map}
 use Rattle.nd_bundle.specs.Lines.{lines}
-use Rattle.nd_bundle.proofs.collect.cut_lines.Given as goal
+use Rattle.nd_bundle.proofs.cutting.cut_lines.Given as goal
 
 abbrev pub invariant-loop-left : goal.invariant-loop-left
 invariant-loop-left l = map (λ line. line.now) l.found.items ++ lines l.left ≡ lines l.text
