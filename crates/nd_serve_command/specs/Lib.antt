@@ -2,3 +2,4 @@ pub mod Faults
 pub mod Lines
 pub mod Sessions
 pub mod Advised
+pub mod Stored

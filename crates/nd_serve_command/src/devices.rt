@@ -3,6 +3,7 @@
 ghost use Rattle.std.specs.Prelude.{◌≡◌, ◌↔◌, IsTrue, is_ok, IfErr, IfOk, OnOk};
 ghost use Rattle.std.specs.Io.KnownBytes.{Appends};
 ghost use Rattle.nd_serve_command.specs.Lines.{IsLineRead};
+ghost use Rattle.nd_serve_command.specs.Stored.{IsAppended, IsSynced};
 
 use crate::journals::Journal;
 use crate::lines::next_line;
@@ -13,8 +14,9 @@ use std::io::{self, BufRead, Write};
 
 /// A reader of lines, a writer and a journal. What is done to them isn't known to contracts, but for what
 /// the writer holds, where it says that, as one in memory does: an answer adds its bytes to it, and no other
-/// call adds any; and for what the reader has left, where it says that: a line that is heard is the next one
-/// of it. Each call leaves the two devices that it isn't about as they were. Whatever the journal or the
+/// call adds any; for what the reader has left, where it says that: a line that is heard is the next one
+/// of it; and for what the journal holds, where it says that: what is appended stands behind it, and a sync
+/// makes all of it durable. Each call leaves the two devices that it isn't about as they were. Whatever the journal or the
 /// writer is refused for, the system's want of memory too, is their own refusal: a part of the bytes may be
 /// there.
 #[derive(Drop)]
@@ -48,6 +50,7 @@ impl<R: BufRead, W: Write, J: Journal> Desk for Devices<R, W, J> {
         ensures noted { Notes (told_alone (W.contents self.old.output)) (told_alone (W.contents self.new.output)) (tried result (Event.Appended bytes.now)) }
         ensures input { self.new.input ≡ self.old.input }
         ensures output { self.new.output ≡ self.old.output }
+        ensures stored { OnOk result (IsAppended (J.stored self.old.journal) (J.stored self.new.journal) bytes.now) }
     {
         done(self.journal.append(bytes))
     }
@@ -57,6 +60,7 @@ impl<R: BufRead, W: Write, J: Journal> Desk for Devices<R, W, J> {
         ensures noted { Notes (told_alone (W.contents self.old.output)) (told_alone (W.contents self.new.output)) (tried result Event.Synced) }
         ensures input { self.new.input ≡ self.old.input }
         ensures output { self.new.output ≡ self.old.output }
+        ensures stored { OnOk result (IsSynced (J.stored self.old.journal) (J.stored self.new.journal)) }
     {
         done(self.journal.sync())
     }

@@ -1,14 +1,26 @@
 //! Journals.
 
+ghost use Rattle.std.specs.Prelude.{OnOk};
+ghost use Rattle.nd_serve_command.specs.Stored.{IsAppended, IsSynced};
+
 use std::io;
 
 /// Where the lines of a session's entries are kept.
 pub trait Journal {
-    /// Appends these bytes to what the journal holds.
-    fn append(&mut self, bytes: &[u8]) -> io::Result<()>;
+    ghost use Rattle.std.specs.Prelude.{Option};
+    ghost use Rattle.nd_serve_command.specs.Stored.{Stored};
 
-    /// Makes durable what the journal holds.
-    fn sync(&mut self) -> io::Result<()>;
+    /// What the journal holds, and how much of that is durable, where it says that, as one in memory does. A
+    /// file doesn't.
+    ghost stored: { Self → Option Stored };
+
+    /// Appends these bytes to what the journal holds. Of a call that is refused nothing is known.
+    fn append(&mut self, bytes: &[u8]) -> io::Result<()>
+        ensures { OnOk result (IsAppended (stored self.old) (stored self.new) bytes.now) };
+
+    /// Makes durable what the journal holds. Of a call that is refused nothing is known.
+    fn sync(&mut self) -> io::Result<()>
+        ensures { OnOk result (IsSynced (stored self.old) (stored self.new)) };
 }
 
 /// The journal of a session that keeps none.
@@ -16,6 +28,10 @@ pub trait Journal {
 pub struct NoJournal;
 
 impl Journal for NoJournal {
+    ghost use Rattle.std.specs.Prelude.{None};
+
+    ghost stored = { λ _. None };
+
     fn append(&mut self, _bytes: &[u8]) -> io::Result<()> {
         Ok(())
     }

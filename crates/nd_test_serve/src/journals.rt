@@ -49,6 +49,10 @@ impl MemoryJournal {
 }
 
 impl Journal for MemoryJournal {
+    ghost use Rattle.std.specs.Prelude.{Some};
+
+    ghost stored = { λ j. Some (record { bytes = j.bytes.items; durable = j.durable }) };
+
     fn append(&mut self, bytes: &[u8]) -> io::Result<()> {
         // What a refused call is given may be there all the same.
         self.bytes.extend_from_slice(bytes)?;

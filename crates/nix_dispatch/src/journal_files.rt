@@ -64,6 +64,10 @@ impl<'a, F: OpenFile + Drop> Kept<'a, F> {
 }
 
 impl<F: Write + OpenFile> Journal for Kept<'_, F> {
+    ghost use Rattle.std.specs.Prelude.{None};
+
+    ghost stored = { λ _. None };
+
     fn append(&mut self, bytes: &[u8]) -> io::Result<()> {
         let Kept::InFile { file, refusal, .. } = self else {
             return Ok(());
