@@ -1,43 +1,43 @@
 -- The lines' inputs by number, put together.
-use Rattle.std.proofs.Common.{◌≡◌, ℕ, ◌+◌, ◌<◌, ◌≤◌, List, [], ◌∷◌, ◌++◌, true, false, true≢false, Bool, length, take, get_or, map, Contains, Option, None, Some, Result, Ok, Err, refl, sym, ap, ◌∙◌, subst, if◌then◌else◌, inl, inr, arith}
+use Rattle.std.proofs.Common.{◌≡◌, ℕ, ◌+◌, ◌<◌, ◌≤◌, List, [], ◌∷◌, ◌++◌, true≢false, length, take, take_all, get_or, map, Contains, Option, None, Some, Result, Ok, Err, refl, sym, ap, ◌∙◌, subst, inl, inr, arith}
 use Rattle.std.specs.Prelude.{is_none}
-use Rattle.std.specs.List.{AllZip, list_any}
+use Rattle.std.specs.List.{AllZip}
 use Rattle.std.specs.Option.{unwrap_or}
 use Rattle.std.proofs.lemmas.Bool.{cases_lt}
-use Rattle.std.proofs.lemmas.List.{get_or_at, get_or_default, get_or-take, length-map, length-take-le}
+use Rattle.std.proofs.lemmas.List.{get_or_at, get_or_default, length-map}
 use Rattle.nd_graph.specs.Graphs.{IsAt, IsNumber}
 use Rattle.nd_graph.specs.Walks.{AreDistinct}
 use Rattle.nd_graph.specs.declared.graph.Input.{Input}
-use Rattle.nd_path.specs.StorePath.{path_eq}
 use Rattle.nd_bundle.specs.Linking.{known_of, input_fault, link_fault_at, linked, no_row, of_input, of_line, of_memory, of_output, AreAllLinked, AreLinks, HasPath, HaveInputs, IsFirstUnknown, IsInputFault, IsKnown, IsLink, IsRowFault, IsUngathered, IsUnlinked, Known, LacksOnlyOutput, LacksPath}
 use Rattle.nd_bundle.specs.Settled.{AllNamesRise, IsLinkFault, IsResolved}
-use Rattle.nd_bundle.specs.Whole.{AllNumbered, AreInputsThere, AreNumbered, HasInputs, LacksOutput}
+use Rattle.nd_bundle.specs.Numbering.{IsNumberFault}
+use Rattle.nd_bundle.specs.Whole.{AllNumbered, AreInputsThere, AreNumbered, HasInputs, IsWholeFault, LacksOutput, Links}
 use Rattle.nd_bundle.specs.declared.fault.GraphError.{GraphError}
+use Rattle.nd_bundle.specs.declared.fault.GraphError.TheVariants as bundle
 use Rattle.nd_bundle.specs.declared.line.NamedInput.{NamedInput}
 use Rattle.nd_bundle.specs.declared.link_error.LinkError.{LinkError}
 use Rattle.nd_bundle.specs.declared.link_error.LinkError.TheVariants.{NoInput, NoOutput, Memory}
 use Rattle.nd_bundle.proofs.Linked.{taken, is_item, numbered_reach, output_missing, rows_reach}
-use Rattle.nd_bundle.proofs.Numbers.{is_there}
 use Rattle.nd_bundle.proofs.Zipped.{zip_at, zip_length, zip_push}
-
--- an index of distinct paths: the next path is a new one
-is_new : (paths : List (List ℕ)) (i : ℕ) (path : List ℕ) (found : Bool) → AreDistinct paths → i < length paths → path ≡ get_or paths i path → list_any (path_eq path) (take i paths) ≡ found → found ≡ false
-is_new paths i path false distinct lt is any = refl
-is_new paths i path true distinct lt is any =
-    let on : Contains (take i paths) path = is_there (take i paths) path any in
-    let long : length (take i paths) ≡ i = length-take-le i paths (omega arith) in
-    let low : on.0 < i = omega (arith, on.1) in
-    absurd (distinct.apart on.0 i path low lt (sym (get_or-take i paths on.0 path low) ∙ on.2 ∙ is))
-
-pub index_more : (paths old more : List (List ℕ)) (i : ℕ) (path : List ℕ) → AreDistinct paths → i < length paths → path ≡ get_or paths i path → old ≡ take i paths
-    → more ≡ (if list_any (path_eq path) old then old else old ++ path ∷ []) → more ≡ take (i + 1) paths
-index_more paths old more i path distinct lt is so pushed =
-    let fresh : list_any (path_eq path) old ≡ false = ap (λ (ks : List (List ℕ)). list_any (path_eq path) ks) so ∙ is_new paths i path (list_any (path_eq path) (take i paths)) distinct lt is refl in
-    pushed ∙ ap (λ (b : Bool). if b then old else old ++ path ∷ []) fresh ∙ ap (λ (ks : List (List ℕ)). ks ++ path ∷ []) so ∙ sym (taken paths i path lt is)
 
 -- what inputs are looked up in
 pub is_known : (found paths : List (List ℕ)) (names : List (List (List ℕ))) → found ≡ paths → length names ≡ length paths → AllNamesRise names → IsKnown (known_of found names)
 is_known found paths names same sized rising = record { sized = sized ∙ ap (λ (ps : List (List ℕ)). length ps) (sym same); rising = rising }
+
+-- why paths can't be numbered is a refusal over the whole
+pub whole_numbered : (links : Links) (fault : GraphError) → IsNumberFault links.paths fault → IsWholeFault links fault
+whole_numbered links (bundle.BadLine line) is = absurd is
+whole_numbered links (bundle.BadPath line) is = absurd is
+whole_numbered links (bundle.BadDerivation line) is = absurd is
+whole_numbered links (bundle.UnknownOutput line) is = absurd is
+whole_numbered links (bundle.BadAttribute line) is = absurd is
+whole_numbered links (bundle.WrongPath line) is = absurd is
+whole_numbered links (bundle.Duplicate line) is = is
+whole_numbered links (bundle.MissingInput line) is = absurd is
+whole_numbered links (bundle.MissingOutput line) is = absurd is
+whole_numbered links bundle.Cycle is = absurd is
+whole_numbered links bundle.TooMany is = absurd is
+whole_numbered links bundle.Memory is = tt
 
 -- an input derivation that is looked up
 pub path_there : (known : Known) (want : NamedInput) (path : List ℕ) (node : ℕ) → path ≡ want.path → IsAt known.paths path node → HasPath known want
@@ -61,11 +61,18 @@ pub output_alone : (known : Known) (wants : List NamedInput) → HasInputs known
 output_alone known wants inputs lacks = record { inputs = inputs; lacks = lacks }
 
 -- line by line
-pub links_none : (known : Known) → AreLinks known [] []
-links_none known = record { each = tt }
+pub links_none : (known : Known) (wants : List (List NamedInput)) → AreLinks known (take 0 wants) []
+links_none known wants = record { each = tt }
 
-pub links_more : (known : Known) (wants : List (List NamedInput)) (rows : List (Result (List Input) LinkError)) (wanted : List NamedInput) (row : Result (List Input) LinkError) → AreLinks known wants rows → IsLink known wanted row → AreLinks known (wants ++ wanted ∷ []) (rows ++ row ∷ [])
-links_more known wants rows wanted row so here = record { each = zip_push (IsLink known) wants rows wanted row so.each here }
+pub links_more : (known : Known) (wants : List (List NamedInput)) (rows : List (Result (List Input) LinkError)) (i : ℕ) (wanted : List NamedInput) (row : Result (List Input) LinkError) → i < length wants → wanted ≡ get_or wants i wanted
+    → AreLinks known (take i wants) rows → IsLink known wanted row → AreLinks known (take (i + 1) wants) (rows ++ row ∷ [])
+links_more known wants rows i wanted row lt is so here = record {
+  each = subst (λ (xs : List (List NamedInput)). AllZip (IsLink known) xs (rows ++ row ∷ [])) (sym (taken wants i wanted lt is))
+      (zip_push (IsLink known) (take i wants) rows wanted row so.each here);
+}
+
+pub links_all : (known : Known) (wants : List (List NamedInput)) (rows : List (Result (List Input) LinkError)) (i : ℕ) → AreLinks known (take i wants) rows → length wants ≤ i → AreLinks known wants rows
+links_all known wants rows i so all = subst (λ (xs : List (List NamedInput)). AreLinks known xs rows) (take_all i wants all) so
 
 -- the search for a line without an input
 pub known_none : (rows : List (Result (List Input) LinkError)) → HaveInputs rows 0
@@ -178,10 +185,6 @@ ungathered paths names wants rows error links (of_input first) =
     subst (λ (e : GraphError). IsLinkFault paths names wants e) (sym first.error_is) (unknown_by paths names wants rows first.place first.fault links first.within first.before first.is)
 ungathered paths names wants rows error links (of_output have unlinked) = unlinked_refused paths names wants rows error links have unlinked
 
-pub ungathered_refused : (paths : List (List ℕ)) (names : List (List (List ℕ))) (known : Known) (wants : List (List NamedInput)) (rows : List (Result (List Input) LinkError)) (error : GraphError) → known ≡ known_of paths names → AreLinks known wants rows
-    → IsUngathered rows error → IsLinkFault paths names wants error
-ungathered_refused paths names known wants rows error is links why = ungathered paths names wants rows error (subst (λ (k : Known). AreLinks k wants rows) is links) why
-
 pub resolved : (paths : List (List ℕ)) (names : List (List (List ℕ))) (known : Known) (wants : List (List NamedInput)) (rows : List (Result (List Input) LinkError)) (inputs : List (List Input)) → known ≡ known_of paths names → AreLinks known wants rows
     → AreAllLinked rows inputs → IsResolved paths names wants inputs
 resolved paths names known wants rows inputs is links linked_all =
@@ -201,3 +204,21 @@ input_ungathered shown rows error same first = of_input (subst (λ (rs : List (R
 
 pub output_ungathered : (shown rows : List (Result (List Input) LinkError)) (error : GraphError) → shown ≡ rows → HaveInputs shown (length shown) → IsUnlinked rows error → IsUngathered rows error
 output_ungathered shown rows error same have unlinked = of_output (subst (λ (rs : List (Result (List Input) LinkError)). HaveInputs rs (length rs)) same have) unlinked
+
+-- why lines aren't linked is a refusal over the whole
+link_whole : (links : Links) (error : GraphError) → AreDistinct links.paths → IsLinkFault links.paths links.names links.wants error → IsWholeFault links error
+link_whole links (bundle.BadLine line) distinct is = absurd is
+link_whole links (bundle.BadPath line) distinct is = absurd is
+link_whole links (bundle.BadDerivation line) distinct is = absurd is
+link_whole links (bundle.UnknownOutput line) distinct is = absurd is
+link_whole links (bundle.BadAttribute line) distinct is = absurd is
+link_whole links (bundle.WrongPath line) distinct is = absurd is
+link_whole links (bundle.Duplicate line) distinct is = absurd is
+link_whole links (bundle.MissingInput line) distinct is = (distinct, is)
+link_whole links (bundle.MissingOutput line) distinct is = (distinct, is.0, is.1)
+link_whole links bundle.Cycle distinct is = absurd is
+link_whole links bundle.TooMany distinct is = absurd is
+link_whole links bundle.Memory distinct is = tt
+
+pub ungathered_whole : (links : Links) (rows : List (Result (List Input) LinkError)) (error : GraphError) → AreDistinct links.paths → AreLinks (known_of links.paths links.names) links.wants rows → IsUngathered rows error → IsWholeFault links error
+ungathered_whole links rows error distinct are why = link_whole links error distinct (ungathered links.paths links.names links.wants rows error are why)

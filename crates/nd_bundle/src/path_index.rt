@@ -1,13 +1,14 @@
 //! The numbers of paths, looked up by their bytes.
 
-ghost use Rattle.std.specs.Prelude.{◌≡◌, IfOk};
+ghost use Rattle.std.specs.Prelude.{◌≡◌, IfErr, IfOk};
 ghost use Rattle.nd_graph.specs.Graphs.{IsNumber};
-ghost use Rattle.nd_graph.specs.Walks.{AreDistinct};
+ghost use Rattle.nd_bundle.specs.Numbering.{IsNumberFault};
 
+use crate::fault::GraphError;
 use indexmap::IndexSet;
 use nd_path::StorePath;
 use nd_path_pool::PathKey;
-use std::alloc::{AllocError, Global};
+use std::alloc::Global;
 use std::marker::Model;
 
 /// The numbers of paths, from 0 in their order. Contracts see the list of the paths.
@@ -25,14 +26,16 @@ impl<'p> Model for PathIndex<'p> {
 }
 
 impl<'p> PathIndex<'p> {
-    /// The numbers of these paths, which are distinct.
-    pub(crate) fn new(alloc: Global, paths: &'p [StorePath]) -> Result<PathIndex<'p>, AllocError>
-        requires { AreDistinct paths.now }
-        ensures { IfOk result (λ index. index ≡ paths.now) }
+    /// The numbers of these paths; `Duplicate` where a path stands twice.
+    pub(crate) fn new(alloc: Global, paths: &'p [StorePath]) -> Result<PathIndex<'p>, GraphError>
+        ensures ok { IfOk result (λ index. index ≡ paths.now) }
+        ensures err { IfErr result (λ fault. IsNumberFault paths.now fault) }
     {
         let mut numbered = IndexSet::with_capacity(alloc, paths.len())?;
         for path in paths {
-            numbered.insert(PathKey::of_piece(path.bytes()))?;
+            if !numbered.insert(PathKey::of_piece(path.bytes()))? {
+                return Err(GraphError::Duplicate(numbered.len() + 1));
+            }
         }
         Ok(PathIndex { numbered })
     }

@@ -1,17 +1,18 @@
 //! What the inputs of a bundle's lines are looked up in.
 
-ghost use Rattle.std.specs.Prelude.{◌≡◌, ◌<◌, [], length, IfOk};
+ghost use Rattle.std.specs.Prelude.{◌≡◌, ◌<◌, [], length, IfErr, IfOk};
 ghost use Rattle.std.specs.List.{slice_index_or};
 ghost use Rattle.nd_graph.specs.Graphs.{IsNumber};
-ghost use Rattle.nd_graph.specs.Walks.{AreDistinct};
 ghost use Rattle.nd_bundle.specs.Linking.{known_of, IsKnown};
+ghost use Rattle.nd_bundle.specs.Numbering.{IsNumberFault};
 ghost use Rattle.nd_bundle.specs.Settled.{AllNamesRise, NamesRise};
 
+use crate::fault::GraphError;
 use crate::path_index::PathIndex;
 use nd_aterm::Leaf;
 use nd_bytes::Items;
 use nd_path::StorePath;
-use std::alloc::{AllocError, Global};
+use std::alloc::Global;
 use std::marker::Model;
 
 /// The nodes of a bundle by number: their paths, and the names of the outputs of each, which rise.
@@ -32,17 +33,17 @@ impl<'n, 't> Model for Register<'n, 't> {
 }
 
 impl<'n, 't> Register<'n, 't> {
-    /// The nodes with these paths, which are distinct, and these output names.
+    /// The nodes with these paths and these output names; `Duplicate` where a path stands twice.
     #[tactic(auto, using(crate::proofs::Gathered::is_known))]
     pub(crate) fn new(
         alloc: Global,
         paths: &'n [StorePath],
         names: &'n [Items<Leaf<'t>>],
-    ) -> Result<Register<'n, 't>, AllocError>
-        requires distinct { AreDistinct paths.now }
+    ) -> Result<Register<'n, 't>, GraphError>
         requires sized { length names.now ≡ length paths.now }
         requires rising { AllNamesRise names.now }
-        ensures { IfOk result (λ register. register ≡ known_of paths.now names.now) }
+        ensures ok { IfOk result (λ register. register ≡ known_of paths.now names.now) }
+        ensures err { IfErr result (λ fault. IsNumberFault paths.now fault) }
     {
         let paths = PathIndex::new(alloc, paths)?;
         Ok(Register { paths, names })

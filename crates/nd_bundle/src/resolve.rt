@@ -2,11 +2,13 @@
 
 ghost use Rattle.std.specs.Prelude.{IfOk, IfErr, MatchOption};
 ghost use Rattle.nd_graph.specs.Graphs.{IsNumber, IsAt};
-ghost use Rattle.nd_bundle.specs.Linking.{AreLinks, IsInputFault, IsLineFault, IsLink, IsRowFault};
+ghost use Rattle.nd_bundle.specs.Linking.{known_in, AreLinks, IsInputFault, IsLineFault, IsLink, IsRowFault};
 ghost use Rattle.nd_bundle.specs.Numbering.{LacksItem};
-ghost use Rattle.nd_bundle.specs.Settled.{NamesRise};
-ghost use Rattle.nd_bundle.specs.Whole.{AreNumbered, ArePlaces, IsNumbered};
+ghost use Rattle.nd_bundle.specs.Settled.{links_in, AllNamesRise, AreSized, NamesRise};
+ghost use Rattle.nd_bundle.specs.Whole.{AreNumbered, ArePlaces, IsNumbered, IsWholeFault};
 
+use crate::columns::Columns;
+use crate::fault::GraphError;
 use crate::line::InputView;
 use crate::link_error::LinkError;
 use crate::missing::has_inputs;
@@ -14,17 +16,57 @@ use crate::register::Register;
 use nd_aterm::Leaf;
 use nd_bytes::Items;
 use nd_graph::Input;
+use rayon::prelude::*;
 use std::alloc::{AllocError, Global};
+use std::thread::Threads;
 
-/// The inputs of each line by number, or why they have none. What a line wants is let go of when it is
-/// linked.
-#[tactic(auto, using(crate::proofs::Gathered::links_none, crate::proofs::Gathered::links_more))]
-pub(crate) fn link_lines<'t>(
+/// The inputs of each line by number, or why they have none, linked by this thread; `Duplicate` where a path
+/// stands twice.
+#[tactic(auto, using(crate::proofs::Gathered::whole_numbered))]
+pub(crate) fn link<'t>(
+    alloc: Global,
+    columns: &Columns<'t>,
+) -> Result<Vec<Result<Items<Input>, LinkError>>, GraphError>
+    requires sized { AreSized columns.now }
+    requires rising { AllNamesRise columns.now.names.items }
+    ensures ok { IfOk result (λ rows. AreLinks (known_in columns.now) columns.now.wants.items rows.items) }
+    ensures err { IfErr result (λ fault. IsWholeFault (links_in columns.now) fault) }
+{
+    let register = Register::new(alloc, columns.paths.as_slice(), columns.names.as_slice())?;
+    Ok(link_lines(alloc, &register, columns.wants.as_slice())?)
+}
+
+/// The number of lines from which on they are linked by many threads: one thread has linked fewer before
+/// others have started.
+const MANY: usize = 256;
+
+/// The same; many lines are linked by as many threads as there are processors.
+#[tactic(auto, using(crate::proofs::Gathered::whole_numbered))]
+pub(crate) fn link_side_by_side<'t>(
+    rt: &(impl Threads + Sync),
+    alloc: Global,
+    columns: &Columns<'t>,
+) -> Result<Vec<Result<Items<Input>, LinkError>>, GraphError>
+    requires sized { AreSized columns.now }
+    requires rising { AllNamesRise columns.now.names.items }
+    ensures ok { IfOk result (λ rows. AreLinks (known_in columns.now) columns.now.wants.items rows.items) }
+    ensures err { IfErr result (λ fault. IsWholeFault (links_in columns.now) fault) }
+{
+    if columns.paths.len() < MANY {
+        return link(alloc, columns);
+    }
+    let register = Register::new(alloc, columns.paths.as_slice(), columns.names.as_slice())?;
+    Ok(link_lines_in_parallel(rt, alloc, &register, columns.wants.as_slice())?)
+}
+
+/// The inputs of each line by number, or why they have none.
+#[tactic(auto, using(crate::proofs::Gathered::links_none, crate::proofs::Gathered::links_more, crate::proofs::Gathered::links_all))]
+fn link_lines<'t>(
     alloc: Global,
     register: &Register<'_, 't>,
-    wants: Vec<Items<InputView<'t>>>,
+    wants: &[Items<InputView<'t>>],
 ) -> Result<Vec<Result<Items<Input>, LinkError>>, AllocError>
-    ensures { IfOk result (λ rows. AreLinks register.now wants.entry.items rows.items) }
+    ensures { IfOk result (λ rows. AreLinks register.now wants.now rows.items) }
 {
     let mut rows = Vec::with_capacity(alloc, wants.len())?;
     for inputs in wants {
@@ -33,8 +75,27 @@ pub(crate) fn link_lines<'t>(
     Ok(rows)
 }
 
+/// The same, by as many threads as there are processors.
+fn link_lines_in_parallel<'t>(
+    rt: &(impl Threads + Sync),
+    alloc: Global,
+    register: &Register<'_, 't>,
+    wants: &[Items<InputView<'t>>],
+) -> Result<Vec<Result<Items<Input>, LinkError>>, AllocError>
+    ensures { IfOk result (λ rows. AreLinks register.now wants.now rows.items) }
+{
+    wants
+        .par_iter()
+        .map(
+            |inputs: &Items<InputView<'_>>| -> Result<Items<Input>, LinkError>
+                ensures { IsLink register.entry.now inputs.entry.now result }
+            { link_line(alloc, register, inputs.as_slice()) },
+        )
+        .collect(rt, alloc)
+}
+
 /// The inputs of a line by number, or why they have none.
-pub(crate) fn link_line<'t>(
+fn link_line<'t>(
     alloc: Global,
     register: &Register<'_, 't>,
     wants: &[InputView<'t>],

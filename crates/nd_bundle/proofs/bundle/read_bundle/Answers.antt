@@ -1,10 +1,11 @@
 use Rattle.std.proofs.Common.{Err}
 use Rattle.std.proofs.lemmas.Result.{err_from_is_err_and, IfErr-weaker}
 use Rattle.nd_bundle.specs.Bundles.{IsFirstFault}
+use Rattle.nd_bundle.specs.Lines.{lines}
 use Rattle.nd_bundle.specs.Settled.{links_in}
 use Rattle.nd_bundle.specs.Whole.{IsWholeFault}
 use Rattle.nd_bundle.proofs.OneBundle.{read_exactly}
-use Rattle.nd_bundle.proofs.Told.{bundle_of, first_fault}
+use Rattle.nd_bundle.proofs.Told.{bundle_of, first_fault, say_rising}
 use Rattle.nd_bundle.proofs.bundle.read_bundle.Goals as goal
 
 pub returns-clause-refused : goal.returns-clause-refused
@@ -22,3 +23,13 @@ pub returns-in_err-columns-clause-exactly : goal.returns-in_err-columns-clause-e
 returns-in_err-columns-clause-exactly g c = λ graph is.
     let p = err_from_is_err_and c.from_residual.result c.from_residual.ensures.1 in
     rw (p.1, p.2) (read_exactly c.args.check_paths c.args.text.now (Err c.in_err-columns.field-0.0) tt c.in_err-columns.ensures.err graph is)
+
+pub returns-in_err-rows-clause-exactly : goal.returns-in_err-rows-clause-exactly
+returns-in_err-rows-clause-exactly g c = λ graph is.
+    let p = err_from_is_err_and c.from_residual-in_err-rows.result c.from_residual-in_err-rows.ensures.1 in
+    rw (p.1, p.2)
+    (read_exactly c.args.check_paths c.args.text.now (Err c.in_err-rows.field-0.0) tt
+    (first_fault c.args.check_paths c.args.text.now c.in_ok-columns.columns c.in_err-rows.field-0.0 c.in_ok-columns.ensures.ok c.in_err-rows.ensures.err) graph is)
+
+pub link_side_by_side-requires-clause-rising : goal.link_side_by_side-requires-clause-rising
+link_side_by_side-requires-clause-rising g c κs within = say_rising c.args.check_paths (lines c.args.text.now) c.in_ok-columns.columns c.in_ok-columns.ensures.ok
