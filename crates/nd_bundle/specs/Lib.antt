@@ -15,5 +15,6 @@ pub mod Reads
 pub mod Refused
 pub mod Settled
 pub mod Structured
+pub mod Wanting
 pub mod Whole
 pub mod Wishes

@@ -9,6 +9,7 @@ use nd_eligible::Need;
 use nd_path::StorePath;
 use std::alloc::{AllocError, Global};
 use std::marker::Model;
+use std::slice;
 
 /// An input derivation, and the outputs that are wanted of it. It serves contracts alone: no call takes
 /// or answers one.
@@ -37,13 +38,23 @@ pub struct LineNode {
     pub outputs: Items<StorePath>,
 }
 
+/// The names of the outputs that are wanted of an input derivation. Mostly it is one, for which no list is
+/// kept.
+#[derive(Drop)]
+pub(crate) enum Wanted<'t> {
+    /// One name.
+    One(Leaf<'t>),
+    /// So many names.
+    Many(Items<Leaf<'t>>),
+}
+
 /// An input derivation, its path and its names borrowed from the line. Contracts see the [`NamedInput`].
 #[derive(Drop)]
 pub(crate) struct InputView<'t> {
     /// The input derivation's path, a store path.
     path: Leaf<'t>,
     /// The names of the outputs, in rising order, possibly none.
-    names: Items<Leaf<'t>>,
+    names: Wanted<'t>,
 }
 
 impl<'t> Model for InputView<'t> {
@@ -52,7 +63,9 @@ impl<'t> Model for InputView<'t> {
 
     ghost Value = { NamedInput };
 
-    ghost view = { λ i. record { path = i.path; names = i.names } };
+    ghost use Rattle.nd_bundle.specs.Wanting.{names_in};
+
+    ghost view = { λ i. record { path = i.path; names = names_in i.names } };
 
     ghost invariant = { λ i. IsPath i.path };
 }
@@ -64,7 +77,18 @@ impl<'t> InputView<'t> {
         ensures path { result.path ≡ path.entry }
         ensures names { result.names ≡ names.entry }
     {
-        InputView { path, names }
+        let mut names = names.into_vec();
+        if names.len() != 1 {
+            let names = Wanted::Many(Items::new(names));
+            return InputView { path, names };
+        }
+        match names.pop() {
+            Some(name) => InputView {
+                path,
+                names: Wanted::One(name),
+            },
+            None => unreachable!(),
+        }
     }
 
     /// The bytes of the input derivation's path.
@@ -78,7 +102,10 @@ impl<'t> InputView<'t> {
     pub(crate) fn names(&self) -> &[Leaf<'t>]
         ensures { result.now ≡ self.now.names }
     {
-        self.names.as_slice()
+        match &self.names {
+            Wanted::One(name) => slice::from_ref(name),
+            Wanted::Many(names) => names.as_slice(),
+        }
     }
 
     /// The input derivation's path on its own.
