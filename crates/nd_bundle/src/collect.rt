@@ -22,8 +22,8 @@ use std::thread::Threads;
 const LONG: usize = 65_536;
 
 /// How many lines many threads read before what they say is put together and what they took beside it is
-/// let go of.
-const AT_ONCE: usize = 4_096;
+/// let go of. With more at once the lists of what was read are so large that each leaves a hole in the heap.
+const AT_ONCE: usize = 1_024;
 
 /// What the lines of the text say, in order, or the refusal of the first that has one; read by this thread
 /// where the text is short, and else by as many threads as there are processors. With `check` each line's
