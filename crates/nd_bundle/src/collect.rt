@@ -13,6 +13,7 @@ use crate::fault::GraphError;
 use crate::line::LineView;
 use crate::reading::read_line;
 use crate::refusal::LineError;
+use nd_graph::NODE_LIMIT;
 use rayon::prelude::*;
 use std::alloc::{AllocError, Global};
 use std::thread::Threads;
@@ -21,9 +22,9 @@ use std::thread::Threads;
 /// have started.
 const LONG: usize = 65_536;
 
-/// How many lines many threads read before what they say is put together and what they took beside it is
-/// let go of. With more at once the lists of what was read are so large that each leaves a hole in the heap.
-const AT_ONCE: usize = 1_024;
+/// How many lines many threads read before what they say is put together: as many as a graph may have, since
+/// threads take some milliseconds to begin and to end.
+const AT_ONCE: usize = NODE_LIMIT;
 
 /// What the lines of the text say, in order, or the refusal of the first that has one; read by this thread
 /// where the text is short, and else by as many threads as there are processors. With `check` each line's
