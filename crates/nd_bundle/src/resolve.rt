@@ -36,11 +36,11 @@ pub(crate) fn link<'t>(
     Ok(link_lines(alloc, &register, columns.wants.as_slice())?)
 }
 
-/// The number of lines from which on they are linked by many threads: one thread has linked fewer before
-/// others have started.
-const MANY: usize = 256;
+/// The number of inputs from which on they are linked by many threads. Fewer are linked in less than a tenth
+/// of a second, and the lists that threads put together leave holes in the heap.
+const MANY: usize = 131_072;
 
-/// The same; many lines are linked by as many threads as there are processors.
+/// The same; many inputs are linked by as many threads as there are processors.
 #[tactic(auto, using(crate::proofs::Gathered::whole_numbered))]
 pub(crate) fn link_side_by_side<'t>(
     rt: &(impl Threads + Sync),
@@ -52,11 +52,20 @@ pub(crate) fn link_side_by_side<'t>(
     ensures ok { IfOk result (λ rows. AreLinks (known_in columns.now) columns.now.wants.items rows.items) }
     ensures err { IfErr result (λ fault. IsWholeFault (links_in columns.now) fault) }
 {
-    if columns.paths.len() < MANY {
+    if count_inputs(columns.wants.as_slice()) < MANY {
         return link(alloc, columns);
     }
     let register = Register::new(alloc, columns.paths.as_slice(), columns.names.as_slice())?;
     Ok(link_lines_in_parallel(rt, alloc, &register, columns.wants.as_slice())?)
+}
+
+/// How many inputs the lines have.
+fn count_inputs(wants: &[Items<InputView<'_>>]) -> usize {
+    let mut count = 0usize;
+    for inputs in wants {
+        count = count.saturating_add(inputs.len());
+    }
+    count
 }
 
 /// The inputs of each line by number, or why they have none.
