@@ -12,7 +12,8 @@ use Rattle.nd_bundle.specs.declared.fault.GraphError.{GraphError}
 use Rattle.nd_bundle.specs.declared.line.LineNode.{LineNode}
 use Rattle.nd_bundle.specs.declared.refusal.LineError.{LineError}
 use Rattle.nd_bundle.proofs.Told.{first_refused, nodes_say}
-use Rattle.nd_bundle.proofs.Zipped.{both_zip}
+use Rattle.nd_bundle.proofs.Newlines.{shown}
+use Rattle.rayon.proofs.ListFacts.{AllZip-append}
 
 -- one more of each part
 more_of : {A : Type 0} (part : LineNode → A) (old new : List A) (nodes : List LineNode) (node : LineNode) → new ≡ old ++ part node ∷ [] → old ≡ map part nodes → new ≡ map part (nodes ++ node ∷ [])
@@ -81,7 +82,7 @@ says_none check columns has = record { nodes = []; says = tt; has = has }
 pub says_more : (check : Bool) (ls more : List (List ℕ)) (old new : Columns) (read : List (Result LineNode LineError)) → SayColumns check ls old → AllZip (Reads check) more read → TakesIn old read new → SayColumns check (ls ++ more) new
 says_more check ls more old new read so zip takes = record {
   nodes = so.nodes ++ takes.more;
-  says = both_zip (IsLine check) ls more so.nodes takes.more so.says (nodes_say check more takes.more (subst (λ (rs : List (Result LineNode LineError)). AllZip (Reads check) more rs) takes.all zip));
+  says = AllZip-append (IsLine check) ls more so.nodes takes.more so.says (nodes_say check more takes.more (subst (λ (rs : List (Result LineNode LineError)). AllZip (Reads check) more rs) takes.all zip));
   has = takes.has so.nodes so.has;
 }
 
@@ -92,11 +93,14 @@ says_fault check text ls more behind old read error parts so zip (of_line first)
     subst (λ (e : GraphError). IsFirstFault check text e) (sym (first.error_is so.nodes so.has))
     (first_refused check text ls more behind so.nodes first.before first.fault first.behind parts so.says (subst (λ (rs : List (Result LineNode LineError)). AllZip (Reads check) more rs) first.parts zip))
 
--- ---- how far the found lines are read
+-- what was read of a whole text
+pub text_says : (check : Bool) (text : List ℕ) (old new : Columns) (read : List (Result LineNode LineError)) → HasColumns [] old → AllZip (Reads check) (lines text) read → TakesIn old read new → SayColumns check (lines text) new
+text_says check text old new read none zip takes = says_more check [] (lines text) old new read (says_none check old none) zip takes
 
--- what the found lines are
-abbrev pub shown : List (Bor (List ℕ)) → List (List ℕ)
-shown found = map (λ (line : Bor (List ℕ)). line.now) found
+pub text_fault : (check : Bool) (text : List ℕ) (old : Columns) (read : List (Result LineNode LineError)) (error : GraphError) → HasColumns [] old → AllZip (Reads check) (lines text) read → IsTakeFault old read error → IsFirstFault check text error
+text_fault check text old read error none zip fault = says_fault check text [] (lines text) [] old read error (sym (append-nil (lines text))) (says_none check old none) zip fault
+
+-- ---- how far the found lines are read
 
 front_of : (found : List (Bor (List ℕ))) (at to : ℕ) (some : List (Bor (List ℕ))) → take to found ≡ take at found ++ some → shown (take to found) ≡ shown (take at found) ++ shown some
 front_of found at to some cut = ap (λ (ls : List (Bor (List ℕ))). shown ls) cut ∙ map-append (λ (line : Bor (List ℕ)). line.now) (take at found) some

@@ -20,7 +20,8 @@ use Rattle.nd_bundle.specs.declared.refusal.LineError.{LineError}
 use Rattle.nd_bundle.specs.declared.refusal.LineError.TheVariants.{BadLine, BadPath, BadDerivation, UnknownOutput, BadAttribute, WrongPath, Memory}
 use Rattle.nd_bundle.proofs.Assembled.{columns_paired, columns_rising, columns_sized}
 use Rattle.nd_bundle.proofs.Rising.{names_rise}
-use Rattle.nd_bundle.proofs.Zipped.{both_zip, zip_at, zip_length}
+use Rattle.nd_bundle.proofs.Zipped.{zip_at, zip_length}
+use Rattle.rayon.proofs.ListFacts.{AllZip-append}
 
 -- a line's node has as many output names as output paths, and its output names rise
 node_fit : (check : Bool) (line : List ℕ) (node : LineNode) → IsLine check line node → IsFit node
@@ -113,7 +114,7 @@ first_refused check text ls more behind nodes before fault rest parts says zip =
       line = split.line;
       behind = split.behind ++ behind;
       parts = whole;
-      says = both_zip (IsLine check) ls split.before nodes before says split.says;
+      says = AllZip-append (IsLine check) ls split.before nodes before says split.says;
       refused = split.refused;
     }))
 

@@ -9,13 +9,6 @@ zip_push R [] (b ∷ ys) x y zip here = absurd zip
 zip_push R (a ∷ xs) [] x y zip here = absurd zip
 zip_push R (a ∷ xs) (b ∷ ys) x y zip here = (zip.0, zip_push R xs ys x y zip.1 here)
 
--- one list behind another, on both sides
-pub both_zip : {A B : Type 0} (R : A → B → Type 0) (xs zs : List A) (ys ws : List B) → AllZip R xs ys → AllZip R zs ws → AllZip R (xs ++ zs) (ys ++ ws)
-both_zip R [] zs [] ws one two = two
-both_zip R [] zs (b ∷ ys) ws one two = absurd one
-both_zip R (a ∷ xs) zs [] ws one two = absurd one
-both_zip R (a ∷ xs) zs (b ∷ ys) ws one two = (one.0, both_zip R xs zs ys ws one.1 two)
-
 -- both are equally long
 pub zip_length : {A B : Type 0} (R : A → B → Type 0) (xs : List A) (ys : List B) → AllZip R xs ys → length xs ≡ length ys
 zip_length R [] [] zip = refl

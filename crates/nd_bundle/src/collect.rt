@@ -1,6 +1,6 @@
 //! Reading the lines of a bundle, one after another or in many threads.
 
-ghost use Rattle.std.specs.Prelude.{◌≡◌, ◌+◌, ◌<◌, ◌≤◌, ◌++◌, length, map, take, IfErr, IfOk, OnOk};
+ghost use Rattle.std.specs.Prelude.{map, IfErr, IfOk, OnOk};
 ghost use Rattle.std.specs.List.{AllZip};
 ghost use Rattle.nd_bundle.specs.Bundles.{IsFirstFault};
 ghost use Rattle.nd_bundle.specs.Columned.{IsTakeFault, SayColumns, TakesIn};
@@ -13,7 +13,6 @@ use crate::fault::GraphError;
 use crate::line::LineView;
 use crate::reading::read_line;
 use crate::refusal::LineError;
-use nd_graph::NODE_LIMIT;
 use rayon::prelude::*;
 use std::alloc::{AllocError, Global};
 use std::thread::Threads;
@@ -21,10 +20,6 @@ use std::thread::Threads;
 /// The length from which on a text is read by many threads: one thread has read a shorter one before others
 /// have started.
 const LONG: usize = 65_536;
-
-/// How many lines many threads read before what they say is put together: as many as a graph may have, since
-/// threads take some milliseconds to begin and to end.
-const AT_ONCE: usize = NODE_LIMIT;
 
 /// What the lines of the text say, in order, or the refusal of the first that has one; read by this thread
 /// where the text is short, and else by as many threads as there are processors. With `check` each line's
@@ -57,13 +52,13 @@ pub(crate) fn read_lines<'t>(
     let lines = cut_lines(alloc, text)?;
     let mut columns = Columns::with_capacity(alloc, lines.len())?;
     for line in &lines {
-        columns.take(read_line(alloc, line, check))?;
+        columns.add(read_line(alloc, line, check))?;
     }
     Ok(columns)
 }
 
 /// The same, read by as many threads as there are processors.
-#[tactic(auto, using(crate::proofs::Taken::says_none, crate::proofs::Taken::all_says))]
+#[tactic(auto, using(crate::proofs::Taken::says_none))]
 fn read_lines_in_parallel<'t>(
     rt: &(impl Threads + Sync),
     alloc: Global,
@@ -75,30 +70,13 @@ fn read_lines_in_parallel<'t>(
 {
     let lines = cut_lines(alloc, text)?;
     let mut columns = Columns::with_capacity(alloc, lines.len())?;
-    let mut at = 0;
-    while at < lines.len() {
-        let some = lines_from(lines.as_slice(), at);
-        let read = read_some(rt, alloc, some, check)?;
-        take_in(&mut columns, read)?;
-        at += some.len();
-    }
+    let read = read_each(rt, alloc, lines.as_slice(), check)?;
+    take_in(&mut columns, read)?;
     Ok(columns)
 }
 
-/// So many lines from this one on as are read at once.
-fn lines_from<'l, 't>(lines: &'l [&'t [u8]], at: usize) -> &'l [&'t [u8]]
-    requires { at < length lines.now }
-    ensures parts { take (at + length result.now) lines.now ≡ take at lines.now ++ result.now }
-    ensures some { 0 < length result.now }
-    ensures within { at + length result.now ≤ length lines.now }
-{
-    let (_, rest) = lines.split_at(at);
-    let (some, _) = rest.split_at(rest.len().min(AT_ONCE));
-    some
-}
-
 /// What each of these lines says, in order, read by as many threads as there are processors.
-fn read_some<'t>(
+fn read_each<'t>(
     rt: &(impl Threads + Sync),
     alloc: Global,
     lines: &[&'t [u8]],
@@ -126,7 +104,7 @@ fn take_in<'t>(
     ensures err { IfErr result (IsTakeFault columns.old read.entry.items) }
 {
     for line in read {
-        columns.take(line)?;
+        columns.add(line)?;
     }
     Ok(())
 }

@@ -70,7 +70,7 @@ impl<'t> Columns<'t> {
     /// Adds the node that a line says, or answers the line's refusal with its number: so many nodes were
     /// said before, and one.
     #[tactic(auto, using(crate::proofs::Taken::taken_one, crate::proofs::Taken::refused_one))]
-    pub(crate) fn take(&mut self, read: Result<LineView<'t>, LineError>) -> Result<(), GraphError>
+    pub(crate) fn add(&mut self, read: Result<LineView<'t>, LineError>) -> Result<(), GraphError>
         ensures ok { OnOk result (TakesIn self.old (read.entry ∷ []) self.new) }
         ensures err { IfErr result (IsTakeFault self.old (read.entry ∷ [])) }
     {

@@ -16,9 +16,9 @@ use std::io::{self, BufRead, Write};
 /// the writer holds, where it says that, as one in memory does: an answer adds its bytes to it, and no other
 /// call adds any; for what the reader has left, where it says that: a line that is heard is the next one
 /// of it; and for what the journal holds, where it says that: what is appended stands behind it, and a sync
-/// makes all of it durable. Each call leaves the two devices that it isn't about as they were. Whatever the journal or the
-/// writer is refused for, the system's want of memory too, is their own refusal: a part of the bytes may be
-/// there.
+/// makes all of it durable. Each call leaves the two devices that it isn't about as they were. Whatever the
+/// journal or the writer is refused for, the system's want of memory too, is their own refusal: a part of the
+/// bytes may be there.
 #[derive(Drop)]
 pub struct Devices<R, W, J> {
     /// Where lines come from.

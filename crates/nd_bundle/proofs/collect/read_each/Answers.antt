@@ -4,7 +4,7 @@ use Rattle.rayon.proofs.ToStd.{slice-AllZip}
 use Rattle.std.specs.List.{AllZip}
 use Rattle.nd_bundle.specs.Reads.{Reads}
 use Rattle.nd_bundle.proofs.Collecting.{ReadsShown, shown_read}
-use Rattle.nd_bundle.proofs.collect.read_some.Goals as goal
+use Rattle.nd_bundle.proofs.collect.read_each.Goals as goal
 
 pub returns : goal.returns
 returns g c =
