@@ -5,6 +5,8 @@ ghost use Rattle.std.specs.Option.{option_copied};
 ghost use Rattle.std.specs.List.{slice_split};
 ghost use Rattle.nd_bytes.specs.Cut.{until, behind, pieces, left_over};
 
+use memchr::memchr;
+
 /// What stands before the first `byte` of `bytes`, and what stands after it: `None` where `bytes`
 /// has no such byte, and then the first part is the whole.
 ///
@@ -15,12 +17,12 @@ pub fn cut(bytes: &[u8], byte: u8) -> (&[u8], Option<&[u8]>)
     ensures rest { option_copied result.1 ≡ behind (λ b. b == byte) bytes.now }
     ensures shorter { left_over (option_copied result.1) ≤ length bytes.now }
 {
-    for i in 0..bytes.len() {
-        if bytes[i] == byte {
+    match memchr(byte, bytes) {
+        Some(i) => {
             let (front, _) = bytes.split_at(i);
             let (_, rest) = bytes.split_at(i + 1);
-            return (front, Some(rest));
+            (front, Some(rest))
         }
+        None => (bytes, None),
     }
-    (bytes, None)
 }

@@ -1,34 +1,28 @@
-use Rattle.std.proofs.Common.{◌≡◌, ◌==◌, ℕ, false, sym, ap, ◌∙◌, eqb, eq-eqb, Some}
-use Rattle.std.proofs.lemmas.Bool.{ne_eqb}
-use Rattle.std.proofs.lemmas.List.Elements.{All-more}
-use Rattle.nd_bytes.proofs.Cuts.{whole_at, until_at, behind_at, whole_none, until_whole, behind_whole}
+-- The search finds the first such byte, or there is none.
+use Rattle.std.proofs.Common.{◌≡◌, ◌∙◌, ap, Some}
+use Rattle.nd_bytes.proofs.Cuts.{whole_found, until_found, behind_found, whole_missing, until_missing, behind_missing}
 use Rattle.nd_bytes.proofs.cutting.cut.Goals as goal
 
-pub returns-then-bytes-i-clause-whole : goal.returns-then-bytes-i-clause-whole
-returns-then-bytes-i-clause-whole c =
-    rw (c.split_at.ensures.front, c.split_at-then-bytes-i.ensures.back)
-    (whole_at (λ b. b == c.args.byte) c.args.bytes.now c.loop-i.i c.loop-i-test.true c.loop-i.invariant (eq-eqb _ _ c.if-bytes-i.true))
+pub returns-in-Some-clause-whole : goal.returns-in-Some-clause-whole
+returns-in-Some-clause-whole c =
+    rw (c.split_at.ensures.front, c.split_at-in-Some.ensures.back)
+    (whole_found c.args.byte c.args.bytes.now c.in-Some.i c.in-Some.ensures.0.high c.in-Some.ensures.0.before c.in-Some.ensures.1)
 
-pub returns-then-bytes-i-clause-front : goal.returns-then-bytes-i-clause-front
-returns-then-bytes-i-clause-front c =
+pub returns-in-Some-clause-front : goal.returns-in-Some-clause-front
+returns-in-Some-clause-front c =
     c.split_at.ensures.front
-    ∙ sym (until_at (λ b. b == c.args.byte) c.args.bytes.now c.loop-i.i c.loop-i-test.true c.loop-i.invariant (eq-eqb _ _ c.if-bytes-i.true))
+    ∙ until_found c.args.byte c.args.bytes.now c.in-Some.i c.in-Some.ensures.0.high c.in-Some.ensures.0.before c.in-Some.ensures.1
 
-pub returns-then-bytes-i-clause-rest : goal.returns-then-bytes-i-clause-rest
-returns-then-bytes-i-clause-rest c =
-    ap Some c.split_at-then-bytes-i.ensures.back
-    ∙ sym (behind_at (λ b. b == c.args.byte) c.args.bytes.now c.loop-i.i c.loop-i-test.true c.loop-i.invariant (eq-eqb _ _ c.if-bytes-i.true))
+pub returns-in-Some-clause-rest : goal.returns-in-Some-clause-rest
+returns-in-Some-clause-rest c =
+    ap Some c.split_at-in-Some.ensures.back
+    ∙ behind_found c.args.byte c.args.bytes.now c.in-Some.i c.in-Some.ensures.0.high c.in-Some.ensures.0.before c.in-Some.ensures.1
 
-pub loop-i-preserved : goal.loop-i-preserved
-loop-i-preserved c =
-    All-more (λ (b : ℕ). eqb b c.args.byte ≡ false) c.args.bytes.now c.loop-i.i 0 c.loop-i-test.true c.loop-i.invariant
-    (ne_eqb _ _ c.if-bytes-i.false)
+pub returns-in-None-clause-whole : goal.returns-in-None-clause-whole
+returns-in-None-clause-whole c = whole_missing c.args.byte c.args.bytes.now c.in-None.ensures
 
-pub returns-clause-whole : goal.returns-clause-whole
-returns-clause-whole c = whole_none (λ b. b == c.args.byte) c.args.bytes.now c.loop-i.i c.loop-i-test.false c.loop-i.invariant
+pub returns-in-None-clause-front : goal.returns-in-None-clause-front
+returns-in-None-clause-front c = until_missing c.args.byte c.args.bytes.now c.in-None.ensures
 
-pub returns-clause-front : goal.returns-clause-front
-returns-clause-front c = sym (until_whole (λ b. b == c.args.byte) c.args.bytes.now c.loop-i.i c.loop-i-test.false c.loop-i.invariant)
-
-pub returns-clause-rest : goal.returns-clause-rest
-returns-clause-rest c = sym (behind_whole (λ b. b == c.args.byte) c.args.bytes.now c.loop-i.i c.loop-i-test.false c.loop-i.invariant)
+pub returns-in-None-clause-rest : goal.returns-in-None-clause-rest
+returns-in-None-clause-rest c = behind_missing c.args.byte c.args.bytes.now c.in-None.ensures
