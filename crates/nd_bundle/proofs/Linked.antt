@@ -1,5 +1,5 @@
 -- The steps of the loops that resolve the links between the nodes.
-use Rattle.std.proofs.Common.{◌≡◌, ℕ, ◌+◌, ◌<◌, ◌≤◌, List, [], ◌∷◌, ◌++◌, length, take, get_or, Contains, None, Some, sym, ap, ◌∙◌, subst, inl, inr, arith}
+use Rattle.std.proofs.Common.{◌≡◌, ℕ, ◌+◌, ◌<◌, ◌≤◌, List, [], ◌∷◌, ◌++◌, length, take, get_or, Contains, None, Some, refl, sym, ap, ◌∙◌, subst, inl, inr, arith}
 use Rattle.std.specs.List.{AllZip}
 use Rattle.std.proofs.lemmas.List.{take_more, take_all, get_or_default, get_or-take, length-take-le}
 use Rattle.std.proofs.lemmas.List.Elements.{Contains-push_cases}
@@ -53,6 +53,18 @@ places_all names wanted places i so all = subst (λ (xs : List (List ℕ)). AreP
 
 pub item_lacks : (names wanted : List (List ℕ)) (i : ℕ) (name : List ℕ) → i < length wanted → name ≡ get_or wanted i name → IsNumber names name None → LacksItem names wanted
 item_lacks names wanted i name lt is none = record { item = name; asked = is_item wanted i name lt is; missing = none }
+
+-- one wanted name
+pub only_wanted : (wanted : List (List ℕ)) (name : List ℕ) → length wanted ≡ 1 → name ≡ get_or wanted 0 name → wanted ≡ name ∷ []
+only_wanted [] name one is = absurd (omega (arith, one))
+only_wanted (first ∷ []) name one is = ap (λ (x : List ℕ). x ∷ []) (sym is)
+only_wanted (first ∷ (second ∷ more)) name one is = absurd (omega (arith, one))
+
+pub only_at : (names : List (List ℕ)) (name : List ℕ) (place : ℕ) → IsNumber names name (Some place) → ArePlaces names (name ∷ []) (place ∷ [])
+only_at names name place at = record { each = (at, tt) }
+
+pub only_lacks : (names : List (List ℕ)) (name : List ℕ) → IsNumber names name None → LacksItem names (name ∷ [])
+only_lacks names name none = record { item = name; asked = (0, omega arith, refl); missing = none }
 
 -- an input by number
 pub input_numbered : (paths : List (List ℕ)) (names : List (List (List ℕ))) (want : NamedInput) (node : ℕ) (outputs : List ℕ) → IsAt paths want.path node → ArePlaces (get_or names node []) want.names outputs → IsNumbered paths names want (record { node = node; outputs = outputs })

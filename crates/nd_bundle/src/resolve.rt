@@ -1,6 +1,6 @@
 //! The inputs of nodes by number.
 
-ghost use Rattle.std.specs.Prelude.{IfOk, IfErr, MatchOption};
+ghost use Rattle.std.specs.Prelude.{◌∷◌, [], IfOk, IfErr, MatchOption};
 ghost use Rattle.nd_graph.specs.Graphs.{IsNumber, IsAt};
 ghost use Rattle.nd_bundle.specs.Linking.{known_in, AreLinks, IsInputFault, IsLineFault, IsLink, IsRowFault};
 ghost use Rattle.nd_bundle.specs.Numbering.{LacksItem};
@@ -15,7 +15,7 @@ use crate::missing::has_inputs;
 use crate::register::Register;
 use nd_aterm::Leaf;
 use nd_bytes::Items;
-use nd_graph::Input;
+use nd_graph::{Input, Places};
 use rayon::prelude::*;
 use std::alloc::{AllocError, Global};
 use std::thread::Threads;
@@ -194,13 +194,42 @@ fn number_outputs<'t>(
     }
 }
 
-/// The places of the wanted names in a rising list, or none where one is missing.
-#[tactic(auto, using(crate::proofs::Linked::places_none, crate::proofs::Linked::places_more, crate::proofs::Linked::places_all, crate::proofs::Linked::item_lacks))]
+/// The places of the wanted names in a rising list, or none where one is missing. Mostly one name is wanted,
+/// whose place takes no memory.
+#[tactic(auto, using(crate::proofs::Linked::only_wanted))]
 fn places_of<'t>(
     alloc: Global,
     names: &[Leaf<'t>],
     wanted: &[Leaf<'t>],
-) -> Result<Option<Items<usize>>, AllocError>
+) -> Result<Option<Places>, AllocError>
+    requires { NamesRise names.now }
+    ensures { IfOk result (λ r. MatchOption r (LacksItem names.now wanted.now) (λ places. ArePlaces names.now wanted.now places)) }
+{
+    match wanted {
+        [name] => Ok(only_place(names, name)),
+        _ => list_places(alloc, names, wanted),
+    }
+}
+
+/// The place of the one wanted name, or none where it is missing.
+#[tactic(auto, using(crate::proofs::Linked::only_at, crate::proofs::Linked::only_lacks))]
+fn only_place<'t>(names: &[Leaf<'t>], name: &Leaf<'t>) -> Option<Places>
+    requires { NamesRise names.now }
+    ensures { MatchOption result (LacksItem names.now (name.now ∷ [])) (λ places. ArePlaces names.now (name.now ∷ []) places) }
+{
+    match place_of(names, name) {
+        Some(place) => Some(Places::one(place)),
+        None => None,
+    }
+}
+
+/// The places of the wanted names, each found by a search of its own, or none where one is missing.
+#[tactic(auto, using(crate::proofs::Linked::places_none, crate::proofs::Linked::places_more, crate::proofs::Linked::places_all, crate::proofs::Linked::item_lacks))]
+fn list_places<'t>(
+    alloc: Global,
+    names: &[Leaf<'t>],
+    wanted: &[Leaf<'t>],
+) -> Result<Option<Places>, AllocError>
     requires { NamesRise names.now }
     ensures { IfOk result (λ r. MatchOption r (LacksItem names.now wanted.now) (λ places. ArePlaces names.now wanted.now places)) }
 {
@@ -211,7 +240,7 @@ fn places_of<'t>(
             None => return Ok(None),
         }
     }
-    Ok(Some(Items::new(places)))
+    Ok(Some(Places::new(alloc, places)?))
 }
 
 /// The place of a name in a rising list, found by a binary search.

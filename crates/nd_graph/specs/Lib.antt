@@ -1,5 +1,6 @@
 pub mod Graphs
 pub mod Names
 pub mod Orders
+pub mod Placing
 pub mod Stages
 pub mod Walks

@@ -8,6 +8,7 @@ ghost use Rattle.nd_graph.specs.Walks.{inputs_of, IsAcyclic, IsOrder, PlacesFall
 use crate::fault::OrderError;
 use crate::number::find_path;
 use crate::order::find_order;
+use crate::places::Places;
 use indexmap::IndexSet;
 use nd_bytes::Items;
 use nd_eligible::Need;
@@ -24,7 +25,7 @@ pub struct Input {
     /// The number of the node that is needed.
     pub node: usize,
     /// The places of the outputs that are named of it, in its list of outputs; maybe none.
-    pub outputs: Items<usize>,
+    pub outputs: Places,
 }
 
 impl Input {
@@ -34,7 +35,7 @@ impl Input {
     {
         Ok(Input {
             node: self.node,
-            outputs: Items::new(Vec::from_slice(alloc, self.outputs.as_slice())?),
+            outputs: self.outputs.try_clone(alloc)?,
         })
     }
 }

@@ -6,8 +6,10 @@ pub mod fault;
 pub mod graph;
 pub mod number;
 pub mod order;
+pub mod places;
 
 pub use fault::OrderError;
 pub use graph::{Graph, Input, NODE_LIMIT};
 pub use number::find_path;
 pub use order::find_order;
+pub use places::Places;
