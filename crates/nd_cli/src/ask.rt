@@ -14,6 +14,7 @@ use crate::park::read_park;
 use nd_devices::Told;
 use std::alloc::Global;
 use std::io::{Read, Write};
+use std::mem;
 use std::thread::Threads;
 
 /// Writes for each derivation of the bundle on the input, in order, the hook's reply on an idle park:
@@ -62,7 +63,8 @@ pub fn ask_engine<R: Read, W: Write>(
         park.graph.needs(),
         output,
     );
-    drop(park);
+    // The process ends with this command: to let go of a large graph takes as long as to link it.
+    mem::forget(park);
     match written {
         Ok(()) => Ok(0),
         Err(fault) => Err(fault),

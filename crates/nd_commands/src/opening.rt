@@ -9,6 +9,7 @@ ghost use Rattle.nd_commands.specs.Opened.{HasInputs, IsOpened};
 use nd_cli::{CliFault, ParkOptions, read_park};
 use nd_ledger::Dispatch;
 use std::alloc::Global;
+use std::mem;
 use std::thread::Threads;
 
 /// A dispatch over this bundle and the park of the options, with the empty history.
@@ -43,5 +44,7 @@ pub fn open_dispatch(
     }
 }
 
-/// Ends a dispatch.
-pub fn close_dispatch(_dispatch: Dispatch) {}
+/// Ends a dispatch at the end of its command. Its memory is left to the system, since the process ends too.
+pub fn close_dispatch(dispatch: Dispatch) {
+    mem::forget(dispatch);
+}

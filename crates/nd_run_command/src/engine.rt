@@ -11,6 +11,7 @@ use nd_devices::Told;
 use nd_ledger::Dispatch;
 use nd_workers::{RunError, RunFault, Worker, run};
 use std::io::Write;
+use std::mem;
 use std::sync::Wait;
 use std::thread::Threads;
 
@@ -36,15 +37,17 @@ pub fn run_engine<R: Threads + Wait + Sync, W: Write>(
     ensures fault { IfErr result (IsRunFault dispatch (vec_len workers) report W.contents output.old output.new) }
     ensures mark { IsTrue output.new.is_marked ↔ (result ≡ Err CliFault.Write) }
 {
+    // What comes back is left to the system: the process ends with the command, and to let go of a large dispatch
+    // takes long.
     match run(rt, dispatch, workers) {
         Ok(end) => {
             let answer = write_and_answer(&end.dispatch, end.fault, report, output);
-            drop(end);
+            mem::forget(end);
             answer
         }
         Err(refused) => {
             let fault = refusal(refused.why);
-            drop(refused);
+            mem::forget(refused);
             Err(fault)
         }
     }

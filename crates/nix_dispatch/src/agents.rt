@@ -1,5 +1,6 @@
 //! The command `run`: an agent for each slot of the park where `--agents` names the folder of their files,
-//! and else a stand-in.
+//! and else a stand-in. A dispatch and its workers are left to the system where the command ends, since the process
+//! ends with it.
 
 ghost use Rattle.nd_workers.specs.Runs.{AreManned};
 
@@ -16,6 +17,7 @@ use nd_workers::{Transport, Worker};
 use std::alloc::{AllocError, Global};
 use std::fs::{File, OpenOptions};
 use std::io::BufReader;
+use std::mem;
 use std::rt::Files;
 use std::sync::Wait;
 use std::thread::Threads;
@@ -51,7 +53,7 @@ fn run_agents<'a, R: Files<File = File> + Input + Print + AllocGlobal + Threads 
             options.get_flag("report"),
         ),
         Err(fault) => {
-            drop(dispatch);
+            mem::forget(dispatch);
             Err(placed(options, fault))
         }
     }
@@ -73,8 +75,8 @@ fn run_placed<'a, R: Files<File = File> + Print + AllocGlobal + Threads + Wait +
         let agent = match agent_at(rt, alloc, folder, machine, slot) {
             Ok(agent) => agent,
             Err(failure) => {
-                drop(workers);
-                drop(dispatch);
+                mem::forget(workers);
+                mem::forget(dispatch);
                 return Err(failure);
             }
         };
@@ -85,8 +87,8 @@ fn run_placed<'a, R: Files<File = File> + Print + AllocGlobal + Threads + Wait +
             transport,
         };
         if workers.push(worker).is_err() {
-            drop(workers);
-            drop(dispatch);
+            mem::forget(workers);
+            mem::forget(dispatch);
             return Err(Failure::of(CliFault::Memory));
         }
     }

@@ -12,6 +12,7 @@ use nd_run_command::run_engine;
 use nd_workers::Worker;
 use std::alloc::Global;
 use std::io::{self, BufWriter};
+use std::mem;
 use std::sync::Wait;
 use std::thread::Threads;
 
@@ -27,8 +28,9 @@ pub(crate) fn run_workers<'a, R: Print + AllocGlobal + Threads + Wait + Sync>(
     requires manned { AreManned dispatch.inputs (map (λ w. (w.machine, w.slot)) workers.items) }
 {
     let Ok(buffer) = BufWriter::new(alloc, io::writer(rt)) else {
-        drop(workers);
-        drop(dispatch);
+        // The process ends with the command.
+        mem::forget(workers);
+        mem::forget(dispatch);
         return Err(Failure::of(CliFault::Memory));
     };
     let mut output = Told::new(Heard::new(buffer));

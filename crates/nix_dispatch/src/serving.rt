@@ -1,4 +1,5 @@
-//! The command `serve`: a session over standard input and output, with a journal in a file.
+//! The command `serve`: a session over standard input and output, with a journal in a file. What was opened is left
+//! to the system where the command ends early, since the process ends with it.
 
 use crate::commands::{say, told_why};
 use crate::journal_files::{Found, Kept, begin_journal, find_journal};
@@ -10,6 +11,7 @@ use nd_serve_command::{Devices, JournalFailure, Opened, ServeFault, open_session
 use std::alloc::Global;
 use std::fs::File;
 use std::io::{self, BufReader, Read, Write};
+use std::mem;
 use std::rt::Files;
 use std::thread::Threads;
 
@@ -67,7 +69,7 @@ fn begin<'a, R: Files<File = File> + Input + Print + AllocGlobal + Threads + Syn
     match begin_journal(rt, name, file) {
         Ok(kept) => hold(rt, alloc, opened, kept, length),
         Err(failure) => {
-            drop(opened);
+            mem::forget(opened);
             Err(Ending::Journal(failure))
         }
     }
@@ -117,11 +119,11 @@ fn hold<'a, R: Files + Input + Print + AllocGlobal>(
 ) -> Result<u8, Ending<'a>> {
     let mut kept = kept;
     if length > 0 && kept.cut(opened.kept).is_err() {
-        drop(opened);
+        mem::forget(opened);
         return Err(Ending::Journal(kept.into_failure()));
     }
     let Ok(input) = BufReader::new(alloc, Heard::new(rt.reader())) else {
-        drop(opened);
+        mem::forget(opened);
         return Err(Ending::Common(Failure::of(CliFault::Memory)));
     };
     let mut devices = Devices {

@@ -1,4 +1,5 @@
-//! The command `run`: a stand-in for each slot of the park.
+//! The command `run`: a stand-in for each slot of the park. A dispatch and its workers are left to the system where
+//! the command ends, since the process ends with it.
 
 ghost use Rattle.std.specs.Prelude.{map};
 ghost use Rattle.nd_workers.specs.Runs.{AreManned};
@@ -12,6 +13,7 @@ use nd_ledger::Dispatch;
 use nd_run_command::{RunInputs, run_inputs, stand_ins};
 use nd_workers::{Seat, StandIn, Transport, Worker};
 use std::alloc::Global;
+use std::mem;
 use std::rt::Files;
 use std::sync::Wait;
 use std::thread::Threads;
@@ -30,7 +32,7 @@ pub(crate) fn run_stand_ins<'a, R: Files + Input + Print + AllocGlobal + Threads
     match stand_ins(alloc, &dispatch, rules) {
         Ok(seats) => run_seated(rt, alloc, dispatch, seats, options.get_flag("report")),
         Err(fault) => {
-            drop(dispatch);
+            mem::forget(dispatch);
             Err(placed(options, fault))
         }
     }
@@ -77,8 +79,8 @@ fn run_seated<'a, R: Print + AllocGlobal + Threads + Wait + Sync>(
             transport,
         };
         if workers.push(worker).is_err() {
-            drop(workers);
-            drop(dispatch);
+            mem::forget(workers);
+            mem::forget(dispatch);
             return Err(Failure::of(CliFault::Memory));
         }
     }
