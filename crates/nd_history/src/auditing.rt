@@ -3,7 +3,7 @@
 ghost use Rattle.std.specs.Prelude.{◌≡◌, ◌+◌, ◌<◌, ◌≤◌, ◌↔◌, IsTrue, length, reverse};
 ghost use Rattle.nd_history.specs.Premises.{premises_of};
 ghost use Rattle.nd_history.specs.Standing.{drvs_in, IsReady};
-ghost use Rattle.nd_history.specs.Choices.{machines_in, jobs_of};
+ghost use Rattle.nd_history.specs.Choices.{machines_in, jobs_of, HasDecision};
 ghost use Rattle.nd_history.specs.Legal.{IsInRange, IsLeastFree};
 ghost use Rattle.nd_history.specs.Fitting.{FitTogether};
 ghost use Rattle.nd_history.specs.Marks.{AreMarked};
@@ -95,10 +95,11 @@ fn check_slot(book: &Book, machine: u32, slot: u32) -> Result<(), Rule>
     }
 }
 
-/// Tests the choice of a slot for a derivation that is ready.
-fn check_ready_choice(
+/// Tests the choice of a slot for a derivation that is ready and about which this is decided.
+fn judge_ready_choice(
     inputs: &Inputs,
     book: &Book,
+    decision: Decision,
     drv: u32,
     machine: u32,
     slot: u32,
@@ -106,9 +107,10 @@ fn check_ready_choice(
     requires fit { FitTogether (premises_of inputs.now) book.now }
     requires ranged { IsInRange (premises_of inputs.now) (Entry.Chosen drv machine slot) }
     requires ready { IsReady (premises_of inputs.now) (reverse book.now.entries) drv }
+    requires decided { HasDecision (premises_of inputs.now) (reverse book.now.entries) drv decision }
     ensures { IsJudged (premises_of inputs.now) (reverse book.now.entries) (Entry.Chosen drv machine slot) result }
 {
-    match decide_now(inputs, book, drv as usize) {
+    match decision {
         Decision::Local => {
             if machine != 0 {
                 return Err(Rule::Decision);
@@ -129,9 +131,31 @@ fn check_ready_choice(
     }
 }
 
-/// Tests the choice of a slot, all that it names being there: it is refused with the first rule that
-/// it breaks. It takes no memory.
+/// Tests the choice of a slot, all that it names being there, where this is decided about the derivation
+/// if it is ready: it is refused with the first rule that it breaks. It takes no memory.
 #[tactic(auto, using(crate::proofs::Boards::unready_told, crate::proofs::Boards::on_board))]
+pub fn judge_choice(
+    inputs: &Inputs,
+    book: &Book,
+    board: &Board,
+    decision: Decision,
+    drv: u32,
+    machine: u32,
+    slot: u32,
+) -> Result<(), Rule>
+    requires fit { FitTogether (premises_of inputs.now) book.now }
+    requires marked { AreMarked (premises_of inputs.now) (reverse book.now.entries) board.now }
+    requires ranged { IsInRange (premises_of inputs.now) (Entry.Chosen drv machine slot) }
+    requires decided { HasDecision (premises_of inputs.now) (reverse book.now.entries) drv decision }
+    ensures { IsJudged (premises_of inputs.now) (reverse book.now.entries) (Entry.Chosen drv machine slot) result }
+{
+    if !board.is_ready(drv as usize) {
+        return Err(Rule::Ready);
+    }
+    judge_ready_choice(inputs, book, decision, drv, machine, slot)
+}
+
+/// As [`judge_choice`], and decides about the derivation by a walk over all machines.
 pub fn check_choice(
     inputs: &Inputs,
     book: &Book,
@@ -145,19 +169,23 @@ pub fn check_choice(
     requires ranged { IsInRange (premises_of inputs.now) (Entry.Chosen drv machine slot) }
     ensures { IsJudged (premises_of inputs.now) (reverse book.now.entries) (Entry.Chosen drv machine slot) result }
 {
-    if !board.is_ready(drv as usize) {
-        return Err(Rule::Ready);
-    }
-    check_ready_choice(inputs, book, drv, machine, slot)
+    let decision = decide_now(inputs, book, drv as usize);
+    judge_choice(inputs, book, board, decision, drv, machine, slot)
 }
 
-/// Tests the word that nothing can build a derivation that is ready.
-fn check_ready_no_builder(inputs: &Inputs, book: &Book, drv: u32) -> Result<(), Rule>
+/// Tests the word that nothing can build a derivation that is ready and about which this is decided.
+fn judge_ready_no_builder(
+    inputs: &Inputs,
+    book: &Book,
+    decision: Decision,
+    drv: u32,
+) -> Result<(), Rule>
     requires fit { FitTogether (premises_of inputs.now) book.now }
     requires ready { IsReady (premises_of inputs.now) (reverse book.now.entries) drv }
+    requires decided { HasDecision (premises_of inputs.now) (reverse book.now.entries) drv decision }
     ensures { IsJudged (premises_of inputs.now) (reverse book.now.entries) (Entry.NoBuilder drv) result }
 {
-    match decide_now(inputs, book, drv as usize) {
+    match decision {
         Decision::NoBuilder => Ok(()),
         Decision::Local => Err(Rule::Decision),
         Decision::Remote(_) => Err(Rule::Decision),
@@ -165,17 +193,35 @@ fn check_ready_no_builder(inputs: &Inputs, book: &Book, drv: u32) -> Result<(), 
     }
 }
 
-/// Tests the word that nothing can build a derivation, which is there: it is refused with the first
-/// rule that it breaks. It takes no memory.
+/// Tests the word that nothing can build a derivation, which is there, where this is decided about it if it is
+/// ready: it is refused with the first rule that it breaks. It takes no memory.
 #[tactic(auto, using(crate::proofs::Boards::unready_told, crate::proofs::Boards::on_board))]
+pub fn judge_no_builder(
+    inputs: &Inputs,
+    book: &Book,
+    board: &Board,
+    decision: Decision,
+    drv: u32,
+) -> Result<(), Rule>
+    requires fit { FitTogether (premises_of inputs.now) book.now }
+    requires marked { AreMarked (premises_of inputs.now) (reverse book.now.entries) board.now }
+    requires ranged { drv < drvs_in (premises_of inputs.now) }
+    requires decided { HasDecision (premises_of inputs.now) (reverse book.now.entries) drv decision }
+    ensures { IsJudged (premises_of inputs.now) (reverse book.now.entries) (Entry.NoBuilder drv) result }
+{
+    if !board.is_ready(drv as usize) {
+        return Err(Rule::Ready);
+    }
+    judge_ready_no_builder(inputs, book, decision, drv)
+}
+
+/// As [`judge_no_builder`], and decides about the derivation by a walk over all machines.
 pub fn check_no_builder(inputs: &Inputs, book: &Book, board: &Board, drv: u32) -> Result<(), Rule>
     requires fit { FitTogether (premises_of inputs.now) book.now }
     requires marked { AreMarked (premises_of inputs.now) (reverse book.now.entries) board.now }
     requires ranged { drv < drvs_in (premises_of inputs.now) }
     ensures { IsJudged (premises_of inputs.now) (reverse book.now.entries) (Entry.NoBuilder drv) result }
 {
-    if !board.is_ready(drv as usize) {
-        return Err(Rule::Ready);
-    }
-    check_ready_no_builder(inputs, book, drv)
+    let decision = decide_now(inputs, book, drv as usize);
+    judge_no_builder(inputs, book, board, decision, drv)
 }

@@ -29,9 +29,8 @@ use nd_closure::{RefTable, Refs};
 use nd_eligible::Local;
 use nd_failure::{Board, Counts, Status};
 use nd_graph::Graph;
-use nd_history::auditing::{check_choice, check_no_builder, is_in_range};
+use nd_history::auditing::{is_in_range, judge_choice, judge_no_builder};
 use nd_history::book::Book;
-use nd_history::deciding::reply_now;
 use nd_history::entry::{Entry, Why};
 use nd_history::inputs::{Inputs, Parts};
 use nd_history::rule::Rule;
@@ -40,7 +39,7 @@ use nd_leases::Ticket;
 use nd_machines::Machine;
 use nd_path::PathSet;
 use nd_provision::stores::Stores;
-use nd_pump::{Turns, next_step};
+use nd_pump::{Turns, decide_by_kind, next_step, reply_by_kind};
 use std::alloc::{AllocError, Global};
 use std::marker::Model;
 
@@ -381,7 +380,17 @@ impl Dispatch {
         ensures refused { IfErr result (IsAdmitRefused self.old.inputs (reverse self.old.history) (Entry.Chosen drv machine slot)) }
         ensures err { OnErr result (self.new ≡ self.old) }
     {
-        if let Err(rule) = check_choice(&self.inputs, &self.book, &self.board, drv, machine, slot) {
+        let inputs = &self.inputs;
+        let decision = decide_by_kind(inputs, &self.book, &self.turns, drv as usize);
+        if let Err(rule) = judge_choice(
+            inputs,
+            &self.book,
+            &self.board,
+            decision,
+            drv,
+            machine,
+            slot,
+        ) {
             return Err(AdmitError::Illegal(rule));
         }
         record_step(
@@ -400,7 +409,9 @@ impl Dispatch {
         ensures refused { IfErr result (IsAdmitRefused self.old.inputs (reverse self.old.history) (Entry.NoBuilder drv)) }
         ensures err { OnErr result (self.new ≡ self.old) }
     {
-        if let Err(rule) = check_no_builder(&self.inputs, &self.book, &self.board, drv) {
+        let inputs = &self.inputs;
+        let decision = decide_by_kind(inputs, &self.book, &self.turns, drv as usize);
+        if let Err(rule) = judge_no_builder(inputs, &self.book, &self.board, decision, drv) {
             return Err(AdmitError::Illegal(rule));
         }
         record_step(
@@ -619,7 +630,7 @@ impl Dispatch {
         requires { i < length self.now.inputs.graph.paths }
         ensures { HasReply self.now.inputs (reverse self.now.history) i result }
     {
-        reply_now(&self.inputs, &self.book, i)
+        reply_by_kind(&self.inputs, &self.book, &self.turns, i)
     }
 
     /// The live lease on this slot of this machine.

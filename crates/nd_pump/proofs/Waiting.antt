@@ -22,9 +22,9 @@ use Rattle.nd_kinds.specs.Kinds.{IsKindOf, MayUse}
 use Rattle.nd_history.specs.declared.entry.Entry.{Entry}
 use Rattle.nd_history.specs.Premises.{Premises}
 use Rattle.nd_history.specs.History.{load, is_up}
-use Rattle.nd_history.specs.Choices.{loads_of, ups_of, IsLocal, IsLocalFree, HasDecision}
+use Rattle.nd_history.specs.Choices.{loads_of, ups_of, IsLocal, IsLocalFree, HasDecision, HasReply}
 use Rattle.nd_history.proofs.OneChoice.{load_at_place}
-use Rattle.nd_pump.specs.Decided.{IsHome, IsHomeFree, HasKindDecision, DecidesForAll}
+use Rattle.nd_pump.specs.Decided.{IsHome, IsHomeFree, HasKindDecision, HasKindReply, DecidesForAll}
 use Rattle.nd_pump.specs.Waiting.{IsSteady, IsUnmoved, LiesIn, WaitingGoesOn}
 
 -- ---- a kind's decision is that of its derivations
@@ -59,6 +59,19 @@ kind_decides i past d need kind decision needs fits h =
           (decision_along (kind.prefer_local && h.loc) (if h.loc_free then Local else Wait) i.machines (loads_of i past) (ups_of i past) (Contains kind.places) (IsEligibleAt i.machines need)
           (λ n. (fits.eligible.exact n).0) (λ n. (fits.eligible.exact n).1) h.loc h.loc_free decision h.decided);
     }
+
+pub kind_replies : (i : Premises) (past : List Entry) (d : ℕ) (need : Need) (kind : Kind) (reply : Reply) → slice_get i.graph.needs d ≡ Some need → IsKindOf i.machines i.local need kind
+    → HasKindReply i past kind reply → HasReply i past d reply
+kind_replies i past d need kind reply needs fits h = record {
+  need = need;
+  needs = needs;
+  loc_free = h.loc_free;
+  loc_free_is = (
+    λ is. let free = h.loc_free_is.0 is in record { home = home_local i past need kind fits free.home; slot = free.slot },
+    λ free. h.loc_free_is.1 (record { home = local_home i past need kind fits free.home; slot = free.slot }),
+  );
+  replied = reply_along i.machines (loads_of i past) (ups_of i past) (Contains kind.places) (IsEligibleAt i.machines need) (λ n. (fits.eligible.exact n).0) (λ n. (fits.eligible.exact n).1) h.loc_free reply h.replied;
+}
 
 -- ---- waiting goes on
 

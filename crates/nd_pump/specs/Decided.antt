@@ -4,7 +4,9 @@
 use Rattle.std.specs.Prelude.{◌≡◌, ◌<◌, ◌≤◌, ◌↔◌, ℕ, Bool, true, IsTrue, List, Contains, Some, slice_get}
 use Rattle.nd_eligible.specs.declared.need.Need.{Need}
 use Rattle.nd_hook.specs.Decisions.{IsDecision}
+use Rattle.nd_hook.specs.Replies.{IsReply}
 use Rattle.nd_hook.specs.declared.kinds.Decision.{Decision}
+use Rattle.nd_hook.specs.declared.kinds.Reply.{Reply}
 use Rattle.nd_kinds.specs.declared.kind.Kind.{Kind}
 use Rattle.nd_kinds.specs.Kinds.{IsKindOf}
 use Rattle.nd_history.specs.declared.entry.Entry.{Entry}
@@ -30,6 +32,12 @@ pub record HasKindDecision (i : Premises) (past : List Entry) (kind : Kind) (dec
   pub loc_free : Bool
   pub loc_free_is : IsTrue loc_free ↔ IsHomeFree i past kind
   pub decided : IsDecision i.machines (loads_of i past) (ups_of i past) (Contains kind.places) kind.prefer_local loc loc_free decision
+
+-- the reply about derivations of this kind; it doesn't ask how they stand
+pub record HasKindReply (i : Premises) (past : List Entry) (kind : Kind) (reply : Reply) : Type 0 where
+  pub loc_free : Bool
+  pub loc_free_is : IsTrue loc_free ↔ IsHomeFree i past kind
+  pub replied : IsReply i.machines (loads_of i past) (ups_of i past) (Contains kind.places) loc_free reply
 
 -- what is decided about a kind is decided about each derivation of it
 pub record DecidesForAll : Type 0 where

@@ -3,12 +3,12 @@
 ghost use Rattle.std.specs.Prelude.{◌≡◌, ◌<◌, ◌+◌, ◌↔◌, All, IsTrue, length, reverse};
 ghost use Rattle.std.specs.List.Sorted.{IsStrictlyIncreasing};
 ghost use Rattle.nd_history.specs.Premises.{premises_of};
-ghost use Rattle.nd_pump.specs.Decided.{IsHome, IsHomeFree, HasKindDecision};
+ghost use Rattle.nd_pump.specs.Decided.{IsHome, IsHomeFree, HasKindDecision, HasKindReply};
 
 use nd_history::book::Book;
 use nd_history::deciding::{builder_loads, builder_ups};
 use nd_history::inputs::Inputs;
-use nd_hook::{Decision, decide_in};
+use nd_hook::{Decision, Reply, decide_in, reply_in};
 use nd_kinds::Kind;
 
 /// Whether the local machine may build derivations of this kind, and is up.
@@ -57,4 +57,18 @@ pub fn decide_kind(inputs: &Inputs, book: &Book, kind: &Kind) -> Decision
         loc,
         loc_free,
     )
+}
+
+/// The hook's reply about the derivations of a kind, whatever their status. It takes no memory.
+pub fn reply_kind(inputs: &Inputs, book: &Book, kind: &Kind) -> Reply
+    requires park { book.now.machines ≡ length inputs.now.machines + 1 }
+    requires rising { IsStrictlyIncreasing kind.now.places }
+    requires ranged { All (λ p. p < length inputs.now.machines) kind.now.places }
+    ensures { HasKindReply (premises_of inputs.now) (reverse book.now.entries) kind.now result }
+{
+    let machines = inputs.machines.as_slice();
+    let loads = builder_loads(inputs, book);
+    let ups = builder_ups(inputs, book);
+    let loc_free = is_home_free(inputs, book, kind);
+    reply_in(machines, kind.places.as_slice(), loads, ups, loc_free)
 }

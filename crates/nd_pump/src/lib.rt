@@ -2,10 +2,12 @@
 //! it is, and that a kind that is to wait goes on waiting until one of its machines changes.
 #![tactic(auto)]
 
+mod asking;
 pub mod deciding;
 pub mod laws;
 mod stepping;
 mod turns;
 
+pub use asking::{decide_by_kind, reply_by_kind};
 pub use stepping::next_step;
 pub use turns::Turns;

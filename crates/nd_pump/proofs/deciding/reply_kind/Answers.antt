@@ -1,0 +1,8 @@
+use Rattle.nd_pump.proofs.deciding.reply_kind.Goals as goal
+
+pub returns : goal.returns
+returns c = record {
+  loc_free = c.is_home_free-loc_free.result;
+  loc_free_is = c.is_home_free-loc_free.ensures;
+  replied = rw (← c.builder_loads-loads.ensures.value, ← c.builder_ups-ups.ensures.value, ← c.as_slice-machines.ensures, ← c.as_slice.ensures) c.reply_in.ensures;
+}
