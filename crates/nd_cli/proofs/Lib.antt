@@ -1,3 +1,4 @@
 pub mod Replying
 pub mod Accepted
 pub mod Whole
+pub mod KindReplying

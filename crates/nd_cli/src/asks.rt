@@ -1,15 +1,18 @@
 //! The replies that `ask` writes.
 
-ghost use Rattle.std.specs.Prelude.{◌≡◌, ◌↔◌, ◌⊎◌, ◌||◌, true, false, IsTrue, OnOk, OnErr, IfErr, is_err};
-ghost use Rattle.nd_eligible.specs.Eligibility.{AreEligible};
-ghost use Rattle.nd_cli.specs.Asks.{WritesReplies, WritesSomeReplies, WritesReply, WritesReplyPart};
+ghost use Rattle.std.specs.Prelude.{◌≡◌, ◌<◌, ◌↔◌, ◌⊎◌, ◌||◌, All, true, false, IsTrue, length, OnOk, OnErr, IfErr, is_err};
+ghost use Rattle.std.specs.List.Sorted.{IsStrictlyIncreasing};
+ghost use Rattle.nd_kinds.specs.Kinds.{AreKinds};
+ghost use Rattle.nd_cli.specs.Asks.{WritesReplies, WritesSomeReplies};
+ghost use Rattle.nd_cli.specs.KindReplies.{IsFreeForKind, IsKindReply, HaveReplied, IsReplyAt};
 ghost use Rattle.nd_cli.specs.Inputs.{is_write_fault, is_write_failure};
-ghost use Rattle.nd_hook.specs.Idle.{IsFreeHere, idle, all_up};
+ghost use Rattle.nd_hook.specs.Idle.{idle, all_up};
 
 use crate::fault::CliFault;
 use nd_devices::{Fault, Told, WriteError};
-use nd_eligible::{Classes, Local, Need, local_ok};
-use nd_hook::{reply_in, write_reply};
+use nd_eligible::{Local, Need};
+use nd_hook::{Reply, reply_in, write_reply};
+use nd_kinds::{Kind, Kinds};
 use nd_machines::Machine;
 use std::alloc::Global;
 use std::io::Write;
@@ -19,7 +22,7 @@ use std::io::Write;
 ///
 /// `Memory`: nothing is written then. `Write`: the writer refused, and is marked; the replies about
 /// some of the first needs, the last of them perhaps in part, are out.
-#[tactic(auto, using(crate::proofs::Replying::none_written, crate::proofs::Replying::begun))]
+#[tactic(auto, using(crate::proofs::Replying::none_written, crate::proofs::Replying::begun, crate::proofs::KindReplying::none_replied))]
 pub(crate) fn write_replies<W: Write>(
     alloc: Global,
     machines: &[Machine],
@@ -40,24 +43,41 @@ pub(crate) fn write_replies<W: Write>(
         drop(loads);
         return Err(CliFault::Memory);
     };
-    let Ok(classes) = Classes::new(alloc, machines, needs) else {
+    let Ok(kinds) = Kinds::new(alloc, machines, local, needs) else {
+        drop(up);
+        drop(loads);
+        return Err(CliFault::Memory);
+    };
+    let Ok(mut replies) = vec![in alloc; None; kinds.len()] else {
+        drop(kinds);
         drop(up);
         drop(loads);
         return Err(CliFault::Memory);
     };
     for number in 0..needs.len() {
-        let among = classes.machines_of(number);
-        match write_idle_reply(machines, among, &loads, &up, local, &needs[number], output) {
+        let reply = reply_about(
+            machines,
+            local,
+            needs,
+            &loads,
+            &up,
+            &kinds,
+            &mut replies,
+            number,
+        );
+        match write_reply(&reply, machines, output) {
             Ok(()) => {}
             Err(WriteError::Write) => {
-                drop(classes);
+                drop(replies);
+                drop(kinds);
                 drop(up);
                 drop(loads);
                 return Err(CliFault::Write);
             }
         }
     }
-    drop(classes);
+    drop(replies);
+    drop(kinds);
     drop(up);
     drop(loads);
     match output.flush() {
@@ -66,36 +86,64 @@ pub(crate) fn write_replies<W: Write>(
     }
 }
 
-/// Writes the reply about a derivation with this need, where no slot is taken and every machine is
-/// up. `among` are the machines that are eligible for it.
-fn write_idle_reply<W: Write>(
+/// The reply about the derivation with this number, where no slot is taken and every machine is up.
+/// `replies` has those that were made, by the numbers of the kinds; one that wasn't is made now.
+fn reply_about(
     machines: &[Machine],
-    among: &[usize],
+    local: &Local,
+    needs: &[Need],
     loads: &[u32],
     up: &[bool],
-    local: &Local,
-    need: &Need,
-    output: &mut Told<W>,
-) -> Result<(), WriteError>
+    kinds: &Kinds,
+    replies: &mut Vec<Option<Reply>>,
+    number: usize,
+) -> Reply
     requires loads { loads.now ≡ idle machines.now }
     requires up { up.now ≡ all_up machines.now }
-    requires eligible { AreEligible machines.now need.now among.now }
-    ensures written { OnOk result (WritesReply machines.now local.now need.now (W.contents output.old.device) (W.contents output.new.device)) }
-    ensures partly { OnErr result (WritesReplyPart machines.now local.now need.now (W.contents output.old.device) (W.contents output.new.device)) }
-    ensures mark { output.new.is_marked ≡ (output.old.is_marked || is_err result) }
+    requires kinds { AreKinds machines.now local.now needs.now kinds.now }
+    requires number { number < length needs.now }
+    requires sized { length replies.old.items ≡ length kinds.now.kinds }
+    requires replied { HaveReplied machines.now local.now needs.now kinds.now replies.old.items }
+    ensures reply { IsReplyAt machines.now local.now needs.now number result }
+    ensures sized { length replies.new.items ≡ length replies.old.items }
+    ensures replied { HaveReplied machines.now local.now needs.now kinds.now replies.new.items }
 {
-    let free_here = is_free_here(local, need);
-    let answer = reply_in(machines, among, loads, up, free_here);
-    write_reply(&answer, machines, output)
+    // For the proof: there is a derivation with this number, and it has this need.
+    let _need = &needs[number];
+    let of = kinds.numbers()[number];
+    if let Some(reply) = replies[of] {
+        return reply;
+    }
+    let kind = kinds.kind(of);
+    let reply = reply_about_kind(machines, local, loads, up, kind);
+    replies[of] = Some(reply);
+    reply
 }
 
-/// Whether a derivation with this need may be built here, on a slot that is free as long as the
-/// park is idle.
-fn is_free_here(local: &Local, need: &Need) -> bool
-    ensures { IsTrue result ↔ IsFreeHere local.now need.now }
+/// The reply about the derivations of a kind, where no slot is taken and every machine is up.
+fn reply_about_kind(
+    machines: &[Machine],
+    local: &Local,
+    loads: &[u32],
+    up: &[bool],
+    kind: &Kind,
+) -> Reply
+    requires loads { loads.now ≡ idle machines.now }
+    requires up { up.now ≡ all_up machines.now }
+    requires rising { IsStrictlyIncreasing kind.now.places }
+    requires ranged { All (λ p. p < length machines.now) kind.now.places }
+    ensures { IsKindReply machines.now local.now kind.now result }
+{
+    let free_here = is_free_for(local, kind);
+    reply_in(machines, kind.places.as_slice(), loads, up, free_here)
+}
+
+/// Whether derivations of this kind may be built here, on a slot that is free as long as the park is idle.
+fn is_free_for(local: &Local, kind: &Kind) -> bool
+    ensures { IsTrue result ↔ IsFreeForKind local.now kind.now }
 {
     if local.jobs() == 0 {
         return false;
     }
-    local_ok(local, need)
+    kind.local
 }

@@ -5,6 +5,7 @@ use Rattle.std.proofs.Math.ListN.{set, length-set}
 use Rattle.std.proofs.lemmas.Bool.{cases_eq, cases_lt}
 use Rattle.std.proofs.lemmas.List.{get_or-set_same, get_or-set_other, get_or_append_left, get_or_push, length-append}
 use Rattle.std.proofs.lemmas.List.Elements.{Contains-append_left, Contains-push, Contains-push_cases, Contains-get_or, All-contains, All-from_get_or, All-get_or}
+use Rattle.std.proofs.lemmas.Option.{slice_get_within}
 use Rattle.nd_machines.specs.Builders.{Builder}
 use Rattle.nd_eligible.specs.declared.need.Need.{Need}
 use Rattle.nd_eligible.specs.Settings.{Settings}
@@ -270,3 +271,19 @@ places_within machines home need kind park is fits =
     let at = (fits.eligible.exact (get_or kind.places k 0)).0 (Contains-get_or kind.places k 0 lt) in
     let within = eligible_within machines need (get_or kind.places k 0) at in
     omega (arith, within, is))
+
+-- ---- the kind of a derivation
+
+-- the kind that a derivation has is as its need wants it
+pub kind_suits : (machines : List Builder) (local : Settings) (needs : List Need) (k : Kinded) (d : ℕ) (need : Need) (kind : Kind) → AreKinds machines local needs k → slice_get needs d ≡ Some need
+    → slice_get k.kinds (number_of k d) ≡ Some kind → IsKindOf machines local need kind
+kind_suits machines local needs k d need kind are is_need at =
+    let has = are.kinds.each d need (slice_get_within needs d need is_need) is_need in
+    let at_has = has.at in
+    let one : has.kind ≡ kind = cc in
+    subst (λ (some : Kind). IsKindOf machines local need some) one has.fits
+
+-- .. and its machines are in the list
+pub kind_ranged : (machines : List Builder) (local : Settings) (need : Need) (kind : Kind) → IsKindOf machines local need kind → All (λ p. p < length machines) kind.places
+kind_ranged machines local need kind fits =
+    All-from_get_or (λ (p : ℕ). p < length machines) kind.places 0 (λ k lt. eligible_within machines need (get_or kind.places k 0) ((fits.eligible.exact (get_or kind.places k 0)).0 (Contains-get_or kind.places k 0 lt)))

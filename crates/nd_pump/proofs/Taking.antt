@@ -170,15 +170,6 @@ kind_fits i past p t d need kind was lt needs at =
     let one : has.kind ≡ kind = cc in
     subst (λ (k : Kind). IsKindOf i.machines i.local need k) one has.fits
 
--- .. where the kinds are those of the needs
-pub kind_suits : (i : Premises) (k : Kinded) (d : ℕ) (need : Need) (kind : Kind) → AreKinds i.machines i.local i.graph.needs k → slice_get i.graph.needs d ≡ Some need → slice_get k.kinds (number_of k d) ≡ Some kind
-    → IsKindOf i.machines i.local need kind
-kind_suits i k d need kind are needs at =
-    let has = are.kinds.each d need (slice_get_within i.graph.needs d need needs) needs in
-    let at_has = has.at in
-    let one : has.kind ≡ kind = cc in
-    subst (λ (k : Kind). IsKindOf i.machines i.local need k) one has.fits
-
 pub kind_ranged : (i : Premises) (need : Need) (kind : Kind) → IsKindOf i.machines i.local need kind → All (λ p. p < length i.machines) kind.places
 kind_ranged i need kind fits =
     All-from_get_or (λ (p : ℕ). p < length i.machines) kind.places 0 (λ k lt. eligible_within i.machines need (get_or kind.places k 0) ((fits.eligible.exact (get_or kind.places k 0)).0 (Contains-get_or kind.places k 0 lt)))
