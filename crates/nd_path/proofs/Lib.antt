@@ -3,3 +3,4 @@ pub mod Digits
 pub mod Parts
 pub mod Spelling
 pub mod Rising
+pub mod Fronts

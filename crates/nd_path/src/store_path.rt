@@ -1,6 +1,6 @@
 //! A store path.
 
-ghost use Rattle.std.specs.Prelude.{true, ◌&&◌, ◌∷◌, ◌++◌, ◌≡◌, ℕ, List, Option, None, IfOk, IfErr, is_none};
+ghost use Rattle.std.specs.Prelude.{true, ◌≤◌, length, ◌&&◌, ◌∷◌, ◌++◌, ◌≡◌, ℕ, List, Option, None, IfOk, IfErr, is_none};
 ghost use Rattle.std.proofs.Common.{rules};
 ghost use Rattle.std.specs.Cmp as Cmp;
 ghost use Rattle.std.specs.Cmp.Lexicographic.{nat_list_eq_equiv, nat_list_cmp_total, texts_ties, texts_po};
@@ -10,6 +10,7 @@ ghost use Rattle.std.specs.List.{list_all};
 ghost use Rattle.nd_path.specs.declared.path_error.PathError.{PathError};
 ghost use Rattle.nd_path.specs.Refusals.{fault_of, fault_behind_directory, IsPath, IsSpelled, IsRefused};
 ghost use Rattle.nd_path.specs.SamePaths.{paths_alike};
+ghost use Rattle.nd_path.specs.Fronts.{base_of, IsFrontOf};
 
 use crate::path_error::PathError;
 use std::alloc::{AllocError, Global};
@@ -20,6 +21,9 @@ use std::sync::ArcSlice;
 
 /// The number of characters of a digest in base 32.
 const DIGEST_LENGTH: usize = 32;
+
+/// The number of characters of the store directory and its slash.
+const DIRECTORY_LENGTH: usize = 11;
 
 /// Where the name begins: behind the store directory, the digest and the dash.
 const NAME_START: usize = 44;
@@ -120,6 +124,18 @@ impl StorePath {
         self.bytes.as_slice()
     }
 
+    /// What stands behind the store directory, with which every store path begins: the digest, the
+    /// dash and the name. Two paths are told apart by these bytes alone.
+    #[tactic(auto, using(crate::specs::Lengths::path_long))]
+    fn behind_directory(&self) -> &[u8]
+        ensures whole { self.now ≡ store_directory ++ result.now }
+        ensures value { result.now ≡ base_of self.now }
+        ensures long { 33 ≤ length result.now }
+    {
+        let (_, base) = self.bytes.as_slice().split_at(DIRECTORY_LENGTH);
+        base
+    }
+
     /// The name: 1 to 211 bytes behind the digest and its dash.
     #[tactic(auto, using(crate::specs::Lengths::path_long))]
     pub fn name(&self) -> &[u8]
@@ -162,7 +178,7 @@ impl PartialEq for StorePath {
     ghost laws = { Cmp.partial_equiv_from_equiv nat_list_eq_equiv };
 
     fn eq(&self, other: &StorePath) -> bool {
-        self.bytes() == other.bytes()
+        self.behind_directory() == other.behind_directory()
     }
 }
 
@@ -190,7 +206,7 @@ impl Ord for StorePath {
     ghost matches_eq = { texts_ties };
 
     fn cmp(&self, other: &StorePath) -> Ordering {
-        self.bytes().cmp(other.bytes())
+        order(self.behind_directory(), other.behind_directory())
     }
 }
 
@@ -202,6 +218,30 @@ impl Hash for StorePath {
     fn hash<H: Hasher>(&self, state: &mut H) {
         state.write(self.bytes());
     }
+}
+
+/// The order of what stands behind the store directory of two paths. The digests' first eight
+/// characters, as one number each, mostly tell it.
+fn order(base: &[u8], other: &[u8]) -> Ordering
+    requires one { 8 ≤ length base.now }
+    requires two { 8 ≤ length other.now }
+    ensures { result ≡ path_cmp base.now other.now }
+{
+    match front_number(base).cmp(&front_number(other)) {
+        Ordering::Equal => base.cmp(other),
+        unequal => unequal,
+    }
+}
+
+/// The first eight bytes as a number, the first byte the highest: these numbers stand in the order
+/// of the bytes.
+fn front_number(bytes: &[u8]) -> u64
+    requires { 8 ≤ length bytes.now }
+    ensures { IsFrontOf bytes.now result }
+{
+    u64::from_be_bytes([
+        bytes[0], bytes[1], bytes[2], bytes[3], bytes[4], bytes[5], bytes[6], bytes[7],
+    ])
 }
 
 /// Whether the bytes are a store path. It takes no memory.
