@@ -1,9 +1,8 @@
 -- Lemmas on the spelling of strings.
-use Rattle.std.proofs.Common.{◌≡◌, ◌≤◌, ℕ, zero, suc, true, List, [], ◌∷◌, ◌++◌, length, take, get_or, None, refl, sym, ap, ◌∙◌, append_assoc, arith}
+use Rattle.std.proofs.Common.{◌≡◌, ◌≤◌, ℕ, zero, suc, List, [], ◌∷◌, ◌++◌, length, take, get_or, None, ◌+◌, ◌-◌, refl, sym, ap, subst, ⊎_elim, ◌∙◌, append_assoc, arith}
 use Rattle.std.proofs.Math.Seq.{take-suc}
-use Rattle.std.proofs.lemmas.Grind.{common_steps}
-use Rattle.std.proofs.lemmas.List.{get_or-take}
-use Rattle.memchr.specs.Find.{Nowhere, Passes, is_byte2, is_byte3}
+use Rattle.std.proofs.lemmas.Bool.{cases_lt}
+use Rattle.nd_aterm.specs.PlainBytes.{ArePlainFrom, ArePlainTo}
 use Rattle.nd_aterm.specs.Spelling.{quote, letter_of, spelled, character, characters, IsPlain}
 use Rattle.nd_aterm.specs.SpellingOnce.{character_once, character_quote}
 
@@ -44,15 +43,16 @@ written_plain out new bytes plain after is split as_is rest =
     ∙ ap (λ t. out ++ t) (sym (characters-append plain after rest ∙ as_is (characters after rest)))
     ∙ ap (λ t. out ++ characters t rest) (sym split)
 
--- a byte that is none of these five is spelled as it is
-letterless : (c : ℕ) → (is_byte3 34 92 10 c ≡ true → ⊥) → (is_byte2 13 9 c ≡ true → ⊥) → letter_of c ≡ None
-letterless c no_three no_two = grind (arith, common_steps)
+-- bytes in front that have no escape are spelled as they are
+pub plain_to : (bytes : List ℕ) (n : ℕ) → n ≤ length bytes → ArePlainTo bytes n → IsPlain (take n bytes)
+plain_to bytes zero within plain = λ rest. refl
+plain_to bytes (suc n) within plain =
+    rw (take-suc bytes n 0 (omega arith))
+    (IsPlain-push (take n bytes) (get_or bytes n 0) (plain_to bytes n (omega arith) (λ k low. plain k (omega arith))) (plain n (omega arith)))
 
--- bytes in front that two searches find none of the five in are spelled as they are
-pub plain_to : (bytes : List ℕ) (n : ℕ) → n ≤ length bytes → Nowhere (Passes (is_byte3 34 92 10) bytes) 0 n
-    → (m : ℕ) → m ≤ n → Nowhere (Passes (is_byte2 13 9) (take n bytes)) 0 m → IsPlain (take m bytes)
-plain_to bytes n within no_three zero low no_two = λ rest. refl
-plain_to bytes n within no_three (suc m) low no_two =
-    let none : letter_of (get_or bytes m 0) ≡ None =
-    letterless (get_or bytes m 0) (no_three m (omega arith) (omega arith)) (λ two. no_two m (omega arith) (omega arith) (ap (is_byte2 13 9) (get_or-take n bytes m 0 (omega arith)) ∙ two)) in
-    rw (take-suc bytes m 0 (omega arith)) (IsPlain-push (take m bytes) (get_or bytes m 0) (plain_to bytes n within no_three m (omega arith) (λ k low high. no_two k low (omega arith))) none)
+-- bytes without an escape, behind others
+pub plain_on : (bytes : List ℕ) (place n : ℕ) → ArePlainTo bytes place → ArePlainFrom bytes place n → ArePlainTo bytes (place + n)
+plain_on bytes place n before after k low =
+    ⊎_elim (λ early. before k early)
+    (λ late. let same : place + (k - place) ≡ k = omega arith in subst (λ (j : ℕ). letter_of (get_or bytes j 0) ≡ None) same (after (k - place) (omega arith)))
+    (cases_lt k place)

@@ -1,4 +1,5 @@
 pub mod Spelling
+pub mod PlainBytes
 pub mod SpellingOnce
 pub mod Derivations
 pub mod DerivationsOnce

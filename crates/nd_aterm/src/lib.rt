@@ -12,6 +12,7 @@ mod leaf;
 mod lists;
 mod orders;
 mod part;
+mod plain;
 mod record_texts;
 mod records;
 mod strings;

@@ -1,7 +1,6 @@
 //! Quoted strings.
 
 ghost use Rattle.std.specs.Prelude.{◌≡◌, ℕ, ◌≤◌, ◌<◌, List, ◌∷◌, ◌++◌, length, IfOk, IfErr, OnOk, IfSome, MatchOption};
-ghost use Rattle.memchr.specs.Find.{Nowhere, Passes, is_byte2, is_byte3};
 ghost use Rattle.nd_aterm.specs.Refusals.{Refuses};
 ghost use Rattle.nd_aterm.specs.Spelling.{quote, letter_of, character, characters, IsPlain, string};
 ghost use Rattle.nd_aterm.specs.SpellingOnce.{string_once, string_opens};
@@ -9,12 +8,12 @@ ghost use Rattle.nd_aterm.specs.SpellingOnce.{string_once, string_opens};
 use crate::fault::AtermError;
 use crate::leaf::Leaf;
 use crate::part::{Part, Written, expect, strip};
-use memchr::{memchr2, memchr3};
+use crate::plain::plain_length;
 use nd_bytes::ByteString;
 use std::alloc::{AllocError, Global};
 
 /// What stands behind the backslash of a byte that is escaped.
-fn letter(byte: u8) -> Option<u8>
+pub(crate) fn letter(byte: u8) -> Option<u8>
     ensures { result ≡ letter_of byte }
 {
     match byte {
@@ -53,39 +52,16 @@ fn character_at(bytes: &[u8]) -> Option<(u8, &[u8])>
     }
 }
 
-/// How many bytes in front are no quote, no backslash and no newline.
-fn before_three(bytes: &[u8]) -> usize
-    ensures within { result ≤ length bytes.now }
-    ensures none { Nowhere (Passes (is_byte3 34 92 10) bytes.now) 0 result }
-{
-    match memchr3(b'"', b'\\', b'\n', bytes) {
-        Some(place) => place,
-        None => bytes.len(),
-    }
-}
-
-/// How many bytes in front are no return and no tab.
-fn before_two(bytes: &[u8]) -> usize
-    ensures within { result ≤ length bytes.now }
-    ensures none { Nowhere (Passes (is_byte2 13 9) bytes.now) 0 result }
-{
-    match memchr2(b'\r', b'\t', bytes) {
-        Some(place) => place,
-        None => bytes.len(),
-    }
-}
-
-/// The bytes in front that a string spells as they are, and what stands behind them. They are found
-/// by two searches, which look at many bytes at once.
+/// The bytes in front that a string spells as they are, and what stands behind them.
 fn plain_at(bytes: &[u8]) -> (&[u8], &[u8])
     ensures split { bytes.now ≡ result.0.now ++ result.1.now }
     ensures plain { IsPlain result.0.now }
 {
-    let (front, _) = bytes.split_at(before_three(bytes));
-    bytes.split_at(before_two(front))
+    bytes.split_at(plain_length(bytes))
 }
 
 /// The bytes of a string up to its closing quote, and what stands behind that.
+#[inline(never)]
 fn characters_at(alloc: Global, bytes: &[u8]) -> Result<(Vec<u8>, &[u8]), AtermError>
     ensures found { IfOk result (λ x. bytes.now ≡ characters x.0.items (quote ∷ x.1.now)) }
     ensures shorter { IfOk result (λ x. length x.1.now ≤ length bytes.now) }

@@ -1,0 +1,22 @@
+use Rattle.std.proofs.Common.{◌-◌, ◌≤◌, length}
+use Rattle.nd_aterm.specs.PlainBytes.{ArePlainTo}
+use Rattle.nd_aterm.proofs.plain.plain_length.Given as goal
+
+-- none of the bytes that were passed has an escape
+abbrev pub invariant-loop-place : goal.invariant-loop-place
+invariant-loop-place l = record {
+  within : l.place ≤ length l.bytes;
+  plain : ArePlainTo l.bytes l.place;
+}
+
+abbrev pub decreases-loop-place : goal.decreases-loop-place
+decreases-loop-place l = length l.bytes - l.place
+
+abbrev pub invariant-loop-place-2 : goal.invariant-loop-place-2
+invariant-loop-place-2 l = record {
+  within : l.place ≤ length l.bytes;
+  plain : ArePlainTo l.bytes l.place;
+}
+
+abbrev pub decreases-loop-place-2 : goal.decreases-loop-place-2
+decreases-loop-place-2 l = length l.bytes - l.place
