@@ -23,8 +23,7 @@ fn listed_at<'t, T: Part<'t>>(
     ensures none { IfErr result (λ e. Refuses e ((xs : List T) (rest : List ℕ)
         → T.text first bytes.now ≡ listed T.text xs (right_bracket ∷ rest) → ⊥)) }
 {
-    // Most lists are of one item: an input derivation's, say, of the outputs that are needed.
-    let mut items = Vec::with_capacity(alloc, 1)?;
+    let mut items = Vec::with_capacity(alloc, T::ROOM)?;
     items.push(first)?;
     let mut rest = bytes;
     while let Some(after) = strip(rest, b',') {
@@ -62,6 +61,8 @@ fn put_listed<T: Written>(items: &[T], out: &mut Vec<u8>) -> Result<(), AllocErr
 
 impl<'t, T: Part<'t>> Part<'t> for Items<T> {
     ghost text = { list T.text };
+
+    const ROOM: usize = 1;
 
     #[tactic(auto, unfolding(crate::specs::Spelling::list))]
     fn read(alloc: Global, bytes: &'t [u8]) -> Result<(Self, &'t [u8]), AtermError> {

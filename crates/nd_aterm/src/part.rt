@@ -16,6 +16,9 @@ pub trait Part<'t>: Drop {
     // No part begins as the end of a list does, with `]`.
     ghost opens: { (x : Self) (r s : List ℕ) → text x r ≡ 93 ∷ s → ⊥ };
 
+    /// For how many parts room is made where the first of a list is found.
+    const ROOM: usize;
+
     /// Reads a part from the front, and gives it with what stands behind it. It is refused as
     /// `NotDerivation` where the bytes don't begin with the text of such a part.
     fn read(alloc: Global, bytes: &'t [u8]) -> Result<(Self, &'t [u8]), AtermError>

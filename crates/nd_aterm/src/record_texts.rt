@@ -13,6 +13,9 @@ use std::alloc::{AllocError, Global};
 impl<'t> Part<'t> for OutputView<'t> {
     ghost text = { output };
 
+    // Most derivations have one output.
+    const ROOM: usize = 1;
+
     #[tactic(auto, using(crate::specs::SpellingOnce::string_once), unfolding(crate::specs::Derivations::output))]
     fn read(alloc: Global, bytes: &'t [u8]) -> Result<(Self, &'t [u8]), AtermError> {
         let rest = expect(bytes, b'(')?;
@@ -49,6 +52,8 @@ impl Written for Output {
 impl<'t> Part<'t> for InputDrvView<'t> {
     ghost text = { input_drv };
 
+    const ROOM: usize = 8;
+
     #[tactic(auto, unfolding(crate::specs::Derivations::input_drv))]
     fn read(alloc: Global, bytes: &'t [u8]) -> Result<(Self, &'t [u8]), AtermError> {
         let rest = expect(bytes, b'(')?;
@@ -75,6 +80,9 @@ impl Written for InputDrv {
 
 impl<'t> Part<'t> for EnvEntryView<'t> {
     ghost text = { env_entry };
+
+    // Few derivations have fewer than ten variables.
+    const ROOM: usize = 16;
 
     #[tactic(auto, unfolding(crate::specs::Derivations::env_entry))]
     fn read(alloc: Global, bytes: &'t [u8]) -> Result<(Self, &'t [u8]), AtermError> {

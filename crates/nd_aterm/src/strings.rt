@@ -130,6 +130,9 @@ fn leaf_at(alloc: Global, bytes: &[u8]) -> Result<(Leaf<'_>, &[u8]), AtermError>
 impl<'t> Part<'t> for Leaf<'t> {
     ghost text = { string };
 
+    // Of most input derivations one output is needed.
+    const ROOM: usize = 1;
+
     #[tactic(auto, unfolding(crate::specs::Spelling::string))]
     fn read(alloc: Global, bytes: &'t [u8]) -> Result<(Self, &'t [u8]), AtermError> {
         let rest = expect(bytes, b'"')?;
