@@ -8,8 +8,9 @@ use std::marker::Model;
 
 /// A set of the numbers below a length that is fixed when it is made, seen by contracts as that many flags.
 ///
-/// It is made of three layers, each of which has one flag for 64 of the layer below. So for n numbers a member is put in, taken
-/// out and found in about 64 + 64 + n / 4096 steps, and only `new` and `try_clone` take memory.
+/// It is made of three layers of flags, which are bits of words, each of which has one flag for a word of the layer below. So for
+/// n numbers a member is put in and taken out with three words, and found with four and the n / 262144 words of the last layer.
+/// Only `new` and `try_clone` take memory.
 ///
 /// For sets by groups of nodes, number the nodes so that each group stands together, by group and then by node, and keep one
 /// set of these numbers: the first member from a group's first number on, where it lies in the group, is the group's least node.
