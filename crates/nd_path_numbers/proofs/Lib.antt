@@ -1,3 +1,4 @@
 pub mod Holding
 pub mod Growing
 pub mod Searched
+pub mod Marking

@@ -1,3 +1,4 @@
 pub mod Numbers
 pub mod Held
+pub mod Marks
 pub mod Searches

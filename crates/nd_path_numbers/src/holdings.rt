@@ -4,24 +4,31 @@ ghost use Rattle.std.specs.Prelude.{◌≡◌, ℕ, ◌+◌, ◌<◌, ◌≤◌,
 ghost use Rattle.std.specs.List.{Contains};
 ghost use Rattle.nd_path_numbers.specs.Held.{is_among, hold_of, KeepsOthers, HoldTheSame};
 
-use indexmap::IndexSet;
+use crate::marks::Marks;
 use std::alloc::{AllocError, Global};
 use std::marker::Model;
 
 /// The numbers of the paths that one machine holds. Contracts see the list of them in the order in which
 /// they came, each once, and beside it the reserved room, of which "equal" and "as before" do not speak.
+///
+/// Whether a number is held is told by its flag. Numbers past the flags may be held too, and then one that
+/// has no flag is looked for in the list: whoever knows how far the numbers go says so when room is reserved.
 #[derive(Debug, Drop)]
 pub struct Held {
-    numbers: IndexSet<usize>,
+    numbers: Vec<usize>,
+    marks: Marks,
 }
 
 impl Model for Held {
-    ghost use Rattle.indexmap.specs.IndexSet.{spare};
+    ghost use Rattle.std.specs.Prelude.{◌-◌, vec_len, vec_capacity};
     ghost use Rattle.nd_path_numbers.specs.Held.{Hold};
+    ghost use Rattle.nd_path_numbers.specs.Marks.{AreMarked};
 
     ghost Value = { Hold };
 
-    ghost view = { λ h. record { numbers = h.numbers.keys; spare = spare h.numbers } };
+    ghost view = { λ h. record { numbers = h.numbers.items; spare = vec_capacity h.numbers - vec_len h.numbers } };
+
+    ghost invariant = { λ h. AreMarked h.numbers.items h.marks };
 }
 
 impl Held {
@@ -30,7 +37,8 @@ impl Held {
         ensures { result.numbers ≡ [] }
     {
         Held {
-            numbers: IndexSet::new(alloc),
+            numbers: Vec::new(alloc),
+            marks: Marks::new(alloc),
         }
     }
 
@@ -38,7 +46,10 @@ impl Held {
     pub fn contains(&self, number: usize) -> bool
         ensures { IsTrue result ↔ Contains self.now.numbers number }
     {
-        self.numbers.contains(&number)
+        match self.marks.tell(number) {
+            Some(held) => held,
+            None => self.numbers.as_slice().contains(&number),
+        }
     }
 
     fn reserve(&mut self, n: usize) -> Result<(), AllocError>
@@ -48,6 +59,19 @@ impl Held {
         self.numbers.reserve(n)
     }
 
+    /// Makes sure that each number below the limit has a flag. The flags at least double, so that over many
+    /// calls the list is walked through as often as it has members, and no more.
+    fn flag_below(&mut self, alloc: Global, limit: usize) -> Result<(), AllocError>
+        ensures { self.new ≡ self.old }
+    {
+        let flagged = self.marks.limit();
+        if flagged < limit {
+            let limit = limit.max(flagged.saturating_mul(2));
+            self.marks = Marks::of(alloc, self.numbers.as_slice(), limit)?;
+        }
+        Ok(())
+    }
+
     fn add(&mut self, number: usize) -> Result<bool, AllocError>
         ensures added { IfOk result (λ added. added ≡ not (is_among self.old.numbers number)) }
         ensures numbers { IfOk result (λ added. self.new.numbers ≡ (if added then self.old.numbers ++ number ∷ [] else self.old.numbers)) }
@@ -55,7 +79,12 @@ impl Held {
         ensures succeeds { 0 < self.old.spare → IsOk result }
         ensures room { self.old.spare ≤ self.new.spare + 1 }
     {
-        Ok(self.numbers.insert(number)?)
+        if self.contains(number) {
+            return Ok(false);
+        }
+        self.numbers.push(number)?;
+        self.marks.note(number);
+        Ok(true)
     }
 }
 
@@ -65,6 +94,7 @@ impl Clone for Held {
     fn clone(&self) -> Result<Held, AllocError> {
         Ok(Held {
             numbers: self.numbers.clone()?,
+            marks: self.marks.try_clone()?,
         })
     }
 }
@@ -106,6 +136,26 @@ impl Holdings {
         ensures others { KeepsOthers self.old self.new m }
     {
         self.machines[m].reserve(n)
+    }
+
+    /// The same where it is known that the numbers to come are below a limit: each number below it gets a flag,
+    /// so that whether it is held is one look-up. Where no path is to come, no memory is taken.
+    pub fn reserve_below(
+        &mut self,
+        alloc: Global,
+        m: usize,
+        n: usize,
+        limit: usize,
+    ) -> Result<(), AllocError>
+        requires { m < length self.old }
+        ensures room { OnOk result (n ≤ (hold_of self.new m).spare) }
+        ensures kept { (hold_of self.new m).numbers ≡ (hold_of self.old m).numbers }
+        ensures others { KeepsOthers self.old self.new m }
+    {
+        if n > 0 {
+            self.machines[m].flag_below(alloc, limit)?;
+        }
+        self.reserve(m, n)
     }
 
     /// Adds a path to those that machine `m` holds, and says whether it was new there. Within reserved

@@ -2,6 +2,7 @@
 #![tactic(auto)]
 
 mod holdings;
+mod marks;
 mod path_numbers;
 mod searching;
 

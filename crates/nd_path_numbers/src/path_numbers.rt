@@ -40,6 +40,13 @@ impl PathNumbers {
         }
     }
 
+    /// How many paths are known: each number is below it. It takes no memory.
+    pub fn len(&self) -> usize
+        ensures { result ≡ length self.now.paths }
+    {
+        self.paths.len()
+    }
+
     /// The number of a path: its own, or the next one where it was not known. Its row is empty then.
     /// No other path becomes known. Refuses only where an allocation is refused.
     pub fn know(&mut self, alloc: Global, path: &StorePath) -> Result<usize, AllocError>

@@ -10,7 +10,7 @@ use Rattle.nd_path_numbers.proofs.Growing.{known_stay, names_stay, grown_through
 use Rattle.nd_history.specs.Premises.{Premises}
 use Rattle.nd_history.specs.References.{outputs_of}
 use Rattle.nd_provision.specs.declared.copying.Additions.{Additions}
-use Rattle.nd_provision.specs.Stored.{Stored, paths_on, IsSameStored, AreNeededIn, IsSeedRow, AreSeedsIn, AreRefsHeld, IsProvided, Fits, IsNumberedBuild, HasRoomFor, AreBuiltAdditions, entry_of}
+use Rattle.nd_provision.specs.Stored.{Stored, IsSameStored, AreNeededIn, IsSeedRow, AreSeedsIn, AreRefsHeld, IsProvided, Fits, IsNumberedBuild, HasRoomFor, AreBuiltAdditions, entry_of}
 
 -- ---- seeds
 

@@ -73,7 +73,7 @@ impl Stores {
         table.reserve(entries.len())?;
         enter_all(&mut table, &mut numbers, entries);
         let mut holdings = Holdings::new(alloc, builders + 1)?;
-        holdings.reserve(0, own.len())?;
+        holdings.reserve_below(alloc, 0, own.len(), numbers.len())?;
         put_all(&mut holdings, 0, own.as_slice());
         Ok(Stores {
             table,
@@ -261,7 +261,8 @@ impl Stores {
         ensures additions { IfOk result (AreStartAdditions self.new m paths.now) }
     {
         let brought = numbers_for(alloc, &mut self.numbers, m, paths.as_slice())?;
-        self.holdings.reserve(m, brought.len())?;
+        let known = self.numbers.len();
+        self.holdings.reserve_below(alloc, m, brought.len(), known)?;
         Ok(Additions {
             machine: m,
             entries: Vec::new(alloc),
@@ -295,12 +296,12 @@ impl Stores {
             additions.own.as_slice(),
             additions.entries.as_slice(),
         );
-        self.make_room(&additions)?;
+        self.make_room(alloc, &additions)?;
         Ok(additions)
     }
 
     /// Makes room for these additions, and changes nothing.
-    fn make_room(&mut self, additions: &Additions) -> Result<(), AllocError>
+    fn make_room(&mut self, alloc: Global, additions: &Additions) -> Result<(), AllocError>
         requires machine { additions.now.machine < length self.old.stocks }
         requires alone { additions.now.machine ≡ 0 → length additions.now.brought.items ≡ 0 }
         ensures same { IsSameStored self.old self.new }
@@ -308,9 +309,11 @@ impl Stores {
         ensures room { OnOk result (HasRoomFor self.new additions.now) }
     {
         self.table.reserve(additions.entries.len())?;
+        let known = self.numbers.len();
         self.holdings
-            .reserve(additions.machine, additions.brought.len())?;
-        self.holdings.reserve(0, additions.own.len())?;
+            .reserve_below(alloc, additions.machine, additions.brought.len(), known)?;
+        self.holdings
+            .reserve_below(alloc, 0, additions.own.len(), known)?;
         Ok(())
     }
 

@@ -33,11 +33,11 @@ returns c =
     let told : AreNumbered [] before = first_numbers c.new-numbers.result before c.new-numbers.ensures.paths c.new-numbers.ensures.rows
     (grown_through c.new-numbers.result c.seeds_by_number.new.numbers before c.in_ok-seeds.ensures.grown c.in_ok-entries.ensures.grown) in
     let seeds : AreSeedsIn c.args.graph.now before.paths rows = seeds_stay c.args.graph.now c.seeds_by_number.new.numbers before rows c.in_ok-entries.ensures.grown c.in_ok-seeds.ensures.seeds in
-    let holds : List Hold = c.reserve-2.new.self in
-    let park : length holds ≡ c.args.builders + 1 = c.in_ok-reserve-2.ensures.others.size ∙ c.in_ok-holdings.ensures.machines in
+    let holds : List Hold = c.reserve_below.new.self in
+    let park : length holds ≡ c.args.builders + 1 = c.in_ok-reserve_below.ensures.others.size ∙ c.in_ok-holdings.ensures.machines in
     let none : (m : ℕ) → (hold_of holds m).numbers ≡ [] = λ m. elim (cases_eq m 0) [
-      | inl same ↦ subst (λ (k : ℕ). (hold_of holds k).numbers ≡ []) (sym same) (c.in_ok-reserve-2.ensures.kept ∙ c.in_ok-holdings.ensures.empty 0)
-      | inr other ↦ ap (λ (h : Hold). h.numbers) (c.in_ok-reserve-2.ensures.others.others m other) ∙ c.in_ok-holdings.ensures.empty m
+      | inl same ↦ subst (λ (k : ℕ). (hold_of holds k).numbers ≡ []) (sym same) (c.in_ok-reserve_below.ensures.kept ∙ c.in_ok-holdings.ensures.empty 0)
+      | inr other ↦ ap (λ (h : Hold). h.numbers) (c.in_ok-reserve_below.ensures.others.others m other) ∙ c.in_ok-holdings.ensures.empty m
     ] in
     let gained : HasGained holds s.stocks 0 own = subst (λ (xs : List ℕ). HasGained holds s.stocks 0 xs) c.as_slice-3.ensures.value c.put_all.ensures in
     record {
