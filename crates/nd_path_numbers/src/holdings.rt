@@ -1,12 +1,15 @@
 //! The paths that machines hold, by number.
 
-ghost use Rattle.std.specs.Prelude.{◌≡◌, ℕ, ◌+◌, ◌<◌, ◌≤◌, ◌∷◌, ◌++◌, [], length, not, if◌then◌else◌, IfOk, OnOk, OnErr, IsOk, IsTrue, ◌↔◌};
+ghost use Rattle.std.specs.Prelude.{◌≡◌, ℕ, ◌+◌, ◌<◌, ◌≤◌, ◌∷◌, ◌++◌, [], length, not, if◌then◌else◌, IfOk, OnOk, OnErr, IsOk, IsTrue, ◌↔◌, MatchOption, slice_index_or};
 ghost use Rattle.std.specs.List.{Contains};
 ghost use Rattle.nd_path_numbers.specs.Held.{is_among, hold_of, KeepsOthers, HoldTheSame};
 
 use crate::marks::Marks;
 use std::alloc::{AllocError, Global};
 use std::marker::Model;
+
+/// Among as many numbers one is looked for without flags.
+const FEW: usize = 64;
 
 /// The numbers of the paths that one machine holds. Contracts see the list of them in the order in which
 /// they came, each once, and beside it the reserved room, of which "equal" and "as before" do not speak.
@@ -85,6 +88,49 @@ impl Held {
         self.numbers.push(number)?;
         self.marks.note(number);
         Ok(true)
+    }
+}
+
+/// What a search finds is kept in the same way.
+impl Held {
+    /// Adds a number below the limit, where it isn't among them. While there are few, none has a flag.
+    pub(crate) fn find(
+        &mut self,
+        alloc: Global,
+        number: usize,
+        limit: usize,
+    ) -> Result<(), AllocError>
+        ensures { OnOk result (self.new.numbers ≡ (if is_among self.old.numbers number then self.old.numbers else self.old.numbers ++ number ∷ [])) }
+    {
+        if self.numbers.len() >= FEW {
+            self.flag_below(alloc, limit)?;
+        }
+        self.add(number)?;
+        Ok(())
+    }
+
+    /// How many there are.
+    pub(crate) fn len(&self) -> usize
+        ensures { result ≡ length self.now.numbers }
+    {
+        self.numbers.len()
+    }
+
+    /// The number at a place.
+    pub(crate) fn number(&self, place: usize) -> Option<usize>
+        ensures { MatchOption result (length self.now.numbers ≤ place) (λ n. (place < length self.now.numbers) × (n ≡ slice_index_or self.now.numbers place 0)) }
+    {
+        match self.numbers.get(place) {
+            Some(number) => Some(*number),
+            None => None,
+        }
+    }
+
+    /// The numbers in the order in which they came.
+    pub(crate) fn as_slice(&self) -> &[usize]
+        ensures { result.now ≡ self.now.numbers }
+    {
+        self.numbers.as_slice()
     }
 }
 

@@ -5,7 +5,6 @@ ghost use Rattle.nd_path_numbers.specs.Searches.{IsCovered, AddsUnheld, AreUnhel
 
 use crate::holdings::Held;
 use crate::path_numbers::PathNumbers;
-use indexmap::IndexSet;
 use nd_path::PathSet;
 use std::alloc::{AllocError, Global};
 
@@ -31,34 +30,41 @@ fn search(
     seeds: &[usize],
     numbers: &PathNumbers,
     held: &Held,
-) -> Result<IndexSet<usize>, AllocError>
-    ensures { IfOk result (λ s. AreUnheld numbers.now.rows held.now.numbers seeds.now s.keys) }
+) -> Result<Held, AllocError>
+    ensures { IfOk result (λ s. AreUnheld numbers.now.rows held.now.numbers seeds.now s.numbers) }
 {
-    let mut found: IndexSet<usize> = IndexSet::new(alloc);
-    add_unheld(&mut found, seeds, held)?;
-    // A set has fewer members than the counter has values, so the search ends at the `break`.
+    let known = numbers.len();
+    let mut found = Held::new(alloc);
+    add_unheld(alloc, &mut found, seeds, held, known)?;
+    // A list has fewer members than the counter has values, so the search ends at the `break`.
     for next in 0..usize::MAX {
-        let Some(number) = found.get_index(next) else {
+        let Some(number) = found.number(next) else {
             break;
         };
-        let row = numbers.row(*number);
-        add_unheld(&mut found, row, held)?;
+        let row = numbers.row(number);
+        add_unheld(alloc, &mut found, row, held, known)?;
     }
-    // For the proof: a set's length is small.
+    // For the proof: a list's length is small.
     let _len = found.len();
     Ok(found)
 }
 
-/// Adds each number that is not held, behind those that the set has, where it hasn't got it.
-fn add_unheld(found: &mut IndexSet<usize>, numbers: &[usize], held: &Held) -> Result<(), AllocError>
-    ensures only { OnOk result (AddsUnheld held.now.numbers found.old.keys found.new.keys numbers.now) }
-    ensures all { OnOk result (IsCovered numbers.now held.now.numbers found.new.keys) }
+/// Adds each number that is not held, behind those that were found, where it isn't among them.
+fn add_unheld(
+    alloc: Global,
+    found: &mut Held,
+    numbers: &[usize],
+    held: &Held,
+    known: usize,
+) -> Result<(), AllocError>
+    ensures only { OnOk result (AddsUnheld held.now.numbers found.old.numbers found.new.numbers numbers.now) }
+    ensures all { OnOk result (IsCovered numbers.now held.now.numbers found.new.numbers) }
 {
     for number in numbers {
         if held.contains(*number) {
             continue;
         }
-        found.insert(*number)?;
+        found.find(alloc, *number, known)?;
     }
     Ok(())
 }
