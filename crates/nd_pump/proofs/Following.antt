@@ -1,12 +1,11 @@
 -- The turns follow a history: after one more entry they say of the longer history what they said of the one before.
-use Rattle.std.proofs.Common.{◌≡◌, ◌∙◌, ◌⊎◌, inl, inr, ℕ, zero, suc, ◌+◌, ◌<◌, ◌≤◌, Bool, true, false, List, [], ◌∷◌, Option, None, Some, length, get_or, refl, sym, ap, subst, arith, slice_get}
-use Rattle.std.specs.Prelude.{Contains, MatchOption}
-use Rattle.std.proofs.lemmas.Bool.{cases_eq, false≢true}
+use Rattle.std.proofs.Common.{◌≡◌, ◌∙◌, ◌⊎◌, inl, inr, ℕ, suc, true, false, List, ◌∷◌, Option, None, Some, length, sym, subst, arith, slice_get}
+use Rattle.std.specs.Prelude.{Contains}
+use Rattle.std.proofs.lemmas.Bool.{false≢true}
 use Rattle.nd_failure.specs.Progress.{Progress, IsReady}
 use Rattle.nd_failure.proofs.SpreadFacts.{row_within}
-use Rattle.nd_hook.specs.declared.kinds.Decision.TheVariants.{Wait}
 use Rattle.nd_kinds.specs.declared.kind.Kind.{Kind}
-use Rattle.nd_kinds.specs.Kinds.{Kinded, AreKinds, MayUse, users_of}
+use Rattle.nd_kinds.specs.Kinds.{Kinded, AreKinds, users_of}
 use Rattle.nd_history.specs.declared.entry.Entry.{Entry}
 use Rattle.nd_history.specs.declared.entry.Entry.TheVariants.{Chosen, NoBuilder, Started, Down, Built, Failed, Stop, Drain, Enable}
 use Rattle.nd_history.specs.Premises.{Premises}
@@ -14,9 +13,8 @@ use Rattle.nd_history.specs.Standing.{drvs_in}
 use Rattle.nd_history.specs.Legal.{IsLegal, IsAllowed, IsInRange}
 use Rattle.nd_history.specs.Marks.{AreMarked, board_after}
 use Rattle.nd_history.proofs.Boards.{can_follow}
-use Rattle.nd_pump.specs.Decided.{HasKindDecision}
-use Rattle.nd_pump.specs.Waiting.{IsSteady, IsUnmoved, LiesIn}
-use Rattle.nd_pump.specs.Turned.{Turned, is_parked, IsWhole, AreListed, DoWait, AreTurns, HasTurned, IsNews, touched}
+use Rattle.nd_pump.specs.Waiting.{LiesIn}
+use Rattle.nd_pump.specs.Turned.{Turned, is_parked, IsWhole, AreListed, AreTurns, HasTurned, IsNews, touched}
 use Rattle.nd_pump.proofs.Waiting.{wait_stays}
 use Rattle.nd_pump.proofs.News.{ready_news, IsAboutOne}
 use Rattle.nd_pump.proofs.Steady.{steady_but}

@@ -1,7 +1,6 @@
 -- Derivations that are ready are listed one after another.
 use Rattle.std.proofs.Common.{◌≡◌, ◌∙◌, ℕ, ◌+◌, ◌<◌, ◌≤◌, Bool, true, false, List, length, get_or, refl, sym, ap, subst, inl, inr, ◌⊎◌, Some, None, arith}
 use Rattle.std.proofs.Math.ListN.{set, length-set}
-use Rattle.std.specs.Prelude.{Contains}
 use Rattle.std.proofs.lemmas.Bool.{cases_eq, cases_lt, false≢true}
 use Rattle.std.proofs.lemmas.List.Elements.{All-contains, All-from_get_or}
 use Rattle.nd_failure.specs.Reversed.{AreDependants}
@@ -10,12 +9,11 @@ use Rattle.std.proofs.lemmas.List.{get_or-set_same, get_or-set_other}
 use Rattle.nd_flags.specs.Members.{IsMember}
 use Rattle.nd_failure.specs.Progress.{Progress, IsReady}
 use Rattle.nd_queue.specs.Queues.{Queued}
-use Rattle.nd_graph.specs.Walks.{inputs_of}
 use Rattle.nd_history.specs.declared.entry.Entry.{Entry}
-use Rattle.nd_history.specs.declared.entry.Entry.TheVariants.{Chosen, NoBuilder, Started, Down, Built, Failed, Stop, Drain, Enable}
-use Rattle.nd_kinds.specs.Kinds.{Kinded, users_of}
+use Rattle.nd_history.specs.declared.entry.Entry.TheVariants.{Down, Built}
+use Rattle.nd_kinds.specs.Kinds.{users_of}
 use Rattle.nd_pump.specs.Listing.{IsSized, ListsMore, ListsAlso, ListsTo, ListsEach, ListsAbove, ListsNews, Wakes}
-use Rattle.nd_pump.specs.Turned.{Turned, AreListed, IsNews, HasTurned, is_parked}
+use Rattle.nd_pump.specs.Turned.{Turned, AreListed, HasTurned}
 
 member_set : (row : List Bool) (i k : ℕ) → i < length row → IsMember row k → IsMember (set row i true) k
 member_set row i k within member = elim (cases_eq k i) [

@@ -1,17 +1,17 @@
 -- An entry leaves the machines that it doesn't touch as they are, or takes a slot of them.
-use Rattle.std.proofs.Common.{◌≡◌, ◌∙◌, ◌⊎◌, inl, inr, ℕ, ◌+◌, ◌<◌, ◌≤◌, Bool, true, false, not, ◌&&◌, ◌||◌, ◌==◌, cond, if◌then◌else◌, List, [], ◌∷◌, Option, None, Some, length, count_by, refl, sym, ap, subst, arith}
-use Rattle.std.specs.List.{list_any, filter, find}
+use Rattle.std.proofs.Common.{◌≡◌, ◌∙◌, ℕ, ◌+◌, ◌≤◌, Bool, true, false, ◌&&◌, ◌||◌, ◌==◌, cond, if◌then◌else◌, List, [], ◌∷◌, Some, length, count_by, refl, sym, ap, subst, arith}
+use Rattle.std.specs.List.{list_any, find}
 use Rattle.std.specs.Option.{option_map}
 use Rattle.std.proofs.lemmas.Grind.{common_steps}
-use Rattle.std.proofs.lemmas.Bool.{cases_eq, ne_eqb}
+use Rattle.std.proofs.lemmas.Bool.{ne_eqb}
 use Rattle.nd_leases.specs.declared.ticket.Ticket.{Ticket}
 use Rattle.nd_leases.specs.Tickets.{without}
 use Rattle.nd_history.specs.declared.entry.Entry.{Entry}
 use Rattle.nd_history.specs.declared.entry.Entry.TheVariants.{Chosen, NoBuilder, Started, Down, Built, Failed, Stop, Drain, Enable}
 use Rattle.nd_history.specs.Premises.{Premises}
-use Rattle.nd_history.specs.History.{live, lease_of, is_leased, load, is_up}
+use Rattle.nd_history.specs.History.{live, is_leased, load, is_up}
 use Rattle.nd_history.specs.Legal.{IsLegal, IsAllowed}
-use Rattle.nd_history.proofs.Slots.{lease_once, count_cons, none_counted}
+use Rattle.nd_history.proofs.Slots.{lease_once, count_cons}
 use Rattle.nd_pump.specs.Turned.{machine_of, touched}
 use Rattle.nd_pump.specs.Waiting.{IsSteady}
 

@@ -1,10 +1,9 @@
 -- A turn leads to a step, or is over; and where no derivation is due there is no step.
-use Rattle.std.proofs.Common.{◌≡◌, ◌∙◌, ◌⊎◌, inl, inr, ℕ, zero, suc, ◌+◌, ◌<◌, ◌≤◌, Bool, true, false, not, cond, List, [], ◌∷◌, Option, None, Some, length, count_by, get_or, slice_get, refl, sym, ap, subst, arith}
-use Rattle.std.specs.Prelude.{All, Contains}
-use Rattle.std.specs.List.Sorted.{IsStrictlyIncreasing}
+use Rattle.std.proofs.Common.{◌≡◌, ◌∙◌, ◌⊎◌, inl, inr, ℕ, zero, suc, ◌+◌, ◌<◌, Bool, true, false, not, cond, List, [], ◌∷◌, Some, length, count_by, get_or, slice_get, refl, sym, ap, subst, arith}
+use Rattle.std.specs.Prelude.{All}
 use Rattle.std.proofs.Math.ListN.{set, length-set}
-use Rattle.std.proofs.lemmas.Bool.{cases_eq, cases_lt, false≢true}
-use Rattle.std.proofs.lemmas.List.{get_or-set_same, get_or-set_other}
+use Rattle.std.proofs.lemmas.Bool.{cases_eq}
+use Rattle.std.proofs.lemmas.List.{get_or-set_other}
 use Rattle.std.proofs.lemmas.List.Elements.{All-from_get_or, Contains-get_or}
 use Rattle.std.proofs.lemmas.Option.{slice_get_cases, slice_get_within}
 use Rattle.nd_eligible.specs.declared.need.Need.{Need}
@@ -13,14 +12,13 @@ use Rattle.nd_flags.specs.Members.{IsMember}
 use Rattle.nd_flags.proofs.RowFacts.{IsMember-within}
 use Rattle.std.proofs.lemmas.List.{length-map}
 use Rattle.nd_graph.specs.Graphs.{IsSound, nodes_of}
-use Rattle.nd_hook.specs.declared.kinds.Decision.{Decision}
 use Rattle.nd_hook.specs.declared.kinds.Decision.TheVariants.{Wait}
 use Rattle.nd_failure.specs.Progress as board
 use Rattle.nd_failure.specs.Progress.{Progress}
 use Rattle.nd_kinds.specs.declared.kind.Kind.{Kind}
-use Rattle.nd_kinds.specs.Kinds.{Kinded, IsKindOf, HasKind, AreKinds, number_of}
+use Rattle.nd_kinds.specs.Kinds.{IsKindOf, number_of}
 use Rattle.nd_queue.specs.Grouped.{group_in}
-use Rattle.nd_queue.specs.Queues.{Queued, IsDue, IsLeastDue, IsFirstDue}
+use Rattle.nd_queue.specs.Queues.{IsDue, IsLeastDue}
 use Rattle.nd_history.specs.declared.entry.Entry.{Entry}
 use Rattle.nd_history.specs.Premises.{Premises}
 use Rattle.nd_history.specs.Standing.{drvs_in, IsReady}
@@ -28,11 +26,11 @@ use Rattle.nd_history.specs.Choices.{HasDecision}
 use Rattle.nd_history.specs.Legal.{IsLegal}
 use Rattle.nd_history.specs.Marks.{AreMarked}
 use Rattle.nd_history.specs.Pumping.{IsStepOf, IsAtRest, AreAtRest, IsPumpStep}
-use Rattle.nd_history.proofs.Boards.{ready_said, ready_marked}
+use Rattle.nd_history.proofs.Boards.{ready_marked}
 use Rattle.nd_history.proofs.Slots.{count_cons}
-use Rattle.nd_history.proofs.Steps.{step_ready, rest_unready, rest_waiting}
+use Rattle.nd_history.proofs.Steps.{step_ready, rest_waiting}
 use Rattle.nd_pump.specs.Decided.{HasKindDecision}
-use Rattle.nd_pump.specs.Turned.{Turned, is_parked, IsWhole, AreListed, DoWait, AreTurns}
+use Rattle.nd_pump.specs.Turned.{Turned, is_parked, IsWhole, AreTurns}
 use Rattle.nd_pump.specs.Taking.{left_in}
 use Rattle.nd_pump.proofs.Waiting.{kind_decides}
 

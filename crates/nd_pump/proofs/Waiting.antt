@@ -1,30 +1,29 @@
 -- What is decided about a kind is decided about its derivations; and a kind that is to wait goes on waiting where no machine of its own
 -- gets a free slot or goes up or down.
-use Rattle.std.proofs.Common.{◌≡◌, ◌∙◌, ◌⊎◌, ◌↔◌, inl, inr, ℕ, zero, suc, ◌+◌, ◌<◌, ◌≤◌, Bool, true, false, ◌&&◌, if◌then◌else◌, List, [], length, refl, sym, ap, subst, arith, Some, slice_get, add-one}
+use Rattle.std.proofs.Common.{◌≡◌, ◌∙◌, inl, inr, ℕ, suc, ◌+◌, ◌<◌, ◌≤◌, Bool, true, false, ◌&&◌, if◌then◌else◌, List, length, refl, sym, subst, arith, Some, slice_get, add-one}
 use Rattle.std.specs.Prelude.{Contains}
-use Rattle.std.specs.Bool.{MatchBool, IsTrue}
+use Rattle.std.specs.Bool.{MatchBool}
 use Rattle.std.proofs.lemmas.List.FromFn.{get_or-map-range_with_len}
 use Rattle.std.proofs.lemmas.Option.{unwrap_or-slice_get}
 use Rattle.nd_machines.specs.Builders.{Builder}
 use Rattle.nd_eligible.specs.declared.need.Need.{Need}
-use Rattle.nd_eligible.specs.Eligibility.{IsEligibleAt, AreEligible}
-use Rattle.nd_eligible.proofs.Places.{eligible_within}
-use Rattle.nd_choose.specs.Best.{jobs_at, load_at, is_up_at, IsFree, IsCandidate}
-use Rattle.nd_hook.specs.Replies.{IsReply, IsNoneFree, IsOneUp}
+use Rattle.nd_eligible.specs.Eligibility.{IsEligibleAt}
+use Rattle.nd_choose.specs.Best.{load_at, is_up_at}
+use Rattle.nd_hook.specs.Replies.{IsReply, IsNoneFree}
 use Rattle.nd_hook.specs.Decisions.{IsDecision, decision_after, decision_at_home}
 use Rattle.nd_hook.specs.declared.kinds.Reply.{Reply}
 use Rattle.nd_hook.specs.declared.kinds.Reply.TheVariants.{Accept, Postpone, Decline, DeclinePermanently}
 use Rattle.nd_hook.specs.declared.kinds.Decision.{Decision}
-use Rattle.nd_hook.specs.declared.kinds.Decision.TheVariants.{Local, Remote, Wait, NoBuilder}
+use Rattle.nd_hook.specs.declared.kinds.Decision.TheVariants.{Local, Wait}
 use Rattle.nd_hook.proofs.OneReply.{reply_along}
 use Rattle.nd_kinds.specs.declared.kind.Kind.{Kind}
-use Rattle.nd_kinds.specs.Kinds.{IsKindOf, MayUse}
+use Rattle.nd_kinds.specs.Kinds.{IsKindOf}
 use Rattle.nd_history.specs.declared.entry.Entry.{Entry}
 use Rattle.nd_history.specs.Premises.{Premises}
-use Rattle.nd_history.specs.History.{load, is_up}
-use Rattle.nd_history.specs.Choices.{loads_of, ups_of, IsLocal, IsLocalFree, HasDecision, HasReply}
+use Rattle.nd_history.specs.History.{is_up}
+use Rattle.nd_history.specs.Choices.{loads_of, ups_of, IsLocal, HasDecision, HasReply}
 use Rattle.nd_history.proofs.OneChoice.{load_at_place}
-use Rattle.nd_pump.specs.Decided.{IsHome, IsHomeFree, HasKindDecision, HasKindReply, DecidesForAll}
+use Rattle.nd_pump.specs.Decided.{IsHome, HasKindDecision, HasKindReply, DecidesForAll}
 use Rattle.nd_pump.specs.Waiting.{IsSteady, IsUnmoved, LiesIn, WaitingGoesOn}
 
 -- ---- a kind's decision is that of its derivations

@@ -1,6 +1,6 @@
 -- How derivations that are ready on a board are listed in a queue.
 -- A public clause cites `IsNewsWithin`; the rest serves private ones.
-use Rattle.std.specs.Prelude.{◌≡◌, ◌<◌, ℕ, Bool, true, false, List, [], Contains, length, slice_index_or}
+use Rattle.std.specs.Prelude.{◌≡◌, ◌<◌, ℕ, true, false, List, Contains, length, slice_index_or}
 use Rattle.nd_flags.specs.Members.{IsMember}
 use Rattle.nd_failure.specs.Progress.{Progress, IsReady}
 use Rattle.nd_graph.specs.Walks.{inputs_of}

@@ -1,11 +1,8 @@
-use Rattle.std.proofs.Common.{◌≡◌, ◌<◌, ℕ, false, length, reverse, subst, ap, ◌∙◌}
-use Rattle.nd_hook.specs.declared.kinds.Decision.{Decision}
-use Rattle.nd_hook.specs.declared.kinds.Decision.TheVariants.{Wait}
+use Rattle.std.proofs.Common.{reverse}
 use Rattle.nd_history.specs.Premises.{premises_of}
 use Rattle.nd_history.proofs.Boards.{ready_said}
-use Rattle.nd_pump.specs.Decided.{HasKindDecision}
 use Rattle.nd_pump.proofs.Waiting.{kind_decides}
-use Rattle.nd_pump.proofs.Taking.{listed_within, kind_fits, kind_ranged, left_parked, parked_within}
+use Rattle.nd_pump.proofs.Taking.{listed_within, kind_fits, kind_ranged, parked_within}
 use Rattle.nd_pump.proofs.stepping.take_turn.Goals as goal
 
 pub decide_kind-decision-requires-clause-rising : goal.decide_kind-decision-requires-clause-rising
