@@ -1,2 +1,3 @@
 pub mod Needs
 pub mod KindFacts
+pub mod Providing

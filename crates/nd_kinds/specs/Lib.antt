@@ -1,3 +1,4 @@
 pub mod Kinds
 pub mod KindsKept
 pub mod Sharing
+pub mod Providers

@@ -2,9 +2,11 @@
 
 ghost use Rattle.std.specs.Prelude.{IfOk};
 ghost use Rattle.nd_kinds.specs.Kinds.{IsKindOf};
+ghost use Rattle.nd_kinds.specs.Providers.{AreProviders};
 
+use crate::providers::Providers;
 use nd_bytes::Items;
-use nd_eligible::{Local, Need, eligible_places, local_ok};
+use nd_eligible::{Local, Need, local_ok};
 use nd_machines::Machine;
 use std::alloc::{AllocError, Global};
 
@@ -21,17 +23,19 @@ pub struct Kind {
 }
 
 impl Kind {
-    /// The kind of the derivations with this need.
-    pub(crate) fn of(
+    /// The kind of the derivations with this need. `providers` is the index of the machines.
+    pub(crate) fn of<'a>(
         alloc: Global,
         machines: &[Machine],
+        providers: &Providers<'a>,
         local: &Local,
-        need: &Need,
+        need: &'a Need,
     ) -> Result<Kind, AllocError>
+        requires { AreProviders machines.now providers.now }
         ensures { IfOk result (IsKindOf machines.now local.now need.now) }
     {
         Ok(Kind {
-            places: eligible_places(alloc, machines, need)?,
+            places: providers.eligible_places(alloc, machines, need)?,
             prefer_local: need.prefer_local,
             local: local_ok(local, need),
         })

@@ -2,9 +2,11 @@
 
 ghost use Rattle.std.specs.Prelude.{◌≡◌, ◌<◌, ◌+◌, ◌++◌, ◌∷◌, [], All, Some, length, slice_get, IfOk, IfSome, OnOk};
 ghost use Rattle.nd_kinds.specs.Kinds.{AreKinds, number_of, users_of};
+ghost use Rattle.nd_kinds.specs.Providers.{AreProviders};
 ghost use Rattle.nd_kinds.specs.Sharing.{SharesNeed, AddsTo, IsListed, IsOneMore, IsOneMoreOf, AreSoFar};
 
 use crate::kind::Kind;
+use crate::providers::Providers;
 use crate::sharing::{Known, Marks};
 use nd_eligible::{Local, Need};
 use nd_machines::Machine;
@@ -62,6 +64,7 @@ impl Kinds {
     ) -> Result<Kinds, AllocError>
         ensures { IfOk result (AreKinds machines.now local.now needs.now) }
     {
+        let providers = Providers::new(alloc, machines)?;
         let mut known = Known::new(alloc);
         let mut marks = Marks::new(alloc);
         let mut kinds = Kinds {
@@ -71,7 +74,9 @@ impl Kinds {
         };
         for drv in 0..needs.len() {
             let first = known.meet(needs, drv)?;
-            kinds.one_more(alloc, machines, local, needs, drv, first, &mut marks)?;
+            kinds.one_more(
+                alloc, machines, &providers, local, needs, drv, first, &mut marks,
+            )?;
         }
         Ok(kinds)
     }
@@ -79,16 +84,18 @@ impl Kinds {
     /// One more derivation, the next of those with these needs. `first` is an earlier one with the same
     /// need, if one is known.
     #[tactic(auto, using(crate::proofs::KindFacts::so_far_joined, crate::proofs::KindFacts::so_far_taken, crate::proofs::KindFacts::places_within))]
-    fn one_more(
+    fn one_more<'a>(
         &mut self,
         alloc: Global,
         machines: &[Machine],
+        providers: &Providers<'a>,
         local: &Local,
-        needs: &[Need],
+        needs: &'a [Need],
         drv: usize,
         first: Option<usize>,
         marks: &mut Marks,
     ) -> Result<(), AllocError>
+        requires index { AreProviders machines.now providers.now }
         requires node { drv < length needs.now }
         requires first { IfSome first (SharesNeed needs.now drv) }
         requires so_far { AreSoFar machines.now local.now needs.now drv self.old }
@@ -96,7 +103,10 @@ impl Kinds {
     {
         match first {
             Some(first) => self.join(first),
-            None => self.take(Kind::of(alloc, machines, local, &needs[drv])?, marks),
+            None => self.take(
+                Kind::of(alloc, machines, providers, local, &needs[drv])?,
+                marks,
+            ),
         }
     }
 

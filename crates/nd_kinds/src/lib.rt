@@ -3,6 +3,7 @@
 
 mod kind;
 mod kinds;
+mod providers;
 mod sharing;
 
 pub use kind::Kind;
