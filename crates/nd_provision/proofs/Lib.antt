@@ -1,6 +1,7 @@
 pub mod Differences
 pub mod Gains
 pub mod Joined
+pub mod Nearness
 pub mod Lookalikes
 pub mod Entering
 pub mod Checking

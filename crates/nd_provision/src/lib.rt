@@ -3,6 +3,7 @@
 
 mod checks;
 pub mod copying;
+mod near;
 mod needs;
 mod numbering;
 pub mod stores;

@@ -93,7 +93,7 @@ fn add_named(
 }
 
 /// The nodes and the outputs that inputs name are there.
-fn learn_graph(graph: &Graph)
+pub(crate) fn learn_graph(graph: &Graph)
     ensures { IsSound graph.now }
 {
     let _drvs = graph.len();

@@ -8,6 +8,7 @@ ghost use Rattle.nd_provision.specs.Stored.{AreListings, IsFirstFor, IsSameStore
 
 use crate::checks::{all_lie_in, are_listings_held, are_rows_held, is_covered, lacked, lie_in};
 use crate::copying::{Additions, Listing, PathsError, enter_all, put_all, set_with};
+use crate::near::are_near;
 use crate::needs::{all_sources, needed_by, seeds_by_number};
 use crate::numbering::{number_build, number_given, numbers_for};
 use nd_bytes::Items;
@@ -222,6 +223,9 @@ impl Stores {
         let outputs = inputs.graph.outputs(drv);
         if refs.lists().len() != outputs.len() {
             return Ok(false);
+        }
+        if are_near(&inputs.graph, drv, refs.lists()) {
+            return Ok(true);
         }
         let near = set_with(needed_by(alloc, &inputs.graph, drv)?, outputs)?;
         if all_lie_in(refs.lists(), &near) {
