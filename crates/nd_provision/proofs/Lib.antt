@@ -6,5 +6,6 @@ pub mod Lookalikes
 pub mod Entering
 pub mod Checking
 pub mod Preparing
+pub mod Seeding
 pub mod Whole
 pub mod Storing

@@ -1,3 +1,4 @@
 pub mod Differences
 pub mod Nearby
+pub mod Seeds
 pub mod Stored

@@ -5,6 +5,7 @@ ghost use Rattle.std.specs.Prelude.{◌≡◌, ◌<◌, ◌++◌, [], length, ma
 ghost use Rattle.std.specs.List.{All, flat_map};
 ghost use Rattle.nd_graph.specs.Graphs.{IsSound};
 ghost use Rattle.nd_path_numbers.specs.Numbers.{HasGrown};
+ghost use Rattle.nd_provision.specs.Seeds.{GoesOn, paths_at};
 ghost use Rattle.nd_provision.specs.Stored.{AreNeededIn, AreSeedsIn, IsSeedRow};
 
 use crate::copying::add_copies;
@@ -73,8 +74,50 @@ fn seed_row(
     ensures row { IfOk result (IsSeedRow graph.now numbers.new.paths drv) }
     ensures grown { HasGrown numbers.old numbers.new }
 {
-    let needed = needed_by(alloc, graph, drv)?;
-    Ok(Items::new(numbers.know_all(alloc, needed.as_slice())?))
+    learn_graph(graph);
+    let sources = graph.sources(drv);
+    let inputs = graph.inputs(drv);
+    let mut row = Vec::with_capacity(alloc, sources.len() + inputs.len())?;
+    add_numbers(alloc, numbers, &mut row, sources)?;
+    for input in inputs {
+        let outputs = graph.outputs(input.node);
+        add_numbers_at(alloc, numbers, &mut row, outputs, input.outputs.as_slice())?;
+    }
+    Ok(Items::new(row))
+}
+
+/// Appends the numbers of these paths.
+fn add_numbers(
+    alloc: Global,
+    numbers: &mut PathNumbers,
+    row: &mut Vec<usize>,
+    paths: &[StorePath],
+) -> Result<(), AllocError>
+    ensures row { OnOk result (GoesOn numbers.old.paths numbers.new.paths row.old.items row.new.items paths.now) }
+    ensures grown { HasGrown numbers.old numbers.new }
+{
+    for path in paths {
+        row.push(numbers.know(alloc, path)?)?;
+    }
+    Ok(())
+}
+
+/// Appends the numbers of the outputs at these places.
+fn add_numbers_at(
+    alloc: Global,
+    numbers: &mut PathNumbers,
+    row: &mut Vec<usize>,
+    outputs: &[StorePath],
+    places: &[usize],
+) -> Result<(), AllocError>
+    requires { All (λ k. k < length outputs.now) places.now }
+    ensures row { OnOk result (GoesOn numbers.old.paths numbers.new.paths row.old.items row.new.items (paths_at outputs.now places.now)) }
+    ensures grown { HasGrown numbers.old numbers.new }
+{
+    for place in places {
+        row.push(numbers.know(alloc, &outputs[*place])?)?;
+    }
+    Ok(())
 }
 
 /// Appends copies of the outputs at these places.

@@ -2,11 +2,11 @@ use Rattle.std.proofs.Common.{◌≡◌, ◌<◌, ◌≤◌, List, ℕ, [], ◌+
 use Rattle.std.specs.List.{Contains, flat_map}
 use Rattle.std.proofs.lemmas.List.{take_all}
 use Rattle.nd_graph.specs.declared.graph.Input.{Input}
-use Rattle.nd_graph.specs.Graphs.{Nodes, IsSound}
 use Rattle.nd_history.specs.References.{sources_of, inputs_at}
-use Rattle.nd_provision.specs.Stored.{AreNeeded, named_outputs}
+use Rattle.nd_provision.specs.Stored.{AreNeededIn, named_outputs}
 use Rattle.nd_provision.proofs.Gains.{read_there}
-use Rattle.nd_provision.proofs.Joined.{with_graph, needed_joined, needed_more, node_there, places_there}
+use Rattle.nd_provision.proofs.Joined.{with_graph, needed_more, node_there, places_there}
+use Rattle.nd_provision.proofs.Seeding.{needed_in}
 use Rattle.nd_provision.proofs.needs.needed_by.Goals as goal
 
 pub outputs-outputs-requires : goal.outputs-outputs-requires
@@ -41,10 +41,4 @@ returns c =
     let past_all : length (inputs_at i c.args.drv) ≤ c.loop-input.input-index = subst (λ (xs : List Input). length xs ≤ c.loop-input.input-index) c.inputs-input-items.ensures.inputs c.loop-input-test.false in
     let all : c.loop-input.needed.items ≡ sources_of i c.args.drv ++ flat_map (named_outputs c.args.graph.now) (inputs_at i c.args.drv) =
     c.loop-input.invariant ∙ ap (λ (xs : List Input). sources_of i c.args.drv ++ flat_map (named_outputs c.args.graph.now) xs) (take_all c.loop-input.input-index (inputs_at i c.args.drv) past_all) in
-    record {
-      tells = λ j same.
-          let sound : IsSound j.graph = subst (λ (g : Nodes). IsSound g) (sym same) c.learn_graph.ensures in
-          subst (λ (xs : List (List ℕ)). AreNeeded j c.args.drv xs) (sym all)
-          (subst (λ (g : Nodes). AreNeeded j c.args.drv (sources_of (with_graph g) c.args.drv ++ flat_map (named_outputs g) (inputs_at (with_graph g) c.args.drv))) same
-          (needed_joined j c.args.drv (λ input place h k. sound.names.named c.args.drv input place h k)));
-    }
+    subst (λ (xs : List (List ℕ)). AreNeededIn c.args.graph.now c.args.drv xs) (sym all) (needed_in c.args.graph.now c.args.drv c.learn_graph.ensures)

@@ -1,0 +1,51 @@
+use Rattle.std.proofs.Common.{◌≡◌, ◌<◌, ◌≤◌, List, ℕ, length, get_or, sym, subst}
+use Rattle.std.specs.List.{Contains}
+use Rattle.nd_graph.specs.declared.graph.Input.{Input}
+use Rattle.nd_history.specs.References.{inputs_at}
+use Rattle.nd_path_numbers.proofs.Growing.{grown_through}
+use Rattle.nd_provision.specs.Stored.{IsSeedRow}
+use Rattle.nd_provision.proofs.Gains.{read_there}
+use Rattle.nd_provision.proofs.Joined.{with_graph, node_there, places_there}
+use Rattle.nd_provision.proofs.Seeding.{first_seeds, next_input, seed_row_is}
+use Rattle.nd_provision.proofs.needs.seed_row.Goals as goal
+
+pub loop-input-init : goal.loop-input-init
+loop-input-init c = record {
+  grown = c.in_ok-add_numbers.ensures.grown;
+  row = first_seeds c.args.graph.now c.args.drv c.sources-sources.result.now c.args.numbers.now.paths c.add_numbers.new.numbers.paths c.in_ok-row.row.items c.add_numbers.new.row.items c.sources-sources.ensures c.in_ok-row.ensures.items c.in_ok-add_numbers.ensures.row;
+}
+
+pub outputs-outputs-requires : goal.outputs-outputs-requires
+outputs-outputs-requires c =
+    let i = with_graph c.args.graph.now in
+    let there : Contains (inputs_at i c.args.drv) c.input-item.result =
+    subst (λ (xs : List Input). Contains xs c.input-item.result) c.inputs-inputs.ensures.inputs
+    (read_there c.inputs-inputs.result.now c.loop-input.input-index c.input-item.result c.loop-input-test.true c.input-item.is) in
+    node_there i c.args.drv c.input-item.result c.learn_graph.ensures there
+
+pub add_numbers_at-requires : goal.add_numbers_at-requires
+add_numbers_at-requires c =
+    let i = with_graph c.args.graph.now in
+    let there : Contains (inputs_at i c.args.drv) c.input-item.result =
+    subst (λ (xs : List Input). Contains xs c.input-item.result) c.inputs-inputs.ensures.inputs
+    (read_there c.inputs-inputs.result.now c.loop-input.input-index c.input-item.result c.loop-input-test.true c.input-item.is) in
+    places_there i c.args.drv c.input-item.result c.as_slice.result.now c.outputs-outputs.result.now c.learn_graph.ensures there c.as_slice.ensures c.outputs-outputs.ensures
+
+pub loop-input-preserved : goal.loop-input-preserved
+loop-input-preserved c =
+    let inputs : List Input = inputs_at (with_graph c.args.graph.now) c.args.drv in
+    let at : c.loop-input.input-index < length inputs = subst (λ (xs : List Input). c.loop-input.input-index < length xs) c.inputs-inputs.ensures.inputs c.loop-input-test.true in
+    let is : c.input-item.result ≡ get_or inputs c.loop-input.input-index c.input-item.result =
+    subst (λ (xs : List Input). c.input-item.result ≡ get_or xs c.loop-input.input-index c.input-item.result) c.inputs-inputs.ensures.inputs c.input-item.is in
+    record {
+      grown = grown_through c.args.numbers.now c.loop-input.numbers c.add_numbers_at.new.numbers c.loop-input.invariant.grown c.in_ok-add_numbers_at.ensures.grown;
+      row = next_input c.args.graph.now c.args.drv c.loop-input.input-index c.input-item.result c.as_slice.result.now c.outputs-outputs.result.now c.loop-input.numbers.paths c.add_numbers_at.new.numbers.paths c.loop-input.row.items c.add_numbers_at.new.row.items
+          at is c.as_slice.ensures c.outputs-outputs.ensures c.loop-input.invariant.row c.in_ok-add_numbers_at.ensures.row;
+    }
+
+pub returns-clause-row : goal.returns-clause-row
+returns-clause-row c =
+    let graph = c.args.graph.now in
+    let past : length (inputs_at (with_graph graph) c.args.drv) ≤ c.loop-input.input-index = subst (λ (xs : List Input). length xs ≤ c.loop-input.input-index) c.inputs-inputs.ensures.inputs c.loop-input-test.false in
+    subst (λ (row : List ℕ). IsSeedRow graph c.loop-input.numbers.paths c.args.drv row) (sym c.new.ensures)
+    (seed_row_is graph c.args.drv c.loop-input.input-index c.loop-input.numbers.paths c.loop-input.row.items c.learn_graph.ensures past c.loop-input.invariant.row)
