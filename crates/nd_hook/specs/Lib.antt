@@ -1,4 +1,5 @@
 pub mod Decisions
+pub mod Few
 pub mod Idle
 pub mod Replies
 pub mod ReplyText

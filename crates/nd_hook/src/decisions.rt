@@ -3,10 +3,11 @@
 ghost use Rattle.std.specs.Prelude.{◌≡◌, ◌<◌, length, All, Contains, IsTrue};
 ghost use Rattle.std.specs.List.Sorted.{IsStrictlyIncreasing};
 ghost use Rattle.nd_eligible.specs.Eligibility.{IsEligibleAt};
+ghost use Rattle.nd_hook.specs.Few.{HoldFree};
 ghost use Rattle.nd_hook.specs.Decisions.{IsDecision, decision_after, decision_at_home};
 
 use crate::kinds::{Decision, Reply};
-use crate::replies::{reply, reply_in};
+use crate::replies::{reply, reply_among};
 use nd_eligible::Need;
 use nd_machines::Machine;
 
@@ -36,6 +37,7 @@ pub fn decide(
 
 /// The decision as [`decide`] has it, but with the places of `among` for the eligible machines and
 /// with `prefer_local` for the need's preference. It takes no memory.
+#[tactic(auto, using(crate::proofs::FewPlaces::hold_themselves))]
 pub fn decide_in(
     machines: &[Machine],
     among: &[usize],
@@ -52,11 +54,43 @@ pub fn decide_in(
     requires local { IsTrue loc_free → IsTrue loc }
     ensures { IsDecision machines.now loads.now up.now (Contains among.now) prefer_local loc loc_free result }
 {
+    decide_among(
+        machines,
+        among,
+        among,
+        loads,
+        up,
+        prefer_local,
+        loc,
+        loc_free,
+    )
+}
+
+/// The decision as [`decide_in`] has it, but with the best machine looked for among `few`, which hold each place
+/// of `among` whose machine is up and has a free slot, and no others. It takes no memory.
+pub fn decide_among(
+    machines: &[Machine],
+    among: &[usize],
+    few: &[usize],
+    loads: &[u32],
+    up: &[bool],
+    prefer_local: bool,
+    loc: bool,
+    loc_free: bool,
+) -> Decision
+    requires loads { length loads.now ≡ length machines.now }
+    requires ups { length up.now ≡ length machines.now }
+    requires rising { IsStrictlyIncreasing few.now }
+    requires in_range { All (λ place. place < length machines.now) among.now }
+    requires few { HoldFree machines.now loads.now up.now among.now few.now }
+    requires local { IsTrue loc_free → IsTrue loc }
+    ensures { IsDecision machines.now loads.now up.now (Contains among.now) prefer_local loc loc_free result }
+{
     if prefer_local && loc {
         return at_home(loc, loc_free);
     }
     after(
-        reply_in(machines, among, loads, up, loc_free),
+        reply_among(machines, among, few, loads, up, loc_free),
         loc,
         loc_free,
     )

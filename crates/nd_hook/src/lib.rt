@@ -7,7 +7,7 @@ pub mod laws;
 mod replies;
 mod writing;
 
-pub use decisions::{decide, decide_in};
+pub use decisions::{decide, decide_among, decide_in};
 pub use kinds::{Decision, Reply};
-pub use replies::{reply, reply_in};
+pub use replies::{reply, reply_among, reply_in};
 pub use writing::write_reply;

@@ -3,6 +3,8 @@
 ghost use Rattle.std.specs.Prelude.{◌≡◌, ◌<◌, ◌↔◌, length, All, Contains, IsTrue};
 ghost use Rattle.std.specs.List.Sorted.{IsStrictlyIncreasing};
 ghost use Rattle.nd_eligible.specs.Eligibility.{IsEligibleAt};
+ghost use Rattle.nd_choose.specs.Best.{IsChoice};
+ghost use Rattle.nd_hook.specs.Few.{HoldFree};
 ghost use Rattle.nd_hook.specs.Replies.{IsReply, IsOneUp};
 
 use crate::kinds::Reply;
@@ -34,6 +36,7 @@ pub fn reply(machines: &[Machine], loads: &[u32], up: &[bool], need: &Need, loc_
 
 /// The reply as [`reply`] has it, but with the places of `among` for the eligible machines. It
 /// takes no memory.
+#[tactic(auto, using(crate::proofs::FewPlaces::hold_themselves))]
 pub fn reply_in(
     machines: &[Machine],
     among: &[usize],
@@ -47,16 +50,55 @@ pub fn reply_in(
     requires in_range { All (λ place. place < length machines.now) among.now }
     ensures { IsReply machines.now loads.now up.now (Contains among.now) loc_free result }
 {
+    reply_among(machines, among, among, loads, up, loc_free)
+}
+
+/// The reply as [`reply_in`] has it, but with the best machine looked for among `few`, which hold each place of
+/// `among` whose machine is up and has a free slot, and no others. It takes no memory.
+pub fn reply_among(
+    machines: &[Machine],
+    among: &[usize],
+    few: &[usize],
+    loads: &[u32],
+    up: &[bool],
+    loc_free: bool,
+) -> Reply
+    requires loads { length loads.now ≡ length machines.now }
+    requires ups { length up.now ≡ length machines.now }
+    requires rising { IsStrictlyIncreasing few.now }
+    requires in_range { All (λ place. place < length machines.now) among.now }
+    requires few { HoldFree machines.now loads.now up.now among.now few.now }
+    ensures { IsReply machines.now loads.now up.now (Contains among.now) loc_free result }
+{
     if machines.is_empty() {
         return Reply::DeclinePermanently;
     }
-    if let Some(place) = choose_in(machines, among, loads, up) {
+    if let Some(place) = choose_among(machines, among, few, loads, up) {
         return Reply::Accept(place);
     }
     if !loc_free && is_one_up_in(among, up) {
         return Reply::Postpone;
     }
     Reply::Decline
+}
+
+/// The best machine of the places of `among`, found among `few`.
+#[tactic(auto, using(crate::proofs::FewPlaces::chosen_of_many))]
+fn choose_among(
+    machines: &[Machine],
+    among: &[usize],
+    few: &[usize],
+    loads: &[u32],
+    up: &[bool],
+) -> Option<usize>
+    requires loads { length loads.now ≡ length machines.now }
+    requires ups { length up.now ≡ length machines.now }
+    requires rising { IsStrictlyIncreasing few.now }
+    requires in_range { All (λ place. place < length machines.now) among.now }
+    requires few { HoldFree machines.now loads.now up.now among.now few.now }
+    ensures { IsChoice machines.now loads.now up.now (Contains among.now) result }
+{
+    choose_in(machines, few, loads, up)
 }
 
 /// Whether an eligible machine is up.

@@ -12,6 +12,7 @@ use Rattle.nd_history.specs.Legal.{IsLegal}
 use Rattle.nd_provision.specs.Stored.{AreStored}
 use Rattle.nd_history.specs.Marks.{AreMarked}
 use Rattle.nd_pump.specs.Turned.{AreTurns}
+use Rattle.nd_pump.specs.Vacancies.{AreVacant}
 
 abbrev pub seen : Inside → World
 seen d = record { inputs = premises_of d.inputs; history = d.book.entries }
@@ -37,3 +38,5 @@ pub record IsKept (d : Inside) : Type 0 where
   pub marked : AreMarked (premises_of d.inputs) (reverse d.book.entries) d.board
   -- the turns follow the history and the board
   pub turns : AreTurns (premises_of d.inputs) (reverse d.book.entries) d.board d.turns
+  -- the builders that may have a free slot follow the history
+  pub vacant : AreVacant (premises_of d.inputs) (reverse d.book.entries) d.vacancies

@@ -13,7 +13,6 @@ ghost use Rattle.nd_history.specs.Resting.{WaitsForLeases};
 ghost use Rattle.nd_history.specs.Standing.{drvs_in};
 ghost use Rattle.nd_history.specs.Statuses.{HasStatusIn, AreCountsIn, IsFinished};
 ghost use Rattle.nd_history.specs.Pumping.{HasPumped, HasPumpedBy, AreAtRest};
-ghost use Rattle.nd_choose.specs.Best.{jobs_at};
 ghost use Rattle.nd_ledger.specs.Moves.{IsStartRefused, IsEndRefused, IsJobRefused};
 ghost use Rattle.nd_history.specs.References.{outputs_of};
 ghost use Rattle.nd_provision.specs.Stored.{IsMissing};
@@ -21,6 +20,7 @@ ghost use Rattle.nd_ledger.specs.Worlds.{GoesOnFrom};
 ghost use Rattle.nd_ledger.specs.Refusals.{IsLive, IsTicketOf, IsFailRefused, IsDownRefused, IsStopRefused};
 
 use crate::following::{enter, record_step};
+use crate::fresh::{learn_jobs, make_turns};
 use crate::job::{Job, copy_paths};
 use crate::moving::{is_live, prepare_end, prepare_start};
 use crate::refusal::{AdmitError, Refusal, Refused, admit_error};
@@ -39,7 +39,7 @@ use nd_leases::Ticket;
 use nd_machines::Machine;
 use nd_path::PathSet;
 use nd_provision::stores::Stores;
-use nd_pump::{Turns, decide_by_kind, next_step, reply_by_kind};
+use nd_pump::{Turns, Vacancies, decide_by_kind_in, next_step_in, reply_by_kind};
 use std::alloc::{AllocError, Global};
 use std::marker::Model;
 
@@ -52,6 +52,7 @@ pub struct Dispatch {
     board: Board,
     stores: Stores,
     turns: Turns,
+    vacancies: Vacancies,
 }
 
 impl Model for Dispatch {
@@ -81,8 +82,20 @@ impl Dispatch {
         ensures err { OnErr result (HasPumped self.old.inputs self.old.history self.new.history) }
     {
         let before = self.book.entries().len();
-        while let Some(step) = next_step(&self.inputs, &self.book, &self.board, &mut self.turns) {
-            record_step(&mut self.book, &mut self.board, &mut self.turns, step)?;
+        while let Some(step) = next_step_in(
+            &self.inputs,
+            &self.book,
+            &self.board,
+            &mut self.turns,
+            &mut self.vacancies,
+        ) {
+            record_step(
+                &mut self.book,
+                &mut self.board,
+                &mut self.turns,
+                &mut self.vacancies,
+                step,
+            )?;
         }
         let _order = self.inputs.graph.order();
         Ok(self.book.entries().len() - before)
@@ -120,6 +133,7 @@ impl Dispatch {
                     &mut self.book,
                     &mut self.board,
                     &mut self.turns,
+                    &mut self.vacancies,
                     Entry::Started {
                         drv: ticket.drv,
                         paths,
@@ -159,6 +173,7 @@ impl Dispatch {
                     &mut self.book,
                     &mut self.board,
                     &mut self.turns,
+                    &mut self.vacancies,
                     Entry::Built {
                         drv: ticket.drv,
                         refs,
@@ -234,6 +249,7 @@ impl Dispatch {
             &mut self.book,
             &mut self.board,
             &mut self.turns,
+            &mut self.vacancies,
             Entry::Failed {
                 drv: ticket.drv,
                 why,
@@ -265,6 +281,7 @@ impl Dispatch {
             &mut self.book,
             &mut self.board,
             &mut self.turns,
+            &mut self.vacancies,
             Entry::Down { drv: ticket.drv },
         );
         Ok(())
@@ -287,6 +304,7 @@ impl Dispatch {
             &mut self.book,
             &mut self.board,
             &mut self.turns,
+            &mut self.vacancies,
             Entry::Stop,
         );
         Ok(())
@@ -305,6 +323,7 @@ impl Dispatch {
             &mut self.book,
             &mut self.board,
             &mut self.turns,
+            &mut self.vacancies,
             Entry::Drain { machine },
         );
         Ok(())
@@ -323,6 +342,7 @@ impl Dispatch {
             &mut self.book,
             &mut self.board,
             &mut self.turns,
+            &mut self.vacancies,
             Entry::Enable { machine },
         );
         Ok(())
@@ -374,6 +394,7 @@ impl Dispatch {
     }
 
     /// Records the choice of a slot if it is legal.
+    #[tactic(auto, using(crate::proofs::Admitting::free_allowed))]
     fn admit_choice(&mut self, drv: u32, machine: u32, slot: u32) -> Result<(), AdmitError>
         requires { IsInRange self.old.inputs (Entry.Chosen drv machine slot) }
         ensures ok { OnOk result (self.new ≡ record self.old { history = self.old.history ++ Entry.Chosen drv machine slot ∷ [] }) }
@@ -381,7 +402,13 @@ impl Dispatch {
         ensures err { OnErr result (self.new ≡ self.old) }
     {
         let inputs = &self.inputs;
-        let decision = decide_by_kind(inputs, &self.book, &self.turns, drv as usize);
+        let decision = decide_by_kind_in(
+            inputs,
+            &self.book,
+            &self.turns,
+            &mut self.vacancies,
+            drv as usize,
+        );
         if let Err(rule) = judge_choice(
             inputs,
             &self.book,
@@ -397,6 +424,7 @@ impl Dispatch {
             &mut self.book,
             &mut self.board,
             &mut self.turns,
+            &mut self.vacancies,
             Entry::Chosen { drv, machine, slot },
         )?;
         Ok(())
@@ -410,7 +438,13 @@ impl Dispatch {
         ensures err { OnErr result (self.new ≡ self.old) }
     {
         let inputs = &self.inputs;
-        let decision = decide_by_kind(inputs, &self.book, &self.turns, drv as usize);
+        let decision = decide_by_kind_in(
+            inputs,
+            &self.book,
+            &self.turns,
+            &mut self.vacancies,
+            drv as usize,
+        );
         if let Err(rule) = judge_no_builder(inputs, &self.book, &self.board, decision, drv) {
             return Err(AdmitError::Illegal(rule));
         }
@@ -418,6 +452,7 @@ impl Dispatch {
             &mut self.book,
             &mut self.board,
             &mut self.turns,
+            &mut self.vacancies,
             Entry::NoBuilder { drv },
         )?;
         Ok(())
@@ -545,7 +580,7 @@ impl Dispatch {
         let Ok(stores) = Stores::new(alloc, &parts.graph, builders, &parts.info) else {
             return Err(parts);
         };
-        let Ok(turns) = Turns::new(
+        let Ok((turns, vacancies)) = make_turns(
             alloc,
             parts.machines.as_slice(),
             &parts.local,
@@ -567,6 +602,7 @@ impl Dispatch {
             board,
             stores,
             turns,
+            vacancies,
         })
     }
 
@@ -591,7 +627,7 @@ impl Dispatch {
             drop(stores);
             return Err(AllocError);
         };
-        let Ok(turns) = Turns::new(
+        let Ok((turns, vacancies)) = make_turns(
             alloc,
             inputs.machines.as_slice(),
             &inputs.local,
@@ -610,6 +646,7 @@ impl Dispatch {
             board,
             stores,
             turns,
+            vacancies,
         })
     }
 
@@ -741,16 +778,5 @@ impl Dispatch {
         ensures { result.now ≡ self.now.inputs.local }
     {
         &self.inputs.local
-    }
-}
-
-/// No machine builds more than 65,535 at once.
-fn learn_jobs(machines: &[Machine], local: &Local)
-    ensures builders { (p : ℕ) → jobs_at machines.now p ≤ 65535 }
-    ensures local { local.now.jobs ≤ 65535 }
-{
-    let _jobs = local.jobs();
-    for machine in machines {
-        let _jobs = machine.jobs();
     }
 }

@@ -3,6 +3,7 @@
 
 mod dispatch;
 mod following;
+mod fresh;
 pub mod job;
 pub mod laws;
 mod moving;

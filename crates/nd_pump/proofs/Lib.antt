@@ -4,3 +4,5 @@ pub mod Taking
 pub mod News
 pub mod Steady
 pub mod Following
+pub mod Vacant
+pub mod Looking

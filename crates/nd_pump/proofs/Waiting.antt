@@ -74,7 +74,7 @@ kind_replies i past d need kind reply needs fits h = record {
 
 -- ---- waiting goes on
 
-up_at_place : (i : Premises) (past : List Entry) (p : ℕ) → p < length i.machines → is_up_at (ups_of i past) p ≡ is_up (p + 1) past
+pub up_at_place : (i : Premises) (past : List Entry) (p : ℕ) → p < length i.machines → is_up_at (ups_of i past) p ≡ is_up (p + 1) past
 up_at_place i past p lt = unwrap_or-slice_get (ups_of i past) p false ∙ get_or-map-range_with_len (λ (p : ℕ). is_up (p + 1) past) 0 (length i.machines) p p false lt (omega arith)
 
 wait_home : (loc free : Bool) → Wait ≡ decision_at_home loc free → free ≡ false

@@ -4,10 +4,13 @@
 
 mod asking;
 pub mod deciding;
+mod few;
 pub mod laws;
 mod stepping;
 mod turns;
+mod vacancies;
 
-pub use asking::{decide_by_kind, reply_by_kind};
-pub use stepping::next_step;
+pub use asking::{decide_by_kind, decide_by_kind_in, reply_by_kind};
+pub use stepping::{next_step, next_step_in};
 pub use turns::Turns;
+pub use vacancies::Vacancies;

@@ -7,7 +7,7 @@ invariant_of-result c =
     let book = c.in-Ok in
     let stores = c.in-Ok-try_clone in
     let board = c.in-Ok-try_clone-2 in
-    let turns = c.in-Ok-new in
-    kept_copy c.self.inside (record { inputs = inputs.inputs; book = book.book; stores = stores.stores; board = board.board; turns = turns.turns })
-    (record { inputs = inputs.ensures; entries = book.ensures.entries; drvs = book.ensures.drvs; machines = book.ensures.machines; room = book.ensures.room; stores = stores.ensures; board = board.ensures; whole = turns.ensures.whole; kinds = rw (← c.as_slice.ensures, ← c.needs.ensures.needs) turns.ensures.kinds; listed = turns.ensures.listed; none = turns.ensures.parked })
+    let fresh = c.in-Ok-make_turns in
+    kept_copy c.self.inside (record { inputs = inputs.inputs; book = book.book; stores = stores.stores; board = board.board; turns = fresh.turns; vacancies = fresh.vacancies })
+    (record { inputs = inputs.ensures; entries = book.ensures.entries; drvs = book.ensures.drvs; machines = book.ensures.machines; room = book.ensures.room; stores = stores.ensures; board = board.ensures; fresh = rw (← c.as_slice.ensures, ← c.needs.ensures.needs) fresh.ensures })
     c.self.invariant

@@ -1,0 +1,139 @@
+-- The free builders among some places, found place by place.
+use Rattle.std.proofs.Common.{◌≡◌, ◌∙◌, inl, inr, ℕ, ◌+◌, ◌<◌, ◌≤◌, Bool, false, None, Some, List, [], ◌∷◌, ◌++◌, length, length-append, get_or, eqb-true, sym, ap, subst, arith}
+use Rattle.std.specs.Prelude.{Contains, slice_set}
+use Rattle.std.specs.declared.cmp.Ordering.TheVariants.{Less, Equal, Greater}
+use Rattle.std.specs.declared.cmp.Ordering.{Ordering}
+use Rattle.std.specs.Ordering.{is_lt, is_eq, ordering_index, ordering_reverse}
+use Rattle.std.specs.List.Sorted.{IsStrictlyIncreasing, IsSortedBy, IsNonDecreasingBy, IsPartitionPoint, IsStrictlySortedBy}
+use Rattle.std.specs.Ordering.{nat_cmp}
+use Rattle.std.specs.Cmp.{nat_cmp_total, unsigned_ties}
+use Rattle.std.proofs.Math.ListN.{length-set}
+use Rattle.std.proofs.Math.Seq.{get_or-append_seam}
+use Rattle.std.proofs.lemmas.Bool.{cases_eq, cases_lt}
+use Rattle.std.proofs.lemmas.List.{get_or-set_other, get_or_append_left}
+use Rattle.std.proofs.lemmas.List.Elements.{Contains-append_left, Contains-push, Contains-push_cases, Contains-get_or}
+use Rattle.std.proofs.lemmas.List.Sorted.{searchable_from_sorted}
+use Rattle.std.proofs.lemmas.Map.Keys.{Less-from_sorted, sorted_from_strictly_increasing}
+use Rattle.nd_machines.specs.Builders.{Builder}
+use Rattle.nd_flags.specs.Members.{IsMember, IsFirstFrom, IsLeastFrom}
+use Rattle.nd_choose.specs.Best.{IsFree}
+use Rattle.nd_hook.specs.Few.{HoldFree}
+use Rattle.nd_pump.specs.Vacancies.{HoldVacant}
+use Rattle.nd_pump.specs.Few.{HasLooked, AreLooked}
+
+-- ---- a number in a rising list
+
+turned : (a b : ℕ) → nat_cmp a b ≡ Less → is_lt (nat_cmp b a) ≡ false
+turned a b e = ap is_lt (nat_cmp_total.antisymm b a ∙ ap ordering_reverse e)
+
+itself : (a : ℕ) (o : Ordering) → nat_cmp a a ≡ o → o ≡ ordering_reverse o
+itself a o e = sym e ∙ nat_cmp_total.antisymm a a ∙ ap ordering_reverse e
+
+rising_compares : (xs : List ℕ) (n : ℕ) → IsStrictlyIncreasing xs → IsNonDecreasingBy (λ m. ordering_index (nat_cmp m n)) xs
+rising_compares xs n rises =
+    let sorted : IsStrictlySortedBy nat_cmp xs = sorted_from_strictly_increasing xs rises in
+    let steps : IsSortedBy (λ a b. is_lt (nat_cmp a b)) xs =
+    λ k d low high. turned (get_or xs k d) (get_or xs (k + 1) d) (Less-from_sorted nat_cmp xs k (k + 1) d sorted (omega arith) high) in
+    searchable_from_sorted nat_cmp_total (λ (m : ℕ). m) xs n steps
+
+-- a number that compares equal is there
+pub found_at : (xs : List ℕ) (n i : ℕ) → i < length xs → nat_cmp (get_or xs i n) n ≡ Equal → Contains xs n
+found_at xs n i within e = (i, within, eqb-true (get_or xs i n) n (unsigned_ties (get_or xs i n) n ∙ ap is_eq e))
+
+-- between the lesser and the greater numbers there is no place for a member
+pub not_found : (xs : List ℕ) (n i : ℕ) → IsStrictlyIncreasing xs
+    → (IsNonDecreasingBy (λ m. ordering_index (nat_cmp m n)) xs → IsPartitionPoint (λ m. nat_cmp m n ≡ Less) (λ m. nat_cmp m n ≡ Greater) xs i)
+    → Contains xs n → ⊥
+not_found xs n i rises cut there =
+    elim (cases_lt there.0 i) [
+      | inl before ↦ (let e = itself n Less (subst (λ (m : ℕ). nat_cmp m n ≡ Less) there.2 ((cut (rising_compares xs n rises)).0 there.0 n (omega arith) before)) in cc)
+      | inr after ↦ (let e = itself n Greater (subst (λ (m : ℕ). nat_cmp m n ≡ Greater) there.2 ((cut (rising_compares xs n rises)).1 there.0 n after there.1)) in cc)
+    ]
+
+-- ---- one place more
+
+-- a number above all that stand there goes on a rising list
+rising_on : (places : List ℕ) (place : ℕ) → ((n : ℕ) → Contains places n → n < place) → IsStrictlyIncreasing places
+    → IsStrictlyIncreasing (places ++ place ∷ [])
+rising_on places place above rising k h = elim (cases_lt (k + 1) (length places)) [
+  | inl old ↦
+      let first : k < length places = omega arith in
+      rw (get_or_append_left places (place ∷ []) 0 k first, get_or_append_left places (place ∷ []) 0 (k + 1) old) (rising k old)
+  | inr last ↦
+      let end : k + 1 ≡ length places = omega (arith, h, length-append places (place ∷ [])) in
+      let first : k < length places = omega arith in
+      rw (get_or_append_left places (place ∷ []) 0 k first, end, get_or-append_seam places place [] 0)
+      (above (get_or places k 0) (Contains-get_or places k 0 first))
+]
+
+-- a builder without a free slot is taken out
+pub vacant_without : (machines : List Builder) (loads : List ℕ) (ups : List Bool) (old new : List Bool) (place : ℕ) → HoldVacant machines loads ups old
+    → new ≡ slice_set old place false → (IsFree machines loads ups place → ⊥) → HoldVacant machines loads ups new
+vacant_without machines loads ups old new place was is taken = record {
+  sized = ap length is ∙ (length-set old place false ∙ was.sized);
+  each = λ p free. subst (λ (flags : List Bool). IsMember flags p) (sym is)
+      (get_or-set_other old place p false false (λ same. taken (subst (λ (m : ℕ). IsFree machines loads ups m) same free)) ∙ was.each p free);
+}
+
+module _ (machines : List Builder) (loads : List ℕ) (ups : List Bool) (among : List ℕ) where
+  pub looked_none : (vacant : List Bool) → HoldVacant machines loads ups vacant → AreLooked machines loads ups among vacant 0 []
+  looked_none vacant hold = record {
+    vacant = hold;
+    rising = λ k h. absurd (omega arith);
+    before = λ p has. absurd (omega (arith, has.1));
+    some = λ p has. absurd (omega (arith, has.1));
+    free = λ p lt. absurd (omega (arith, lt));
+  }
+
+  -- a free builder among the places that isn't before the place is not before the next that may be free
+  not_between : (vacant : List Bool) (from place p : ℕ) → HoldVacant machines loads ups vacant → IsLeastFrom vacant from place → from ≤ p → p < place → IsFree machines loads ups p → ⊥
+  not_between vacant from place p hold first low high free = first.least p low high (hold.each p free)
+
+  looked_by : (vacant new : List Bool) (from place : ℕ) (old few : List ℕ) → AreLooked machines loads ups among vacant from old → IsLeastFrom vacant from place
+      → HoldVacant machines loads ups new → HasLooked machines loads ups among place old few → AreLooked machines loads ups among new (place + 1) few
+  looked_by vacant new from place old few was first hold (inl same) = record {
+    vacant = hold;
+    rising = rw same.0 was.rising;
+    before = λ p has. (let lt = was.before p (rw same.0 at has) in let low = first.not_before in omega (arith, lt, low));
+    some = λ p has. was.some p (rw same.0 at has);
+    free = λ p lt has free. elim (cases_lt p from) [
+      | inl early ↦ rw same.0 (was.free p early has free)
+      | inr late ↦ elim (cases_eq p place) [
+        | inl is ↦ absurd (same.1 (subst (λ (m : ℕ). Contains among m) is has) (subst (λ (m : ℕ). IsFree machines loads ups m) is free))
+        | inr differ ↦ absurd (not_between vacant from place p was.vacant first late (omega (arith, lt, differ)) free)
+      ]
+    ];
+  }
+  looked_by vacant new from place old few was first hold (inr joined) = record {
+    vacant = hold;
+    rising = rw joined.0 (rising_on old place (λ n has. (let lt = was.before n has in let low = first.not_before in omega (arith, lt, low))) was.rising);
+    before = λ p has. elim (Contains-push_cases old place p (rw joined.0 at has)) [
+      | inl early ↦ (let lt = was.before p early in let low = first.not_before in omega (arith, lt, low))
+      | inr is ↦ omega (arith, is)
+    ];
+    some = λ p has. elim (Contains-push_cases old place p (rw joined.0 at has)) [
+      | inl early ↦ was.some p early
+      | inr is ↦ subst (λ (m : ℕ). Contains among m) is joined.1
+    ];
+    free = λ p lt has free. elim (cases_lt p from) [
+      | inl early ↦ rw joined.0 (Contains-append_left old (place ∷ []) p (was.free p early has free))
+      | inr late ↦ elim (cases_eq p place) [
+        | inl is ↦ rw (joined.0, is) (Contains-push old place)
+        | inr differ ↦ absurd (not_between vacant from place p was.vacant first late (omega (arith, lt, differ)) free)
+      ]
+    ];
+  }
+
+  pub looked_next : (vacant new : List Bool) (from place : ℕ) (old few : List ℕ) → AreLooked machines loads ups among vacant from old → IsFirstFrom vacant from (Some place)
+      → HoldVacant machines loads ups new → HasLooked machines loads ups among place old few → AreLooked machines loads ups among new (place + 1) few
+  looked_next vacant new from place old few was first hold looked = looked_by vacant new from place old few was first hold looked
+
+  -- where no other builder may be free, the few are all that are
+  pub looked_all : (vacant : List Bool) (from : ℕ) (few : List ℕ) → AreLooked machines loads ups among vacant from few → IsFirstFrom vacant from None → HoldFree machines loads ups among few
+  looked_all vacant from few was none = record {
+    some = was.some;
+    free = λ p has free. elim (cases_lt p from) [
+      | inl early ↦ was.free p early has free
+      | inr late ↦ absurd (none p late (was.vacant.each p free))
+    ];
+  }
