@@ -48,6 +48,9 @@ pub fn write_lines<W: io::Write>(entries: &[Entry], out: &mut Told<W>) -> Result
     ensures partly { OnErr result (WritesPart (W.contents out.old.device) (W.contents out.new.device) (flat_map line_of entries.now)) }
     ensures mark { out.new.is_marked ≡ (out.old.is_marked || is_err result) }
 {
+    if entries.is_empty() {
+        return Ok(());
+    }
     let mut page = Page::new();
     put_lines(entries, &mut page, out)?;
     page.send(out)?;
