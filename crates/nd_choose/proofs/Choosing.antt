@@ -1,17 +1,17 @@
 -- Looking at the places one after the other, the best so far is the best of those that were
 -- looked at.
-use Rattle.std.proofs.Common.{◌≡◌, ◌⊎◌, inl, inr, ℕ, ◌+◌, ◌<◌, Bool, List, [], ◌∷◌, ◌++◌, length, take, get_or, Option, None, Some, arith, sym, subst, ◌∙◌}
+use Rattle.std.proofs.Common.{◌≡◌, ◌⊎◌, inl, inr, ℕ, ◌+◌, ◌*◌, ◌<◌, ◌≤◌, mul-le-mul, Bool, true, false, true≢false, List, [], ◌∷◌, ◌++◌, length, take, get_or, Option, None, Some, refl, arith, sym, subst, ◌∙◌}
 use Rattle.std.specs.Option.{option_map}
 use Rattle.std.specs.Prelude.{Contains}
 use Rattle.std.specs.List.Sorted.{IsStrictlyIncreasing}
 use Rattle.std.proofs.lemmas.List.{take_more, get_or-take, length-take, get_or_default}
 use Rattle.std.proofs.lemmas.List.Kept.{AllPairs-from_increasing}
 use Rattle.std.proofs.lemmas.List.Elements.{Contains-append_left, Contains-push, Contains-push_cases}
-use Rattle.std.proofs.lemmas.Bool.{cases_eq}
+use Rattle.std.proofs.lemmas.Bool.{cases_eq, cases_lt}
 use Rattle.nd_machines.specs.Builders.{Builder}
 use Rattle.nd_choose.specs.Order.{Beats}
-use Rattle.nd_choose.specs.Best.{load_at, speed_at, IsFree, IsCandidate, ComesBefore, IsBest, IsChoice}
-use Rattle.nd_choose.specs.Contenders.{IsContender, IsBetterAt}
+use Rattle.nd_choose.specs.Best.{load_at, speed_at, jobs_at, is_up_at, IsFree, IsCandidate, ComesBefore, IsBest, IsChoice}
+use Rattle.nd_choose.specs.Contenders.{IsContender, IsBetterAt, IsNoBetter}
 use Rattle.nd_choose.specs.declared.contender.Contender.{Contender}
 use Rattle.nd_choose.proofs.Ordered.{Follows, beats_on, beaten}
 
@@ -227,3 +227,27 @@ module _ (machines : List Builder) (loads : List ℕ) (ups : List Bool) where
       → IsSoFar P best → IsChoice machines loads ups Q (option_map (λ c. c.place) best)
   ended P Q f g None s = (so_far_along P Q f g None s).chosen
   ended P Q f g (Some best) s = (so_far_along P Q f g (Some best) s).chosen.1
+
+-- a machine with as much load at no more speed doesn't beat the best
+heavier : (load speed best_load best_speed : ℕ) → best_load ≤ load → speed ≤ best_speed → Beats load speed best_load best_speed → ⊥
+heavier load speed best_load best_speed more slower (inl lighter) =
+    let product : best_load * speed ≤ load * best_speed = mul-le-mul more slower in
+    omega (arith, product, lighter)
+heavier load speed best_load best_speed more slower (inr even) = omega (arith, even.1, slower)
+
+-- so it leaves the best, whether it is free or not
+pub passed_over : (machines : List Builder) (loads : List ℕ) (ups : List Bool) (place : ℕ) (best : Contender)
+    → IsNoBetter machines loads place best → IsBetterAt machines loads ups place (Some best) (Some best)
+passed_over machines loads ups place best no_better = elim (cases_lt (load_at loads place) (jobs_at machines place)) [
+  | inr full ↦ inl (λ free. omega (arith, full, free.slot), refl)
+  | inl slot ↦ by_up (is_up_at ups place) refl slot
+]
+  where
+    by_up : (up : Bool) → is_up_at ups place ≡ up → load_at loads place < jobs_at machines place
+        → IsBetterAt machines loads ups place (Some best) (Some best)
+    by_up false down slot = inl (λ free. true≢false (sym free.up ∙ down), refl)
+    by_up true up slot = inr (
+      record { place = place; load = load_at loads place; speed = speed_at machines place },
+      record { free = record { up = up; slot = slot }; stands = refl; loaded = refl; fast = refl; moves = no_better.moves },
+      inr (heavier (load_at loads place) (speed_at machines place) best.load best.speed no_better.loaded no_better.slow, refl),
+    )

@@ -1,6 +1,6 @@
 -- A free machine with what the choice's order asks of it, and the better of two.
 -- No public clause cites this: it serves private clauses alone.
-use Rattle.std.specs.Prelude.{◌≡◌, ◌⊎◌, ℕ, ◌<◌, Bool, List, Option, None, Some}
+use Rattle.std.specs.Prelude.{◌≡◌, ◌⊎◌, ℕ, ◌<◌, ◌≤◌, Bool, List, Option, None, Some}
 use Rattle.nd_machines.specs.Builders.{Builder}
 use Rattle.nd_choose.specs.Order.{Beats}
 use Rattle.nd_choose.specs.Best.{load_at, speed_at, IsFree}
@@ -27,3 +27,9 @@ IsBetterAt machines loads ups place best None = (IsFree machines loads ups place
 IsBetterAt machines loads ups place best (Some taken) =
     ((IsFree machines loads ups place → ⊥) × (best ≡ Some taken))
     ⊎ ((next : Contender) × IsContender machines loads ups place next × IsBetter best next taken)
+
+-- the machine at this place has no less load and no more speed than the best
+pub record IsNoBetter (machines : List Builder) (loads : List ℕ) (place : ℕ) (best : Contender) : Type 0 where
+  pub loaded : best.load ≤ load_at loads place
+  pub slow : speed_at machines place ≤ best.speed
+  pub moves : 0 < speed_at machines place

@@ -1,11 +1,11 @@
 //! The choice among the machines of a list.
 
-ghost use Rattle.std.specs.Prelude.{◌≡◌, ◌<◌, length, All, Contains};
+ghost use Rattle.std.specs.Prelude.{◌≡◌, ◌<◌, length, All, Contains, IsTrue};
 ghost use Rattle.std.specs.List.Sorted.{IsStrictlyIncreasing};
 ghost use Rattle.std.specs.Option.{option_map};
 ghost use Rattle.nd_eligible.specs.Eligibility.{IsEligibleAt};
 ghost use Rattle.nd_choose.specs.Best.{IsChoice};
-ghost use Rattle.nd_choose.specs.Contenders.{IsBetterAt};
+ghost use Rattle.nd_choose.specs.Contenders.{IsBetterAt, IsNoBetter};
 
 use crate::contender::Contender;
 use nd_eligible::{Need, eligible};
@@ -46,7 +46,21 @@ pub fn choose_in(machines: &[Machine], among: &[usize], loads: &[u32], up: &[boo
     place_of(best)
 }
 
-/// The best so far, or the machine at a later place where that is free and better.
+/// Whether a machine has no less load and no more speed than the best so far.
+fn is_no_better(machines: &[Machine], loads: &[u32], place: usize, best: Contender) -> bool
+    requires loads { length loads.now ≡ length machines.now }
+    requires place { place < length machines.now }
+    ensures { IsTrue result → IsNoBetter machines.now loads.now place best }
+{
+    let machine = &machines[place];
+    if loads[place] < best.load {
+        return false;
+    }
+    machine.speed() <= best.speed
+}
+
+/// The best so far, or the machine at a later place where that is free and better. One with no less load and no
+/// more speed than the best isn't looked at any further.
 fn better_at(
     machines: &[Machine],
     loads: &[u32],
@@ -59,6 +73,11 @@ fn better_at(
     requires place { place < length machines.now }
     ensures { IsBetterAt machines.now loads.now up.now place best result }
 {
+    if let Some(known) = best {
+        if is_no_better(machines, loads, place, known) {
+            return best;
+        }
+    }
     match Contender::at(machines, loads, up, place) {
         Some(next) => Some(next.or_better(best)),
         None => best,
