@@ -9,3 +9,4 @@ pub mod Preparing
 pub mod Seeding
 pub mod Whole
 pub mod Storing
+pub mod Listed

@@ -2,3 +2,4 @@ pub mod Differences
 pub mod Nearby
 pub mod Seeds
 pub mod Stored
+pub mod Listed

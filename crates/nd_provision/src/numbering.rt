@@ -3,6 +3,7 @@
 ghost use Rattle.std.specs.Prelude.{◌≡◌, ◌==◌, [], length, map, if◌then◌else◌, IfOk};
 ghost use Rattle.std.specs.List.{zip};
 ghost use Rattle.nd_path_numbers.specs.Numbers.{AreNumbersOf, HasGrown};
+ghost use Rattle.nd_provision.specs.Listed.{number_in};
 ghost use Rattle.nd_provision.specs.Stored.{entry_of, IsListing, AreListings, AreGivenEntries, IsNumberedGiven, IsNumberedBuild};
 
 use crate::copying::{Additions, Listing, set_of};
@@ -23,7 +24,7 @@ pub(crate) fn number_given(
     ensures grown { HasGrown numbers.old numbers.new }
 {
     let entries = list_given(alloc, numbers, given, info)?;
-    let own = numbers.know_all(alloc, given)?;
+    let own = listed_numbers(alloc, entries.as_slice())?;
     Ok(Additions {
         machine: 0,
         entries,
@@ -47,8 +48,8 @@ pub(crate) fn number_build(
     ensures grown { HasGrown numbers.old numbers.new }
 {
     let entries = list_beside(alloc, numbers, outputs, refs)?;
-    let own = numbers.know_all(alloc, outputs)?;
-    let brought = numbers_for(alloc, numbers, m, outputs)?;
+    let own = listed_numbers(alloc, entries.as_slice())?;
+    let brought = brought_of(alloc, m, own.as_slice())?;
     Ok(Additions {
         machine: m,
         entries,
@@ -72,6 +73,27 @@ pub(crate) fn numbers_for(
         return numbers.know_all(alloc, &[]);
     }
     numbers.know_all(alloc, paths)
+}
+
+/// The numbers of the listed paths, in their order. They aren't looked up again.
+fn listed_numbers(alloc: Global, listings: &[Listing]) -> Result<Vec<usize>, AllocError>
+    ensures { IfOk result (λ v. v.items ≡ map number_in listings.now) }
+{
+    let mut numbers = Vec::with_capacity(alloc, listings.len())?;
+    for listing in listings {
+        numbers.push(listing.number)?;
+    }
+    Ok(numbers)
+}
+
+/// The numbers of what is brought to machine `m`: these, or none where it is the local one.
+fn brought_of(alloc: Global, m: usize, own: &[usize]) -> Result<Vec<usize>, AllocError>
+    ensures { IfOk result (λ v. v.items ≡ (if m == 0 then [] else own.now)) }
+{
+    if m == 0 {
+        return Ok(Vec::new(alloc));
+    }
+    Vec::from_slice(alloc, own)
 }
 
 /// A path and its set of references, with their numbers.
