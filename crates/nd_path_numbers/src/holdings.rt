@@ -126,6 +126,14 @@ impl Held {
         }
     }
 
+    /// The numbers as a vector, in the order in which they came. It takes no memory.
+    pub(crate) fn into_numbers(self) -> Vec<usize>
+        ensures { result.items ≡ self.numbers }
+    {
+        let Held { numbers, .. } = self;
+        numbers
+    }
+
     /// The numbers in the order in which they came.
     pub(crate) fn as_slice(&self) -> &[usize]
         ensures { result.now ≡ self.now.numbers }

@@ -8,4 +8,4 @@ mod searching;
 
 pub use holdings::{Held, Holdings};
 pub use path_numbers::{PathNumbers, copy_rows};
-pub use searching::reach_unheld;
+pub use searching::{match_unheld, reach_unheld};

@@ -1,6 +1,7 @@
 //! Store paths, each with a number.
 
-ghost use Rattle.std.specs.Prelude.{◌≡◌, ◌<◌, ◌∷◌, [], length, slice_set, IfOk, OnOk};
+ghost use Rattle.std.specs.Prelude.{◌≡◌, ◌<◌, ◌∷◌, [], length, slice_set, IfOk, OnOk, IfSome, IsTrue};
+ghost use Rattle.std.specs.List.Sorted.{IsPermutation};
 ghost use Rattle.nd_path_numbers.specs.Numbers.{row_in, AreNumbersOf, IsNumberOf, IsLookedUp, HasGrown, AddsOnly, IsSetOf};
 
 use indexmap::IndexSet;
@@ -124,6 +125,54 @@ impl PathNumbers {
             paths.push(path.try_clone()?)?;
         }
         PathSet::from_vec(paths)
+    }
+
+    /// These numbers in the order of their paths, where these are the paths. It takes no memory.
+    pub(crate) fn in_order_of(
+        &self,
+        paths: &[StorePath],
+        mut numbers: Vec<usize>,
+    ) -> Option<Vec<usize>>
+        ensures order { IfSome result (λ v. AreNumbersOf self.now.paths paths.now v.items) }
+        ensures moved { IfSome result (λ v. IsPermutation numbers.items v.items) }
+    {
+        self.put_in_order(&mut numbers);
+        if !self.are_numbers_of(paths, numbers.as_slice()) {
+            return None;
+        }
+        Some(numbers)
+    }
+
+    /// Puts these numbers in the order of their paths. It takes no memory.
+    fn put_in_order(&self, numbers: &mut Vec<usize>)
+        ensures { IsPermutation numbers.old.items numbers.new.items }
+    {
+        numbers.sort_unstable_by_key(|number| self.paths.get_index(*number));
+    }
+
+    /// Whether these are the numbers of these paths, one after another. It takes no memory.
+    fn are_numbers_of(&self, paths: &[StorePath], numbers: &[usize]) -> bool
+        ensures { IsTrue result → AreNumbersOf self.now.paths paths.now numbers.now }
+    {
+        if numbers.len() != paths.len() {
+            return false;
+        }
+        for i in 0..paths.len() {
+            if !self.is_number_of(&paths[i], numbers[i]) {
+                return false;
+            }
+        }
+        true
+    }
+
+    /// Whether this is the number of this path. It takes no memory.
+    fn is_number_of(&self, path: &StorePath, number: usize) -> bool
+        ensures { IsTrue result → IsNumberOf self.now.paths path.now number }
+    {
+        match self.paths.get_index(number) {
+            Some(known) => *path == *known,
+            None => false,
+        }
     }
 
     /// A copy with the same numbers and the same rows.

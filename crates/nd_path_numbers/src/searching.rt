@@ -1,11 +1,12 @@
 //! The search for what a machine lacks of a closure.
 
-ghost use Rattle.std.specs.Prelude.{◌<◌, ◌^◌, length, IfOk, OnOk};
+ghost use Rattle.std.specs.Prelude.{◌<◌, ◌^◌, length, IfOk, OnOk, IfSome, OnSome};
+ghost use Rattle.nd_path_numbers.specs.Numbers.{AreNumbersOf};
 ghost use Rattle.nd_path_numbers.specs.Searches.{IsCovered, AddsUnheld, AreUnheld, FindsUnheld};
 
 use crate::holdings::Held;
 use crate::path_numbers::PathNumbers;
-use nd_path::PathSet;
+use nd_path::{PathSet, StorePath};
 use std::alloc::{AllocError, Global};
 
 /// The paths that are reached from the seeds through paths that aren't held: at a held path the search
@@ -24,7 +25,29 @@ pub fn reach_unheld(
     numbers.set_of(alloc, found.as_slice())
 }
 
-/// The same as numbers.
+/// The numbers of these paths, one after another, where just these paths are so reached: none of them is
+/// looked up, but for its number. Refuses only where an allocation is refused.
+pub fn match_unheld(
+    alloc: Global,
+    seeds: &[usize],
+    numbers: &PathNumbers,
+    held: &Held,
+    paths: &[StorePath],
+) -> Result<Option<Vec<usize>>, AllocError>
+    ensures order { IfOk result (λ r. IfSome r (λ v. AreNumbersOf numbers.now.paths paths.now v.items)) }
+    ensures found { IfOk result (λ r. OnSome r (FindsUnheld numbers.now held.now.numbers seeds.now paths.now)) }
+{
+    let found = search(alloc, seeds, numbers, held)?;
+    if found.len() != paths.len() {
+        return Ok(None);
+    }
+    let Some(sorted) = numbers.in_order_of(paths, found.into_numbers()) else {
+        return Ok(None);
+    };
+    Ok(Some(sorted))
+}
+
+/// What is so reached, as numbers.
 fn search(
     alloc: Global,
     seeds: &[usize],

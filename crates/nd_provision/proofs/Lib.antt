@@ -10,3 +10,4 @@ pub mod Seeding
 pub mod Whole
 pub mod Storing
 pub mod Listed
+pub mod Copied

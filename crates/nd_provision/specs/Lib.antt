@@ -3,3 +3,4 @@ pub mod Nearby
 pub mod Seeds
 pub mod Stored
 pub mod Listed
+pub mod Copies

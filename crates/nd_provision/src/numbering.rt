@@ -1,6 +1,6 @@
 //! What is added to references and holdings, by number.
 
-ghost use Rattle.std.specs.Prelude.{◌≡◌, ◌==◌, [], length, map, if◌then◌else◌, IfOk};
+ghost use Rattle.std.specs.Prelude.{◌≡◌, ◌==◌, [], length, map, if◌then◌else◌, IfOk, IfSome};
 ghost use Rattle.std.specs.List.{zip};
 ghost use Rattle.nd_path_numbers.specs.Numbers.{AreNumbersOf, HasGrown};
 ghost use Rattle.nd_provision.specs.Listed.{number_in};
@@ -73,6 +73,27 @@ pub(crate) fn numbers_for(
         return numbers.know_all(alloc, &[]);
     }
     numbers.know_all(alloc, paths)
+}
+
+/// The same where the numbers of the paths may be at hand.
+pub(crate) fn numbers_at_hand(
+    alloc: Global,
+    numbers: &mut PathNumbers,
+    m: usize,
+    paths: &[StorePath],
+    found: Option<Vec<usize>>,
+) -> Result<Vec<usize>, AllocError>
+    requires { IfSome found (λ v. AreNumbersOf numbers.old.paths paths.now v.items) }
+    ensures numbers { IfOk result (λ v. AreNumbersOf numbers.new.paths (if m == 0 then [] else paths.now) v.items) }
+    ensures grown { HasGrown numbers.old numbers.new }
+{
+    let Some(brought) = found else {
+        return numbers_for(alloc, numbers, m, paths);
+    };
+    if m == 0 {
+        return Ok(Vec::new(alloc));
+    }
+    Ok(brought)
 }
 
 /// The numbers of the listed paths, in their order. They aren't looked up again.

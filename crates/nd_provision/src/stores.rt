@@ -1,22 +1,23 @@
 //! What machines hold and what paths refer to, kept beside the entries of a history.
 
-ghost use Rattle.std.specs.Prelude.{◌≡◌, ◌<◌, ◌≤◌, length, IfOk, OnOk, IfErr};
-ghost use Rattle.nd_path_numbers.specs.Numbers.{AreKnown, row_in};
+ghost use Rattle.std.specs.Prelude.{◌≡◌, ◌<◌, ◌≤◌, length, IfOk, OnOk, IfErr, IfSome, OnSome};
+ghost use Rattle.nd_path_numbers.specs.Numbers.{AreKnown, AreNumbersOf, row_in};
 ghost use Rattle.nd_history.specs.Premises.{premises_of};
 ghost use Rattle.nd_history.specs.References.{outputs_of};
+ghost use Rattle.nd_provision.specs.Copies.{IsMissingIn};
 ghost use Rattle.nd_provision.specs.Stored.{AreListings, IsFirstFor, IsSameStored, IsClosureBy, IsMissingBy, ArePathsRightBy, IsPathsFaultBy, AreReferencesRightBy, Fits, HasTaken, AreStartAdditions, AreBuiltAdditions, IsProvided, HasRoomFor};
 
 use crate::checks::{all_lie_in, are_listings_held, are_rows_held, is_covered, lacked, lie_in};
 use crate::copying::{Additions, Listing, PathsError, enter_all, put_all, set_with};
 use crate::near::are_near;
 use crate::needs::{all_sources, needed_by, seeds_by_number};
-use crate::numbering::{number_build, number_given, numbers_for};
+use crate::numbering::{number_build, number_given, numbers_at_hand, numbers_for};
 use nd_bytes::Items;
 use nd_closure::{RefTable, Refs, reach};
 use nd_graph::Graph;
 use nd_history::inputs::Inputs;
 use nd_path::{PathSet, StorePath};
-use nd_path_numbers::{Holdings, PathNumbers, copy_rows, reach_unheld};
+use nd_path_numbers::{Holdings, PathNumbers, copy_rows, match_unheld, reach_unheld};
 use std::alloc::{AllocError, Global};
 use std::marker::Model;
 
@@ -183,6 +184,52 @@ impl Stores {
         self.walk_paths(alloc, inputs, drv, m, paths)
     }
 
+    /// The same, with the numbers of the copied paths where they are at hand: where the paths are just what
+    /// the machine lacks, the search for that has found them.
+    pub fn check_copies(
+        &self,
+        alloc: Global,
+        inputs: &Inputs,
+        drv: usize,
+        m: usize,
+        paths: &PathSet,
+    ) -> Result<Option<Vec<usize>>, PathsError>
+        requires drv { drv < length inputs.now.graph.paths }
+        requires machine { m < length self.now.stocks }
+        ensures ok { OnOk result (ArePathsRightBy (premises_of inputs.now) self.now drv m paths.now) }
+        ensures refused { IfErr result (IsPathsFaultBy (premises_of inputs.now) self.now drv m paths.now) }
+        ensures numbers { IfOk result (λ r. IfSome r (λ v. AreNumbersOf self.now.numbers.paths paths.now v.items)) }
+    {
+        if let Some(numbers) = self.match_missing(alloc, drv, m, paths)? {
+            return Ok(Some(numbers));
+        }
+        match self.walk_paths(alloc, inputs, drv, m, paths) {
+            Ok(()) => Ok(None),
+            Err(fault) => Err(fault),
+        }
+    }
+
+    /// The numbers of these paths where they are found to be just those of derivation `drv`'s input closure
+    /// that machine `m` doesn't hold.
+    fn match_missing(
+        &self,
+        alloc: Global,
+        drv: usize,
+        m: usize,
+        paths: &PathSet,
+    ) -> Result<Option<Vec<usize>>, AllocError>
+        requires { m < length self.now.stocks }
+        ensures missing { IfOk result (λ r. OnSome r (IsMissingIn self.now drv m paths.now)) }
+        ensures numbers { IfOk result (λ r. IfSome r (λ v. AreNumbersOf self.now.numbers.paths paths.now v.items)) }
+    {
+        if !self.whole {
+            return Ok(None);
+        }
+        let seeds = self.seeds(drv);
+        let held = self.holdings.held(m);
+        match_unheld(alloc, seeds, &self.numbers, held, paths.as_slice())
+    }
+
     /// The same by a walk over the whole closure.
     fn walk_paths(
         &self,
@@ -265,6 +312,32 @@ impl Stores {
         ensures additions { IfOk result (AreStartAdditions self.new m paths.now) }
     {
         let brought = numbers_for(alloc, &mut self.numbers, m, paths.as_slice())?;
+        let known = self.numbers.len();
+        self.holdings.reserve_below(alloc, m, brought.len(), known)?;
+        Ok(Additions {
+            machine: m,
+            entries: Vec::new(alloc),
+            own: Vec::new(alloc),
+            brought,
+            provided: true,
+        })
+    }
+
+    /// The same where the numbers of the copied paths may be at hand ([`Stores::check_copies`]).
+    pub fn prepare_copies(
+        &mut self,
+        alloc: Global,
+        m: usize,
+        paths: &PathSet,
+        numbers: Option<Vec<usize>>,
+    ) -> Result<Additions, AllocError>
+        requires machine { m < length self.old.stocks }
+        requires numbers { IfSome numbers (λ v. AreNumbersOf self.old.numbers.paths paths.now v.items) }
+        ensures same { IsSameStored self.old self.new }
+        ensures fits { IfOk result (Fits self.new) }
+        ensures additions { IfOk result (AreStartAdditions self.new m paths.now) }
+    {
+        let brought = numbers_at_hand(alloc, &mut self.numbers, m, paths.as_slice(), numbers)?;
         let known = self.numbers.len();
         self.holdings.reserve_below(alloc, m, brought.len(), known)?;
         Ok(Additions {
