@@ -2,3 +2,4 @@ pub mod Kinds
 pub mod KindsKept
 pub mod Sharing
 pub mod Providers
+pub mod Finding

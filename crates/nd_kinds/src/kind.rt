@@ -2,9 +2,9 @@
 
 ghost use Rattle.std.specs.Prelude.{IfOk};
 ghost use Rattle.nd_kinds.specs.Kinds.{IsKindOf};
-ghost use Rattle.nd_kinds.specs.Providers.{AreProviders};
+ghost use Rattle.nd_kinds.specs.Finding.{KeepsTo};
 
-use crate::providers::Providers;
+use crate::finder::Finder;
 use nd_bytes::Items;
 use nd_eligible::{Local, Need, local_ok};
 use nd_machines::Machine;
@@ -23,19 +23,20 @@ pub struct Kind {
 }
 
 impl Kind {
-    /// The kind of the derivations with this need. `providers` is the index of the machines.
+    /// The kind of the derivations with this need. `finder` finds the machines.
     pub(crate) fn of<'a>(
         alloc: Global,
-        machines: &[Machine],
-        providers: &Providers<'a>,
+        machines: &'a [Machine],
+        finder: &mut Finder<'a>,
         local: &Local,
         need: &'a Need,
     ) -> Result<Kind, AllocError>
-        requires { AreProviders machines.now providers.now }
-        ensures { IfOk result (IsKindOf machines.now local.now need.now) }
+        requires { KeepsTo machines.now finder.old }
+        ensures kind { IfOk result (IsKindOf machines.now local.now need.now) }
+        ensures kept { KeepsTo machines.now finder.new }
     {
         Ok(Kind {
-            places: providers.eligible_places(alloc, machines, need)?,
+            places: finder.eligible_places(alloc, machines, need)?,
             prefer_local: need.prefer_local,
             local: local_ok(local, need),
         })

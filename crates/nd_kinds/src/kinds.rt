@@ -2,11 +2,11 @@
 
 ghost use Rattle.std.specs.Prelude.{◌≡◌, ◌<◌, ◌+◌, ◌++◌, ◌∷◌, [], All, Some, length, slice_get, IfOk, IfSome, OnOk};
 ghost use Rattle.nd_kinds.specs.Kinds.{AreKinds, number_of, users_of};
-ghost use Rattle.nd_kinds.specs.Providers.{AreProviders};
+ghost use Rattle.nd_kinds.specs.Finding.{KeepsTo};
 ghost use Rattle.nd_kinds.specs.Sharing.{SharesNeed, AddsTo, IsListed, IsOneMore, IsOneMoreOf, AreSoFar};
 
+use crate::finder::Finder;
 use crate::kind::Kind;
-use crate::providers::Providers;
 use crate::sharing::{Known, Marks};
 use nd_eligible::{Local, Need};
 use nd_machines::Machine;
@@ -64,7 +64,7 @@ impl Kinds {
     ) -> Result<Kinds, AllocError>
         ensures { IfOk result (AreKinds machines.now local.now needs.now) }
     {
-        let providers = Providers::new(alloc, machines)?;
+        let mut finder = Finder::new();
         let mut known = Known::new(alloc);
         let mut marks = Marks::new(alloc);
         let mut kinds = Kinds {
@@ -75,7 +75,14 @@ impl Kinds {
         for drv in 0..needs.len() {
             let first = known.meet(needs, drv)?;
             kinds.one_more(
-                alloc, machines, &providers, local, needs, drv, first, &mut marks,
+                alloc,
+                machines,
+                &mut finder,
+                local,
+                needs,
+                drv,
+                first,
+                &mut marks,
             )?;
         }
         Ok(kinds)
@@ -87,24 +94,25 @@ impl Kinds {
     fn one_more<'a>(
         &mut self,
         alloc: Global,
-        machines: &[Machine],
-        providers: &Providers<'a>,
+        machines: &'a [Machine],
+        finder: &mut Finder<'a>,
         local: &Local,
         needs: &'a [Need],
         drv: usize,
         first: Option<usize>,
         marks: &mut Marks,
     ) -> Result<(), AllocError>
-        requires index { AreProviders machines.now providers.now }
+        requires finder { KeepsTo machines.now finder.old }
         requires node { drv < length needs.now }
         requires first { IfSome first (SharesNeed needs.now drv) }
         requires so_far { AreSoFar machines.now local.now needs.now drv self.old }
-        ensures { OnOk result (AreSoFar machines.now local.now needs.now (drv + 1) self.new) }
+        ensures taken { OnOk result (AreSoFar machines.now local.now needs.now (drv + 1) self.new) }
+        ensures kept { KeepsTo machines.now finder.new }
     {
         match first {
             Some(first) => self.join(first),
             None => self.take(
-                Kind::of(alloc, machines, providers, local, &needs[drv])?,
+                Kind::of(alloc, machines, finder, local, &needs[drv])?,
                 marks,
             ),
         }

@@ -90,6 +90,18 @@ impl<'a> Providers<'a> {
         Ok(providers)
     }
 
+    /// How many steps the index of these machines takes: for each feature of each machine as many as it
+    /// takes to look it up among all of them.
+    pub(crate) fn cost(machines: &[Machine]) -> usize {
+        let mut features = 0usize;
+        for machine in machines {
+            features = features
+                .saturating_add(machine.supported().len())
+                .saturating_add(machine.mandatory().len());
+        }
+        features.saturating_mul(bits(features))
+    }
+
     /// Adds the machine at the next place.
     fn add_machine(
         &mut self,
@@ -224,14 +236,22 @@ impl<'a> Providers<'a> {
         }
     }
 
-    /// One of these features, if there are any: for the sake of time one with the fewest machines.
+    /// One of these features, if there are any: for the sake of time one with few machines. It stops once
+    /// the looking has taken as many steps as the rarest so far has machines, so at once at a feature
+    /// that no machine has.
     fn rarest(&self, features: &'a FeatureSet) -> Option<&'a ByteString>
         requires { AreNumbered self.now }
         ensures { IfSome result (λ feature. Contains features.now feature.now) }
     {
+        let steps = bits(self.lists.len());
         let mut rarest = None;
         let mut fewest = usize::MAX;
+        let mut taken = 0usize;
         for feature in features.as_slice() {
+            if taken >= fewest {
+                break;
+            }
+            taken = taken.saturating_add(steps);
             let count = self.count(feature);
             if count < fewest {
                 rarest = Some(feature);
@@ -250,6 +270,11 @@ impl<'a> Providers<'a> {
             None => 0,
         }
     }
+}
+
+/// How many bits this number has: it takes as many steps to look something up among so many.
+fn bits(number: usize) -> usize {
+    (usize::BITS - number.leading_zeros()) as usize
 }
 
 /// The number of a feature's list, if it has one.
