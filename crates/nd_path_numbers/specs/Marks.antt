@@ -1,6 +1,6 @@
--- Flags of the numbers that a list has.
+-- Which numbers a list has, by flags and beyond them by a set.
 -- Private clauses alone cite this.
-use Rattle.std.specs.Prelude.{◌≡◌, ℕ, ◌≤◌, ◌<◌, ◌/◌, ◌%◌, Bool, false, List, length, slice_index_or, ◌==◌}
+use Rattle.std.specs.Prelude.{◌≡◌, ℕ, ◌≤◌, ◌<◌, ◌/◌, ◌%◌, Bool, true, false, List, length, slice_index_or, ◌==◌}
 use Rattle.std.specs.Int.{bit_at}
 use Rattle.nd_path_numbers.specs.Held.{is_among}
 use Rattle.nd_path_numbers.specs.declared.marks.Marks.{Marks}
@@ -9,7 +9,9 @@ use Rattle.nd_path_numbers.specs.declared.marks.Marks.{Marks}
 abbrev pub is_up : List ℕ → ℕ → Bool
 is_up words n = bit_at (slice_index_or words (n / 64) 0) (n % 64) == 1
 
--- each flag is up exactly where the list has its number; where nothing is beyond them, each number of the list has a flag
+-- each flag is up exactly where the list has its number; of the numbers past the flags those in the set are in the list, and no
+-- others are where the set is whole
 pub record AreMarked (numbers : List ℕ) (m : Marks) : Type 0 where
   pub within : (n : ℕ) → n / 64 < length m.words.items → is_up m.words.items n ≡ is_among numbers n
-  pub past : m.beyond ≡ false → (n : ℕ) → length m.words.items ≤ n / 64 → is_among numbers n ≡ false
+  pub others : (n : ℕ) → length m.words.items ≤ n / 64 → is_among m.others.keys n ≡ true → is_among numbers n ≡ true
+  pub whole : m.is_partial ≡ false → (n : ℕ) → length m.words.items ≤ n / 64 → is_among numbers n ≡ is_among m.others.keys n

@@ -4,18 +4,21 @@ ghost use Rattle.std.specs.Prelude.{◌≡◌, ℕ, ◌+◌, ◌<◌, ◌≤◌,
 ghost use Rattle.std.specs.List.{Contains};
 ghost use Rattle.nd_path_numbers.specs.Held.{is_among, hold_of, KeepsOthers, HoldTheSame};
 
-use crate::marks::Marks;
+use crate::marks::{Marks, are_flags_paid};
 use std::alloc::{AllocError, Global};
 use std::marker::Model;
 
-/// Among as many numbers one is looked for without flags.
+/// Among fewer numbers that a search has found one is looked for in their list.
 const FEW: usize = 64;
+
+/// A search doesn't last: a number that it has found pays for so many times the flags that a held one does.
+const FLAGS_OF_A_SEARCH: usize = 4;
 
 /// The numbers of the paths that one machine holds. Contracts see the list of them in the order in which
 /// they came, each once, and beside it the reserved room, of which "equal" and "as before" do not speak.
 ///
-/// Whether a number is held is told by its flag. Numbers past the flags may be held too, and then one that
-/// has no flag is looked for in the list: whoever knows how far the numbers go says so when room is reserved.
+/// Whether a number is held is told by a flag, where the numbers go so far that flags take no more memory than what
+/// is held, and else by a set.
 #[derive(Debug, Drop)]
 pub struct Held {
     numbers: Vec<usize>,
@@ -59,18 +62,35 @@ impl Held {
         ensures room { OnOk result (n ≤ self.new.spare) }
         ensures kept { self.new.numbers ≡ self.old.numbers }
     {
+        self.marks.reserve(n)?;
         self.numbers.reserve(n)
     }
 
-    /// Makes sure that each number below the limit has a flag. The flags at least double, so that over many
-    /// calls the list is walked through as often as it has members, and no more.
-    fn flag_below(&mut self, alloc: Global, limit: usize) -> Result<(), AllocError>
+    /// The same for numbers below a limit: where all of these have flags, none of them takes room in the set.
+    fn reserve_below(&mut self, alloc: Global, n: usize, limit: usize) -> Result<(), AllocError>
+        ensures room { OnOk result (n ≤ self.new.spare) }
+        ensures kept { self.new.numbers ≡ self.old.numbers }
+    {
+        if n > 0 {
+            let paying = self.numbers.len().saturating_add(n);
+            self.flag_below(alloc, paying, limit)?;
+        }
+        if self.marks.limit() < limit {
+            return self.reserve(n);
+        }
+        self.numbers.reserve(n)
+    }
+
+    /// Makes sure that each number below the limit has a flag, where so many numbers pay for them. The flags at
+    /// least double, so that over many calls the list is walked through a few times as often as it has members,
+    /// and no more.
+    fn flag_below(&mut self, alloc: Global, paying: usize, limit: usize) -> Result<(), AllocError>
         ensures { self.new ≡ self.old }
     {
         let flagged = self.marks.limit();
-        if flagged < limit {
+        if flagged < limit && are_flags_paid(paying, limit) {
             let limit = limit.max(flagged.saturating_mul(2));
-            self.marks = Marks::of(alloc, self.numbers.as_slice(), limit)?;
+            self.marks = Marks::with_flags(alloc, self.numbers.as_slice(), limit)?;
         }
         Ok(())
     }
@@ -91,9 +111,19 @@ impl Held {
     }
 }
 
-/// What a search finds is kept in the same way.
+/// What a search finds is kept in the same way, and while it is little in the list alone.
 impl Held {
-    /// Adds a number below the limit, where it isn't among them. While there are few, none has a flag.
+    /// Nothing is found yet. It takes no memory.
+    pub(crate) fn nothing(alloc: Global) -> Held
+        ensures { result.numbers ≡ [] }
+    {
+        Held {
+            numbers: Vec::new(alloc),
+            marks: Marks::none(alloc),
+        }
+    }
+
+    /// Adds a number below the limit, where it isn't among them.
     pub(crate) fn find(
         &mut self,
         alloc: Global,
@@ -103,9 +133,21 @@ impl Held {
         ensures { OnOk result (self.new.numbers ≡ (if is_among self.old.numbers number then self.old.numbers else self.old.numbers ++ number ∷ [])) }
     {
         if self.numbers.len() >= FEW {
-            self.flag_below(alloc, limit)?;
+            self.mark_many(alloc, limit)?;
         }
         self.add(number)?;
+        Ok(())
+    }
+
+    /// Makes sure that flags or a set tell of all that was found.
+    fn mark_many(&mut self, alloc: Global, limit: usize) -> Result<(), AllocError>
+        ensures { self.new ≡ self.old }
+    {
+        let paying = self.numbers.len().saturating_mul(FLAGS_OF_A_SEARCH);
+        self.flag_below(alloc, paying, limit)?;
+        if self.marks.is_partial() {
+            self.marks = Marks::with_set(alloc, self.numbers.as_slice())?;
+        }
         Ok(())
     }
 
@@ -142,12 +184,19 @@ impl Held {
     }
 }
 
+/// A copy of these numbers.
+fn copy_of(numbers: &Vec<usize>) -> Result<Vec<usize>, AllocError>
+    ensures { IfOk result (λ copy. copy.items ≡ numbers.now.items) }
+{
+    numbers.clone()
+}
+
 impl Clone for Held {
     ghost is_clone = { λ h k. k.numbers ≡ h.numbers };
 
     fn clone(&self) -> Result<Held, AllocError> {
         Ok(Held {
-            numbers: self.numbers.clone()?,
+            numbers: copy_of(&self.numbers)?,
             marks: self.marks.try_clone()?,
         })
     }
@@ -192,8 +241,8 @@ impl Holdings {
         self.machines[m].reserve(n)
     }
 
-    /// The same where it is known that the numbers to come are below a limit: each number below it gets a flag,
-    /// so that whether it is held is one look-up. Where no path is to come, no memory is taken.
+    /// The same where it is known that the numbers to come are below a limit. Where enough is held to pay for a flag
+    /// for each number below it, whether one is held is one look-up from then on.
     pub fn reserve_below(
         &mut self,
         alloc: Global,
@@ -206,10 +255,7 @@ impl Holdings {
         ensures kept { (hold_of self.new m).numbers ≡ (hold_of self.old m).numbers }
         ensures others { KeepsOthers self.old self.new m }
     {
-        if n > 0 {
-            self.machines[m].flag_below(alloc, limit)?;
-        }
-        self.reserve(m, n)
+        self.machines[m].reserve_below(alloc, n, limit)
     }
 
     /// Adds a path to those that machine `m` holds, and says whether it was new there. Within reserved

@@ -1,20 +1,30 @@
-//! Which numbers a list has, as flags.
+//! Which numbers a list has, told by flags and beyond them by a set.
 
-ghost use Rattle.std.specs.Prelude.{◌≡◌, ℕ, List, ◌∷◌, ◌++◌, [], true, IfOk, MatchOption};
+ghost use Rattle.std.specs.Prelude.{◌≡◌, ◌≤◌, ◌/◌, ℕ, List, ◌∷◌, ◌++◌, [], true, length, IfOk, MatchOption};
 ghost use Rattle.nd_path_numbers.specs.Held.{is_among};
 ghost use Rattle.nd_path_numbers.specs.Marks.{AreMarked};
 
+use indexmap::IndexSet;
 use std::alloc::{AllocError, Global};
 
 /// How many flags a word has.
 const WORD: usize = 64;
 
-/// A flag for each number below a limit, 64 in a word: it is up where a list has the number. The list may
-/// have others too, past the limit; whether it does is kept beside the flags.
+/// How many flags there may be for a number of the list: as many take no more memory than a number takes in a set.
+const FLAGS_A_NUMBER: usize = 128;
+
+/// Whether flags for all numbers below a limit are no more than so many numbers of a list pay for.
+pub(crate) fn are_flags_paid(numbers: usize, limit: usize) -> bool {
+    limit / FLAGS_A_NUMBER <= numbers
+}
+
+/// A flag for each number below a limit, 64 in a word: it is up where a list has the number. What else the list
+/// has, past the limit, is in a set, or in part where it had no memory for more.
 #[derive(Debug, Drop)]
 pub(crate) struct Marks {
     words: Vec<u64>,
-    beyond: bool,
+    others: IndexSet<usize>,
+    is_partial: bool,
 }
 
 impl Marks {
@@ -24,18 +34,47 @@ impl Marks {
     {
         Marks {
             words: Vec::new(alloc),
-            beyond: false,
+            others: IndexSet::new(alloc),
+            is_partial: false,
+        }
+    }
+
+    /// Marks that tell of no number, for a list that is short. They take no memory.
+    pub(crate) fn none(alloc: Global) -> Marks
+        ensures { AreMarked [] result }
+    {
+        Marks {
+            words: Vec::new(alloc),
+            others: IndexSet::new(alloc),
+            is_partial: true,
         }
     }
 
     /// The marks of a list, with a flag for each number below the limit.
-    pub(crate) fn of(alloc: Global, numbers: &[usize], limit: usize) -> Result<Marks, AllocError>
+    pub(crate) fn with_flags(
+        alloc: Global,
+        numbers: &[usize],
+        limit: usize,
+    ) -> Result<Marks, AllocError>
         ensures { IfOk result (AreMarked numbers.now) }
     {
         let mut marks = Marks {
             words: vec![in alloc; 0; limit / WORD + 1]?,
-            beyond: false,
+            others: IndexSet::new(alloc),
+            is_partial: false,
         };
+        for number in numbers {
+            marks.note(*number);
+        }
+        Ok(marks)
+    }
+
+    /// The marks of a list without flags.
+    pub(crate) fn with_set(alloc: Global, numbers: &[usize]) -> Result<Marks, AllocError>
+        ensures { IfOk result (AreMarked numbers.now) }
+    {
+        let mut marks = Marks::new(alloc);
+        marks.others.reserve(numbers.len())?;
         for number in numbers {
             marks.note(*number);
         }
@@ -47,7 +86,20 @@ impl Marks {
         self.words.len().saturating_mul(WORD)
     }
 
-    /// Takes note of one more number of the list. It takes no memory.
+    /// Whether there may be numbers of the list of which the marks don't tell.
+    pub(crate) fn is_partial(&self) -> bool {
+        self.is_partial
+    }
+
+    /// Makes room for so many numbers without a flag.
+    pub(crate) fn reserve(&mut self, count: usize) -> Result<(), AllocError>
+        ensures { (numbers : List ℕ) → AreMarked numbers self.old → AreMarked numbers self.new }
+    {
+        self.others.reserve(count)
+    }
+
+    /// Takes note of one more number of the list. Of one that has a flag, or that room was made for, it takes no
+    /// memory; without memory for another it is left out, and the marks don't tell of it.
     pub(crate) fn note(&mut self, number: usize)
         ensures { (numbers : List ℕ) → AreMarked numbers self.old → AreMarked (numbers ++ number ∷ []) self.new }
     {
@@ -55,27 +107,70 @@ impl Marks {
         if place < self.words.len() {
             self.words[place] |= 1 << (number % WORD);
         } else {
-            self.beyond = true;
+            self.note_other(number);
+        }
+    }
+
+    /// Takes note of one that has no flag.
+    fn note_other(&mut self, number: usize)
+        requires { length self.old.words.items ≤ number / 64 }
+        ensures { (numbers : List ℕ) → AreMarked numbers self.old → AreMarked (numbers ++ number ∷ []) self.new }
+    {
+        if self.is_partial {
+            return;
+        }
+        if self.others.insert(number).is_err() {
+            self.is_partial = true;
         }
     }
 
     /// Whether the list has this number, where the marks tell. It takes no memory.
     pub(crate) fn tell(&self, number: usize) -> Option<bool>
-        ensures { MatchOption result (self.now.beyond ≡ true) (λ has. (numbers : List ℕ) → AreMarked numbers self.now → has ≡ is_among numbers number) }
+        ensures { MatchOption result (self.now.is_partial ≡ true) (λ has. (numbers : List ℕ) → AreMarked numbers self.now → has ≡ is_among numbers number) }
     {
         match self.words.get(number / WORD) {
             Some(word) => Some(*word >> (number % WORD) & 1 == 1),
-            None => { if self.beyond { None } else { Some(false) } }
+            None => self.tell_other(number),
         }
     }
 
+    /// The same of one that has no flag.
+    fn tell_other(&self, number: usize) -> Option<bool>
+        requires { length self.now.words.items ≤ number / 64 }
+        ensures { MatchOption result (self.now.is_partial ≡ true) (λ has. (numbers : List ℕ) → AreMarked numbers self.now → has ≡ is_among numbers number) }
+    {
+        if self.others.contains(&number) {
+            return Some(true);
+        }
+        if self.is_partial {
+            return None;
+        }
+        Some(false)
+    }
+
+    /// A copy of the flags.
+    fn words_again(&self) -> Result<Vec<u64>, AllocError>
+        ensures { IfOk result (λ words. words.items ≡ self.now.words.items) }
+    {
+        self.words.clone()
+    }
+
+    /// A copy of the set.
+    fn others_again(&self) -> Result<IndexSet<usize>, AllocError>
+        ensures { IfOk result (λ others. others.keys ≡ self.now.others.keys) }
+    {
+        self.others.clone()
+    }
+
     /// Equal marks.
+    #[tactic(auto, using(crate::proofs::Marking::alike))]
     pub(crate) fn try_clone(&self) -> Result<Marks, AllocError>
         ensures { IfOk result (λ copy. (numbers : List ℕ) → AreMarked numbers self.now → AreMarked numbers copy) }
     {
         Ok(Marks {
-            words: self.words.clone()?,
-            beyond: self.beyond,
+            words: self.words_again()?,
+            others: self.others_again()?,
+            is_partial: self.is_partial,
         })
     }
 }

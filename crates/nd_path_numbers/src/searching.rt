@@ -57,7 +57,7 @@ fn search(
     ensures { IfOk result (λ s. AreUnheld numbers.now.rows held.now.numbers seeds.now s.numbers) }
 {
     let known = numbers.len();
-    let mut found = Held::new(alloc);
+    let mut found = Held::nothing(alloc);
     add_unheld(alloc, &mut found, seeds, held, known)?;
     // A list has fewer members than the counter has values, so the search ends at the `break`.
     for next in 0..usize::MAX {

@@ -8,7 +8,7 @@ use Rattle.nd_path_numbers.proofs.searching.search.Goals.{else-loop-next-test, t
 pub loop-next-init : goal.loop-next-init
 loop-next-init c =
     begun c.args.numbers.now.rows c.args.held.now.numbers c.args.seeds.now c.add_unheld.new.found.numbers
-    (subst (λ (xs : List ℕ). AddsUnheld c.args.held.now.numbers xs c.add_unheld.new.found.numbers c.args.seeds.now) c.new-found.ensures c.in_ok-add_unheld.ensures.only)
+    (subst (λ (xs : List ℕ). AddsUnheld c.args.held.now.numbers xs c.add_unheld.new.found.numbers c.args.seeds.now) c.nothing-found.ensures c.in_ok-add_unheld.ensures.only)
     c.in_ok-add_unheld.ensures.all
 
 pub loop-next-preserved : goal.loop-next-preserved
