@@ -10,7 +10,7 @@ ghost use Rattle.nd_provision.specs.Stored.{AreNeededIn, AreSeedsIn, IsSeedRow};
 
 use crate::copying::add_copies;
 use nd_bytes::Items;
-use nd_graph::Graph;
+use nd_graph::{Graph, Input};
 use nd_path::StorePath;
 use nd_path_numbers::PathNumbers;
 use std::alloc::{AllocError, Global};
@@ -77,13 +77,22 @@ fn seed_row(
     learn_graph(graph);
     let sources = graph.sources(drv);
     let inputs = graph.inputs(drv);
-    let mut row = Vec::with_capacity(alloc, sources.len() + inputs.len())?;
+    let mut row = Vec::with_capacity(alloc, count_needed(sources, inputs))?;
     add_numbers(alloc, numbers, &mut row, sources)?;
     for input in inputs {
         let outputs = graph.outputs(input.node);
         add_numbers_at(alloc, numbers, &mut row, outputs, input.outputs.as_slice())?;
     }
     Ok(Items::new(row))
+}
+
+/// How many paths these sources and the outputs that inputs name are.
+fn count_needed(sources: &[StorePath], inputs: &[Input]) -> usize {
+    let mut count = sources.len();
+    for input in inputs {
+        count = count.saturating_add(input.outputs.as_slice().len());
+    }
+    count
 }
 
 /// Appends the numbers of these paths.
