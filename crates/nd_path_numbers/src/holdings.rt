@@ -49,13 +49,21 @@ impl Held {
     }
 
     /// Whether the path with this number is held. It takes no memory.
+    #[inline(always)]
     pub fn contains(&self, number: usize) -> bool
         ensures { IsTrue result ↔ Contains self.now.numbers number }
     {
         match self.marks.tell(number) {
             Some(held) => held,
-            None => self.numbers.as_slice().contains(&number),
+            None => self.is_listed(number),
         }
+    }
+
+    /// The same by a look through the list.
+    fn is_listed(&self, number: usize) -> bool
+        ensures { IsTrue result ↔ Contains self.now.numbers number }
+    {
+        self.numbers.as_slice().contains(&number)
     }
 
     fn reserve(&mut self, n: usize) -> Result<(), AllocError>
@@ -81,17 +89,25 @@ impl Held {
         self.numbers.reserve(n)
     }
 
-    /// Makes sure that each number below the limit has a flag, where so many numbers pay for them. The flags at
-    /// least double, so that over many calls the list is walked through a few times as often as it has members,
-    /// and no more.
+    /// Makes sure that each number below the limit has a flag, where so many numbers pay for them.
+    #[inline(always)]
     fn flag_below(&mut self, alloc: Global, paying: usize, limit: usize) -> Result<(), AllocError>
         ensures { self.new ≡ self.old }
     {
-        let flagged = self.marks.limit();
-        if flagged < limit && are_flags_paid(paying, limit) {
-            let limit = limit.max(flagged.saturating_mul(2));
-            self.marks = Marks::with_flags(alloc, self.numbers.as_slice(), limit)?;
+        if self.marks.limit() < limit && are_flags_paid(paying, limit) {
+            self.flag_anew(alloc, limit)?;
         }
+        Ok(())
+    }
+
+    /// Gives each number below the limit a flag. The flags at least double, so that over many calls the list is
+    /// walked through a few times as often as it has members, and no more.
+    #[inline(never)]
+    fn flag_anew(&mut self, alloc: Global, limit: usize) -> Result<(), AllocError>
+        ensures { self.new ≡ self.old }
+    {
+        let limit = limit.max(self.marks.limit().saturating_mul(2));
+        self.marks = Marks::with_flags(alloc, self.numbers.as_slice(), limit)?;
         Ok(())
     }
 
@@ -132,10 +148,23 @@ impl Held {
     ) -> Result<(), AllocError>
         ensures { OnOk result (self.new.numbers ≡ (if is_among self.old.numbers number then self.old.numbers else self.old.numbers ++ number ∷ [])) }
     {
-        if self.numbers.len() >= FEW {
-            self.mark_many(alloc, limit)?;
+        if self.numbers.len() < FEW {
+            return self.find_early(number);
         }
+        self.mark_many(alloc, limit)?;
         self.add(number)?;
+        Ok(())
+    }
+
+    /// Adds a number to a short list, where it isn't among them.
+    fn find_early(&mut self, number: usize) -> Result<(), AllocError>
+        ensures { OnOk result (self.new.numbers ≡ (if is_among self.old.numbers number then self.old.numbers else self.old.numbers ++ number ∷ [])) }
+    {
+        if self.is_listed(number) {
+            return Ok(());
+        }
+        self.numbers.push(number)?;
+        self.marks.note(number);
         Ok(())
     }
 

@@ -82,11 +82,13 @@ impl Marks {
     }
 
     /// The first number that has no flag.
+    #[inline(always)]
     pub(crate) fn limit(&self) -> usize {
         self.words.len().saturating_mul(WORD)
     }
 
     /// Whether there may be numbers of the list of which the marks don't tell.
+    #[inline(always)]
     pub(crate) fn is_partial(&self) -> bool {
         self.is_partial
     }
@@ -100,6 +102,7 @@ impl Marks {
 
     /// Takes note of one more number of the list. Of one that has a flag, or that room was made for, it takes no
     /// memory; without memory for another it is left out, and the marks don't tell of it.
+    #[inline(always)]
     pub(crate) fn note(&mut self, number: usize)
         ensures { (numbers : List ℕ) → AreMarked numbers self.old → AreMarked (numbers ++ number ∷ []) self.new }
     {
@@ -112,6 +115,7 @@ impl Marks {
     }
 
     /// Takes note of one that has no flag.
+    #[inline(never)]
     fn note_other(&mut self, number: usize)
         requires { length self.old.words.items ≤ number / 64 }
         ensures { (numbers : List ℕ) → AreMarked numbers self.old → AreMarked (numbers ++ number ∷ []) self.new }
@@ -125,6 +129,7 @@ impl Marks {
     }
 
     /// Whether the list has this number, where the marks tell. It takes no memory.
+    #[inline(always)]
     pub(crate) fn tell(&self, number: usize) -> Option<bool>
         ensures { MatchOption result (self.now.is_partial ≡ true) (λ has. (numbers : List ℕ) → AreMarked numbers self.now → has ≡ is_among numbers number) }
     {
@@ -135,6 +140,7 @@ impl Marks {
     }
 
     /// The same of one that has no flag.
+    #[inline(never)]
     fn tell_other(&self, number: usize) -> Option<bool>
         requires { length self.now.words.items ≤ number / 64 }
         ensures { MatchOption result (self.now.is_partial ≡ true) (λ has. (numbers : List ℕ) → AreMarked numbers self.now → has ≡ is_among numbers number) }
