@@ -299,10 +299,10 @@ ready_marked i past p legal was d ready = record {
 pub ready_both : (i : Premises) (past : List Entry) (p : Progress) → IsLegal i past → AreMarked i past p → (d : ℕ) → board.IsReady p d ↔ IsReady i past d
 ready_both i past p legal was d = (ready_said i past p legal was d, ready_marked i past p legal was d)
 
--- what a test of the board denies, the history denies
-pub unready_told : (i : Premises) (past : List Entry) (p : Progress) → IsLegal i past → AreMarked i past p → (d : ℕ) (b : Bool) → MatchBool b (board.IsReady p d) (board.IsReady p d → ⊥) → b ≡ false → IsReady i past d → ⊥
-unready_told i past p legal was d true h is = cc
-unready_told i past p legal was d false h is = λ ready. h ((ready_both i past p legal was d).1 ready)
+-- what a test of the board says, the history says
+pub ready_told : (i : Premises) (past : List Entry) (p : Progress) → IsLegal i past → AreMarked i past p → (d : ℕ) (b : Bool) → MatchBool b (board.IsReady p d) (board.IsReady p d → ⊥) → (b ≡ true) ↔ IsReady i past d
+ready_told i past p legal was d true h = (λ is. (ready_both i past p legal was d).0 h, λ ready. refl)
+ready_told i past p legal was d false h = (λ is. absurd (let no_way : ⊥ = cc in no_way), λ ready. absurd (h ((ready_both i past p legal was d).1 ready)))
 
 -- a derivation has its place on the board
 pub on_board : (i : Premises) (past : List Entry) (p : Progress) (d : ℕ) → AreMarked i past p → d < drvs_in i → d < length p.inputs

@@ -16,7 +16,7 @@ use Rattle.nd_history.specs.Standing.{drvs_in, IsReady}
 use Rattle.nd_history.specs.Choices.{HasDecision, IsBestFor}
 use Rattle.nd_history.specs.References.{AreReferencesRight}
 use Rattle.nd_history.specs.Legal.{IsInRange, IsPlaceFor, IsLeastFree, IsAllowed}
-use Rattle.nd_history.specs.Audit.{code_of, IsSupplied, Passes, IsFirstRule, RulesDecide}
+use Rattle.nd_history.specs.Audit.{code_of, IsSupplied, Passes, IsFirstForAny, IsFirstRule, RulesDecide}
 use Rattle.nd_history.proofs.OneChoice.{decision_once, remote_best, best_for_once}
 use Rattle.nd_history.proofs.Provisions.{leased_by}
 
@@ -230,6 +230,18 @@ given_up_early i past d decision ranged ready decided other = record {
   earlier = given_up_earlier i past d 3 ranged (λ h. ready) (omega arith);
   refuses = λ pass. other (decision_once i past d NobodyBuilds decision pass decided);
 }
+
+-- ---- what isn't ready
+
+-- nothing may be said of a derivation that isn't ready
+pub any_unready : (i : Premises) (past : List Entry) (d : ℕ) → d < drvs_in i → (IsReady i past d → ⊥) → IsFirstForAny i past d Ready
+any_unready i past d ranged out = record { choice = λ m s there. chosen_unready i past d m s there out; word = given_up_unready i past d ranged out }
+
+pub any_choice : (i : Premises) (past : List Entry) (d m s : ℕ) (rule : Rule) → IsFirstForAny i past d rule → IsInRange i (Chosen d m s) → IsFirstRule i past (Chosen d m s) rule
+any_choice i past d m s rule any there = any.choice m s there
+
+pub any_given_up : (i : Premises) (past : List Entry) (d : ℕ) (rule : Rule) → IsFirstForAny i past d rule → IsFirstRule i past (NoBuilder d) rule
+any_given_up i past d rule any = any.word
 
 -- ---- starts, ends and stops
 

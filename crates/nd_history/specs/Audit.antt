@@ -74,6 +74,11 @@ pub record IsFirstRule (i : Premises) (past : List Entry) (e : Entry) (rule : Ru
   pub earlier : (other : Rule) → code_of other < code_of rule → Passes i past e other
   pub refuses : Passes i past e rule → ⊥
 
+-- the rule is the first that refuses each choice for d that is in range, and the word that nothing can build d
+pub record IsFirstForAny (i : Premises) (past : List Entry) (d : ℕ) (rule : Rule) : Type 0 where
+  pub choice : (m s : ℕ) → IsInRange i (Chosen d m s) → IsFirstRule i past (Chosen d m s) rule
+  pub word : IsFirstRule i past (NoBuilder d) rule
+
 -- a test of the entry says that it is allowed, or names the first rule that refuses it
 abbrev pub IsJudged : {T : Type 0} → Premises → List Entry → Entry → Result T Rule → Type 0
 IsJudged i past e answer = MatchResult answer (λ _. IsAllowed i e past) (IsFirstRule i past e)

@@ -1,13 +1,13 @@
 //! Which rule refuses an entry.
 
-ghost use Rattle.std.specs.Prelude.{◌≡◌, ◌+◌, ◌<◌, ◌≤◌, ◌↔◌, IsTrue, length, reverse};
+ghost use Rattle.std.specs.Prelude.{◌≡◌, ◌+◌, ◌<◌, ◌≤◌, ◌↔◌, IfErr, IsTrue, OnOk, length, reverse};
 ghost use Rattle.nd_history.specs.Premises.{premises_of};
 ghost use Rattle.nd_history.specs.Standing.{drvs_in, IsReady};
 ghost use Rattle.nd_history.specs.Choices.{machines_in, jobs_of, HasDecision};
 ghost use Rattle.nd_history.specs.Legal.{IsInRange, IsLeastFree};
 ghost use Rattle.nd_history.specs.Fitting.{FitTogether};
 ghost use Rattle.nd_history.specs.Marks.{AreMarked};
-ghost use Rattle.nd_history.specs.Audit.{IsJudged, IsSlotJudged};
+ghost use Rattle.nd_history.specs.Audit.{IsFirstForAny, IsJudged, IsSlotJudged};
 
 use crate::book::Book;
 use crate::deciding::decide_now;
@@ -95,8 +95,36 @@ fn check_slot(book: &Book, machine: u32, slot: u32) -> Result<(), Rule>
     }
 }
 
-/// Tests the choice of a slot for a derivation that is ready and about which this is decided.
-fn judge_ready_choice(
+/// Whether the derivation is ready, as the board says, which alone is asked.
+#[tactic(auto, using(crate::proofs::Boards::on_board))]
+fn is_ready(inputs: &Inputs, book: &Book, board: &Board, drv: u32) -> bool
+    requires fit { FitTogether (premises_of inputs.now) book.now }
+    requires marked { AreMarked (premises_of inputs.now) (reverse book.now.entries) board.now }
+    requires ranged { drv < drvs_in (premises_of inputs.now) }
+    ensures { IsTrue result ↔ IsReady (premises_of inputs.now) (reverse book.now.entries) drv }
+{
+    board.is_ready(drv as usize)
+}
+
+/// Refuses with `Ready` a derivation, which is there, that isn't ready: nothing is chosen for it then, and it
+/// isn't given up. The board alone is asked, and nothing is decided. It takes no memory.
+#[tactic(auto, using(crate::proofs::Rules::any_unready))]
+pub fn check_ready(inputs: &Inputs, book: &Book, board: &Board, drv: u32) -> Result<(), Rule>
+    requires fit { FitTogether (premises_of inputs.now) book.now }
+    requires marked { AreMarked (premises_of inputs.now) (reverse book.now.entries) board.now }
+    requires ranged { drv < drvs_in (premises_of inputs.now) }
+    ensures ready { OnOk result (IsReady (premises_of inputs.now) (reverse book.now.entries) drv) }
+    ensures unready { IfErr result (IsFirstForAny (premises_of inputs.now) (reverse book.now.entries) drv) }
+{
+    if !is_ready(inputs, book, board, drv) {
+        return Err(Rule::Ready);
+    }
+    Ok(())
+}
+
+/// Tests the choice of a slot for a derivation that is ready and about which this is decided: it is refused
+/// with the first rule that it breaks. It takes no memory.
+pub fn judge_ready_choice(
     inputs: &Inputs,
     book: &Book,
     decision: Decision,
@@ -133,7 +161,7 @@ fn judge_ready_choice(
 
 /// Tests the choice of a slot, all that it names being there, where this is decided about the derivation
 /// if it is ready: it is refused with the first rule that it breaks. It takes no memory.
-#[tactic(auto, using(crate::proofs::Boards::unready_told, crate::proofs::Boards::on_board))]
+#[tactic(auto, using(crate::proofs::Rules::any_choice))]
 pub fn judge_choice(
     inputs: &Inputs,
     book: &Book,
@@ -149,13 +177,14 @@ pub fn judge_choice(
     requires decided { HasDecision (premises_of inputs.now) (reverse book.now.entries) drv decision }
     ensures { IsJudged (premises_of inputs.now) (reverse book.now.entries) (Entry.Chosen drv machine slot) result }
 {
-    if !board.is_ready(drv as usize) {
-        return Err(Rule::Ready);
+    match check_ready(inputs, book, board, drv) {
+        Ok(()) => judge_ready_choice(inputs, book, decision, drv, machine, slot),
+        Err(rule) => Err(rule),
     }
-    judge_ready_choice(inputs, book, decision, drv, machine, slot)
 }
 
-/// As [`judge_choice`], and decides about the derivation by a walk over all machines.
+/// As [`judge_choice`], and decides about the derivation, where it is ready, by a walk over all machines.
+#[tactic(auto, using(crate::proofs::Rules::any_choice))]
 pub fn check_choice(
     inputs: &Inputs,
     book: &Book,
@@ -169,12 +198,18 @@ pub fn check_choice(
     requires ranged { IsInRange (premises_of inputs.now) (Entry.Chosen drv machine slot) }
     ensures { IsJudged (premises_of inputs.now) (reverse book.now.entries) (Entry.Chosen drv machine slot) result }
 {
-    let decision = decide_now(inputs, book, drv as usize);
-    judge_choice(inputs, book, board, decision, drv, machine, slot)
+    match check_ready(inputs, book, board, drv) {
+        Ok(()) => {
+            let decision = decide_now(inputs, book, drv as usize);
+            judge_ready_choice(inputs, book, decision, drv, machine, slot)
+        }
+        Err(rule) => Err(rule),
+    }
 }
 
-/// Tests the word that nothing can build a derivation that is ready and about which this is decided.
-fn judge_ready_no_builder(
+/// Tests the word that nothing can build a derivation that is ready and about which this is decided: it is
+/// refused with the first rule that it breaks. It takes no memory.
+pub fn judge_ready_no_builder(
     inputs: &Inputs,
     book: &Book,
     decision: Decision,
@@ -195,7 +230,7 @@ fn judge_ready_no_builder(
 
 /// Tests the word that nothing can build a derivation, which is there, where this is decided about it if it is
 /// ready: it is refused with the first rule that it breaks. It takes no memory.
-#[tactic(auto, using(crate::proofs::Boards::unready_told, crate::proofs::Boards::on_board))]
+#[tactic(auto, using(crate::proofs::Rules::any_given_up))]
 pub fn judge_no_builder(
     inputs: &Inputs,
     book: &Book,
@@ -209,19 +244,25 @@ pub fn judge_no_builder(
     requires decided { HasDecision (premises_of inputs.now) (reverse book.now.entries) drv decision }
     ensures { IsJudged (premises_of inputs.now) (reverse book.now.entries) (Entry.NoBuilder drv) result }
 {
-    if !board.is_ready(drv as usize) {
-        return Err(Rule::Ready);
+    match check_ready(inputs, book, board, drv) {
+        Ok(()) => judge_ready_no_builder(inputs, book, decision, drv),
+        Err(rule) => Err(rule),
     }
-    judge_ready_no_builder(inputs, book, decision, drv)
 }
 
-/// As [`judge_no_builder`], and decides about the derivation by a walk over all machines.
+/// As [`judge_no_builder`], and decides about the derivation, where it is ready, by a walk over all machines.
+#[tactic(auto, using(crate::proofs::Rules::any_given_up))]
 pub fn check_no_builder(inputs: &Inputs, book: &Book, board: &Board, drv: u32) -> Result<(), Rule>
     requires fit { FitTogether (premises_of inputs.now) book.now }
     requires marked { AreMarked (premises_of inputs.now) (reverse book.now.entries) board.now }
     requires ranged { drv < drvs_in (premises_of inputs.now) }
     ensures { IsJudged (premises_of inputs.now) (reverse book.now.entries) (Entry.NoBuilder drv) result }
 {
-    let decision = decide_now(inputs, book, drv as usize);
-    judge_no_builder(inputs, book, board, decision, drv)
+    match check_ready(inputs, book, board, drv) {
+        Ok(()) => {
+            let decision = decide_now(inputs, book, drv as usize);
+            judge_ready_no_builder(inputs, book, decision, drv)
+        }
+        Err(rule) => Err(rule),
+    }
 }

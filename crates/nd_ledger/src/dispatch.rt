@@ -29,7 +29,7 @@ use nd_closure::{RefTable, Refs};
 use nd_eligible::Local;
 use nd_failure::{Board, Counts, Status};
 use nd_graph::Graph;
-use nd_history::auditing::{is_in_range, judge_choice, judge_no_builder};
+use nd_history::auditing::{check_ready, is_in_range, judge_ready_choice, judge_ready_no_builder};
 use nd_history::book::Book;
 use nd_history::entry::{Entry, Why};
 use nd_history::inputs::{Inputs, Parts};
@@ -402,6 +402,9 @@ impl Dispatch {
         ensures err { OnErr result (self.new ≡ self.old) }
     {
         let inputs = &self.inputs;
+        if let Err(rule) = check_ready(inputs, &self.book, &self.board, drv) {
+            return Err(AdmitError::Illegal(rule));
+        }
         let decision = decide_by_kind_in(
             inputs,
             &self.book,
@@ -409,15 +412,7 @@ impl Dispatch {
             &mut self.vacancies,
             drv as usize,
         );
-        if let Err(rule) = judge_choice(
-            inputs,
-            &self.book,
-            &self.board,
-            decision,
-            drv,
-            machine,
-            slot,
-        ) {
+        if let Err(rule) = judge_ready_choice(inputs, &self.book, decision, drv, machine, slot) {
             return Err(AdmitError::Illegal(rule));
         }
         record_step(
@@ -431,6 +426,7 @@ impl Dispatch {
     }
 
     /// Records the word that nothing can build a derivation if it is legal.
+    #[tactic(auto, using(crate::proofs::Admitting::free_allowed))]
     fn admit_no_builder(&mut self, drv: u32) -> Result<(), AdmitError>
         requires { drv < drvs_in self.old.inputs }
         ensures ok { OnOk result (self.new ≡ record self.old { history = self.old.history ++ Entry.NoBuilder drv ∷ [] }) }
@@ -438,6 +434,9 @@ impl Dispatch {
         ensures err { OnErr result (self.new ≡ self.old) }
     {
         let inputs = &self.inputs;
+        if let Err(rule) = check_ready(inputs, &self.book, &self.board, drv) {
+            return Err(AdmitError::Illegal(rule));
+        }
         let decision = decide_by_kind_in(
             inputs,
             &self.book,
@@ -445,7 +444,7 @@ impl Dispatch {
             &mut self.vacancies,
             drv as usize,
         );
-        if let Err(rule) = judge_no_builder(inputs, &self.book, &self.board, decision, drv) {
+        if let Err(rule) = judge_ready_no_builder(inputs, &self.book, decision, drv) {
             return Err(AdmitError::Illegal(rule));
         }
         record_step(

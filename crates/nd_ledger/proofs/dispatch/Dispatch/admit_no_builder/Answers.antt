@@ -9,11 +9,11 @@ use Rattle.nd_ledger.proofs.dispatch.Dispatch.admit_no_builder.Goals as goal
 pub record_step-requires-clause-can : goal.record_step-requires-clause-can
 record_step-requires-clause-can c =
     let d = c.self.inside in
-    can_follow (premises_of d.inputs) (reverse d.book.entries) d.board (NoBuilder c.args.drv) c.self.invariant.legal c.self.invariant.marked c.in_default.ensures
+    can_follow (premises_of d.inputs) (reverse d.book.entries) d.board (NoBuilder c.args.drv) c.self.invariant.legal c.self.invariant.marked c.in_default-judge_ready_no_builder.ensures
 
 pub invariant_of-self-2 : goal.invariant_of-self-2
 invariant_of-self-2 c =
-    kept_step (record c.self.inside { vacancies = c.decide_by_kind_in-decision.new.vacancies }) c.record_step.new.book c.record_step.new.board c.record_step.new.turns c.record_step.new.vacancies (NoBuilder c.args.drv) c.in_ok-record_step.ensures.ok (kept_vacancies c.self.inside c.decide_by_kind_in-decision.new.vacancies c.decide_by_kind_in-decision.ensures.vacant c.self.invariant) c.in_default.ensures refl
+    kept_step (record c.self.inside { vacancies = c.decide_by_kind_in-decision.new.vacancies }) c.record_step.new.book c.record_step.new.board c.record_step.new.turns c.record_step.new.vacancies (NoBuilder c.args.drv) c.in_ok-record_step.ensures.ok (kept_vacancies c.self.inside c.decide_by_kind_in-decision.new.vacancies c.decide_by_kind_in-decision.ensures.vacant c.self.invariant) c.in_default-judge_ready_no_builder.ensures refl
 
 pub record_step-requires-clause-turn : goal.record_step-requires-clause-turn
-record_step-requires-clause-turn c = can_turn (record c.self.inside { vacancies = c.decide_by_kind_in-decision.new.vacancies }) (NoBuilder c.args.drv) (kept_vacancies c.self.inside c.decide_by_kind_in-decision.new.vacancies c.decide_by_kind_in-decision.ensures.vacant c.self.invariant) c.in_default.ensures
+record_step-requires-clause-turn c = can_turn (record c.self.inside { vacancies = c.decide_by_kind_in-decision.new.vacancies }) (NoBuilder c.args.drv) (kept_vacancies c.self.inside c.decide_by_kind_in-decision.new.vacancies c.decide_by_kind_in-decision.ensures.vacant c.self.invariant) c.in_default-judge_ready_no_builder.ensures
