@@ -7,29 +7,15 @@ ghost use Rattle.nd_history.specs.Premises.{premises_of};
 ghost use Rattle.nd_kinds.specs.Kinds.{AreKinds};
 ghost use Rattle.nd_pump.specs.Vacancies.{AreVacant};
 
-use crate::deciding::{decide_kind, decide_kind_in, reply_kind};
+use crate::deciding::{decide_kind_in, reply_kind};
 use crate::turns::Turns;
 use crate::vacancies::Vacancies;
 use nd_history::book::Book;
 use nd_history::inputs::Inputs;
 use nd_hook::{Decision, Reply};
 
-/// The decision about derivation `drv`, found among the machines of its kind alone. It takes no memory.
-pub fn decide_by_kind(inputs: &Inputs, book: &Book, turns: &Turns, drv: usize) -> Decision
-    requires sound { IsSound inputs.now.graph }
-    requires node { drv < length inputs.now.graph.paths }
-    requires park { book.now.machines ≡ length inputs.now.machines + 1 }
-    requires kinds { AreKinds inputs.now.machines inputs.now.local inputs.now.graph.needs turns.now.kinds }
-    ensures { HasDecision (premises_of inputs.now) (reverse book.now.entries) drv result }
-{
-    // For the proof: what is decided about the kind is decided about each derivation with this need.
-    let _need = inputs.graph.need(drv);
-    let kind = turns.kind(drv);
-    decide_kind(inputs, book, kind)
-}
-
-/// The decision as [`decide_by_kind`] has it, found among the builders that may have a free slot where these are
-/// few. It takes no memory.
+/// The decision about derivation `drv`, found among the machines of its kind, and among the builders that may have
+/// a free slot where these are few. It takes no memory.
 pub fn decide_by_kind_in(
     inputs: &Inputs,
     book: &Book,

@@ -10,7 +10,7 @@ mod stepping;
 mod turns;
 mod vacancies;
 
-pub use asking::{decide_by_kind, decide_by_kind_in, reply_by_kind};
+pub use asking::{decide_by_kind_in, reply_by_kind};
 pub use stepping::{next_step, next_step_in};
 pub use turns::Turns;
 pub use vacancies::Vacancies;

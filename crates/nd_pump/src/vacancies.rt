@@ -16,6 +16,11 @@ use std::marker::Model;
 /// One builder is looked at for so many machines of a kind, before all of these are.
 const MACHINES_A_LOOK: usize = 16;
 
+/// No more builders than this are looked at, which is how many looks 1,024 machines have. A look takes a
+/// binary search among the machines of a kind, so that looks without a bound would come to take longer than
+/// the walk over these machines that they stand before.
+const MOST_LOOKS: usize = 64;
+
 /// The builders that may have a free slot: all others have none. Contracts see a flag for each builder, in
 /// the order of their list. Only `new` takes memory.
 #[derive(Drop, Debug)]
@@ -135,7 +140,7 @@ impl Vacancies {
     {
         let mut few = Few::new();
         let mut from = 0;
-        for _ in 0..among.len() / MACHINES_A_LOOK {
+        for _ in 0..(among.len() / MACHINES_A_LOOK).min(MOST_LOOKS) {
             let Some(place) = self.builders.first_from(from) else {
                 return Some(few);
             };
