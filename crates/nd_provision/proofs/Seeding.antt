@@ -1,7 +1,7 @@
 -- Numbers of what derivations need, one path after another.
 use Rattle.std.proofs.Common.{◌≡◌, ℕ, ◌+◌, ◌<◌, ◌≤◌, List, [], ◌∷◌, ◌++◌, length, map, get_or, take, sym, ap, subst, ◌∙◌}
 use Rattle.std.specs.List.{flat_map}
-use Rattle.std.proofs.lemmas.List.{append-nil, append_assoc, length-map, get_or-map, get_or_default, take_more, take_all}
+use Rattle.std.proofs.lemmas.List.{append-nil, append_assoc, length-map, get_or-map, take_more, take_all}
 use Rattle.nd_graph.specs.declared.graph.Input.{Input}
 use Rattle.nd_graph.specs.Graphs.{Nodes, IsSound}
 use Rattle.nd_path_numbers.specs.Numbers.{Numbered, path_in, AreNumbersOf, IsNumberOf, HasGrown}
@@ -33,8 +33,8 @@ goes_all old new before after paths i past goes = subst (λ (ps : List (List ℕ
 pub within_at : (outputs : List (List ℕ)) (places : List ℕ) (i : ℕ) → i < length places → i < length (paths_at outputs places)
 within_at outputs places i lt = rw (length-map places (λ k. get_or outputs k [])) lt
 
-pub read_at : (outputs : List (List ℕ)) (places : List ℕ) (i : ℕ) (p : List ℕ) → i < length places → get_or places i 0 < length outputs → p ≡ get_or outputs (get_or places i 0) p → p ≡ get_or (paths_at outputs places) i p
-read_at outputs places i p lt within is = is ∙ get_or_default outputs (get_or places i 0) p [] within ∙ sym (get_or-map (λ k. get_or outputs k []) places i 0 p lt)
+pub output_next : (outputs : List (List ℕ)) (places : List ℕ) (i : ℕ) → i < length places → get_or outputs (get_or places i 0) [] ≡ get_or (paths_at outputs places) i (get_or outputs (get_or places i 0) [])
+output_next outputs places i lt = sym (get_or-map (λ k. get_or outputs k []) places i 0 (get_or outputs (get_or places i 0) []) lt)
 
 -- ---- what one derivation needs
 

@@ -1,5 +1,6 @@
 pub mod Differences
 pub mod Nearby
+pub mod Remembered
 pub mod Seeds
 pub mod Stored
 pub mod Listed

@@ -1,10 +1,11 @@
 //! What derivations need: the sources of a bundle, and for one derivation its sources and the named
 //! outputs of its inputs.
 
-ghost use Rattle.std.specs.Prelude.{◌≡◌, ◌<◌, ◌++◌, [], length, map, slice_index_or, IfOk, OnOk};
+ghost use Rattle.std.specs.Prelude.{◌≡◌, ◌<◌, ◌++◌, [], length, map, slice_index_or, IfOk, OnOk, IfSome};
 ghost use Rattle.std.specs.List.{All, flat_map};
 ghost use Rattle.nd_graph.specs.Graphs.{IsSound};
-ghost use Rattle.nd_path_numbers.specs.Numbers.{HasGrown};
+ghost use Rattle.nd_path_numbers.specs.Numbers.{HasGrown, IsNumberOf};
+ghost use Rattle.nd_provision.specs.Remembered.{IsLastAt, IsRemembered, AreRemembered};
 ghost use Rattle.nd_provision.specs.Seeds.{GoesOn, paths_at};
 ghost use Rattle.nd_provision.specs.Stored.{AreNeededIn, AreSeedsIn, IsSeedRow};
 
@@ -14,6 +15,13 @@ use nd_graph::{Graph, Input};
 use nd_path::StorePath;
 use nd_path_numbers::PathNumbers;
 use std::alloc::{AllocError, Global};
+
+/// Of a derivation the output that was numbered last: its place among the outputs, and its number.
+#[derive(Clone, Copy)]
+struct LastNumber {
+    place: usize,
+    number: usize,
+}
 
 /// All input sources, node by node.
 pub(crate) fn all_sources(alloc: Global, graph: &Graph) -> Result<Vec<StorePath>, AllocError>
@@ -55,24 +63,30 @@ pub(crate) fn seeds_by_number(
     ensures all { IfOk result (λ v. length v.items ≡ length graph.now.paths) }
     ensures grown { HasGrown numbers.old numbers.new }
 {
+    let mut last = vec![in alloc; None; graph.len()]?;
     let mut rows = Vec::with_capacity(alloc, graph.len())?;
     for drv in 0..graph.len() {
-        let row = seed_row(alloc, numbers, graph, drv)?;
+        let row = seed_row(alloc, numbers, &mut last, graph, drv)?;
         rows.push(row)?;
     }
     Ok(rows)
 }
 
-/// The numbers of what derivation `drv` needs at once.
+/// The numbers of what derivation `drv` needs at once. `last` has what is kept of each derivation.
 fn seed_row(
     alloc: Global,
     numbers: &mut PathNumbers,
+    last: &mut Vec<Option<LastNumber>>,
     graph: &Graph,
     drv: usize,
 ) -> Result<Items<usize>, AllocError>
-    requires { drv < length graph.now.paths }
+    requires drv { drv < length graph.now.paths }
+    requires sized { length last.old.items ≡ length graph.now.paths }
+    requires remembered { AreRemembered graph.now.outputs numbers.old.paths last.old.items }
     ensures row { IfOk result (IsSeedRow graph.now numbers.new.paths drv) }
     ensures grown { HasGrown numbers.old numbers.new }
+    ensures sized { OnOk result (length last.new.items ≡ length graph.now.paths) }
+    ensures remembered { OnOk result (AreRemembered graph.now.outputs numbers.new.paths last.new.items) }
 {
     learn_graph(graph);
     let sources = graph.sources(drv);
@@ -81,7 +95,16 @@ fn seed_row(
     add_numbers(alloc, numbers, &mut row, sources)?;
     for input in inputs {
         let outputs = graph.outputs(input.node);
-        add_numbers_at(alloc, numbers, &mut row, outputs, input.outputs.as_slice())?;
+        let mut kept = last[input.node];
+        add_numbers_at(
+            alloc,
+            numbers,
+            &mut kept,
+            &mut row,
+            outputs,
+            input.outputs.as_slice(),
+        )?;
+        last[input.node] = kept;
     }
     Ok(Items::new(row))
 }
@@ -111,22 +134,75 @@ fn add_numbers(
     Ok(())
 }
 
-/// Appends the numbers of the outputs at these places.
+/// Appends the numbers of the outputs at these places. `last` is what is kept of their derivation.
 fn add_numbers_at(
     alloc: Global,
     numbers: &mut PathNumbers,
+    last: &mut Option<LastNumber>,
     row: &mut Vec<usize>,
     outputs: &[StorePath],
     places: &[usize],
 ) -> Result<(), AllocError>
-    requires { All (λ k. k < length outputs.now) places.now }
+    requires places { All (λ k. k < length outputs.now) places.now }
+    requires remembered { IsRemembered outputs.now numbers.old.paths last.old }
     ensures row { OnOk result (GoesOn numbers.old.paths numbers.new.paths row.old.items row.new.items (paths_at outputs.now places.now)) }
     ensures grown { HasGrown numbers.old numbers.new }
+    ensures remembered { OnOk result (IsRemembered outputs.now numbers.new.paths last.new) }
 {
     for place in places {
-        row.push(numbers.know(alloc, &outputs[*place])?)?;
+        row.push(number_at(alloc, numbers, last, outputs, *place)?)?;
     }
     Ok(())
+}
+
+/// The number of the output at this place. `last` is what is kept of its derivation: a place that was
+/// the last one has its number from there, and no path is looked up.
+fn number_at(
+    alloc: Global,
+    numbers: &mut PathNumbers,
+    last: &mut Option<LastNumber>,
+    outputs: &[StorePath],
+    place: usize,
+) -> Result<usize, AllocError>
+    requires place { place < length outputs.now }
+    requires remembered { IsRemembered outputs.now numbers.old.paths last.old }
+    ensures number { IfOk result (IsNumberOf numbers.new.paths (slice_index_or outputs.now place [])) }
+    ensures grown { HasGrown numbers.old numbers.new }
+    ensures remembered { OnOk result (IsRemembered outputs.now numbers.new.paths last.new) }
+{
+    if let Some(number) = number_kept(*last, place) {
+        return Ok(number);
+    }
+    number_looked_up(alloc, numbers, last, outputs, place)
+}
+
+/// The number of the output at this place, by its path. It is kept in `last`.
+#[tactic(auto, using(crate::proofs::Remembering::number_read, crate::proofs::Remembering::remembered_now))]
+fn number_looked_up(
+    alloc: Global,
+    numbers: &mut PathNumbers,
+    last: &mut Option<LastNumber>,
+    outputs: &[StorePath],
+    place: usize,
+) -> Result<usize, AllocError>
+    requires { place < length outputs.now }
+    ensures number { IfOk result (IsNumberOf numbers.new.paths (slice_index_or outputs.now place [])) }
+    ensures grown { HasGrown numbers.old numbers.new }
+    ensures remembered { OnOk result (IsRemembered outputs.now numbers.new.paths last.new) }
+{
+    let number = numbers.know(alloc, &outputs[place])?;
+    *last = Some(LastNumber { place, number });
+    Ok(number)
+}
+
+/// The number that is kept, if it is of the output at this place.
+fn number_kept(last: Option<LastNumber>, place: usize) -> Option<usize>
+    ensures { IfSome result (IsLastAt last place) }
+{
+    match last {
+        Some(kept) if kept.place == place => Some(kept.number),
+        _ => None,
+    }
 }
 
 /// Appends copies of the outputs at these places.

@@ -10,4 +10,6 @@ loop-drv-preserved c = record {
   size = omega (arith, c.in_ok-push.ensures.len, c.loop-drv.invariant.size);
   seeds = subst (λ (rows : List (List ℕ)). AreSeedsIn c.args.graph.now c.seed_row.new.numbers.paths rows) (sym c.in_ok-push.ensures.items)
       (seeds_push c.args.graph.now c.loop-drv.numbers c.seed_row.new.numbers c.loop-drv.rows.items c.loop-drv.drv c.in_ok-row.row c.loop-drv.invariant.size c.in_ok-row.ensures.grown c.loop-drv.invariant.seeds c.in_ok-row.ensures.row);
+  sized = c.in_ok-row.ensures.sized;
+  remembered = c.in_ok-row.ensures.remembered;
 }

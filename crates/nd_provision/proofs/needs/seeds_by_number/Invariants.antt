@@ -1,5 +1,6 @@
 use Rattle.std.proofs.Common.{◌≡◌, length}
 use Rattle.nd_path_numbers.specs.Numbers.{HasGrown}
+use Rattle.nd_provision.specs.Remembered.{AreRemembered}
 use Rattle.nd_provision.specs.Stored.{AreSeedsIn}
 use Rattle.nd_provision.proofs.needs.seeds_by_number.Given as goal
 
@@ -8,4 +9,6 @@ invariant-loop-drv l = record {
   grown : HasGrown l.fn.numbers l.numbers;
   size : length l.rows.items ≡ l.drv;
   seeds : AreSeedsIn l.graph l.numbers.paths l.rows.items;
+  sized : length l.last.items ≡ length l.graph.paths;
+  remembered : AreRemembered l.graph.outputs l.numbers.paths l.last.items;
 }
