@@ -60,7 +60,7 @@ pub(crate) fn number_build(
 }
 
 /// The numbers of what is brought to machine `m`: of these paths, or none where it is the local one.
-pub(crate) fn numbers_for(
+fn numbers_for(
     alloc: Global,
     numbers: &mut PathNumbers,
     m: usize,

@@ -11,7 +11,7 @@ use crate::checks::{all_lie_in, are_listings_held, are_rows_held, is_covered, la
 use crate::copying::{Additions, Listing, PathsError, enter_all, put_all, set_with};
 use crate::near::are_near;
 use crate::needs::{all_sources, needed_by, seeds_by_number};
-use crate::numbering::{number_build, number_given, numbers_at_hand, numbers_for};
+use crate::numbering::{number_build, number_given, numbers_at_hand};
 use nd_bytes::Items;
 use nd_closure::{RefTable, Refs, reach};
 use nd_graph::Graph;
@@ -311,16 +311,7 @@ impl Stores {
         ensures fits { IfOk result (Fits self.new) }
         ensures additions { IfOk result (AreStartAdditions self.new m paths.now) }
     {
-        let brought = numbers_for(alloc, &mut self.numbers, m, paths.as_slice())?;
-        let known = self.numbers.len();
-        self.holdings.reserve_below(alloc, m, brought.len(), known)?;
-        Ok(Additions {
-            machine: m,
-            entries: Vec::new(alloc),
-            own: Vec::new(alloc),
-            brought,
-            provided: true,
-        })
+        self.prepare_copies(alloc, m, paths, None)
     }
 
     /// The same where the numbers of the copied paths may be at hand ([`Stores::check_copies`]).
