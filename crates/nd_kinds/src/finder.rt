@@ -5,6 +5,7 @@ ghost use Rattle.nd_machines.specs.Builders.{Builder};
 ghost use Rattle.nd_eligible.specs.Eligibility.{AreEligible};
 ghost use Rattle.nd_kinds.specs.Finding.{KeepsTo};
 
+use crate::cost::Cost;
 use crate::providers::Providers;
 use nd_bytes::Items;
 use nd_eligible::{Need, eligible_places};
@@ -18,6 +19,8 @@ use std::alloc::{AllocError, Global};
 pub(crate) struct Finder<'a> {
     /// How many machines were tested without the index for needs that require a feature.
     tested: usize,
+    /// How many steps the index takes.
+    cost: Cost,
     /// The index, once it is made.
     providers: Option<Providers<'a>>,
 }
@@ -29,6 +32,7 @@ impl<'a> Finder<'a> {
     {
         Finder {
             tested: 0,
+            cost: Cost::new(),
             providers: None,
         }
     }
@@ -59,7 +63,7 @@ impl<'a> Finder<'a> {
         if self.providers.is_some() {
             return Ok(());
         }
-        if self.tested > Providers::cost(machines) {
+        if self.cost.is_below(machines, self.tested) {
             self.providers = Some(Providers::new(alloc, machines)?);
             return Ok(());
         }

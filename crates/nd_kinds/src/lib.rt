@@ -1,6 +1,7 @@
 //! The derivations by kind: those of one kind get the same decisions.
 #![tactic(auto)]
 
+mod cost;
 mod finder;
 mod kind;
 mod kinds;

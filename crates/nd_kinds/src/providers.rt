@@ -5,6 +5,7 @@ ghost use Rattle.std.specs.BTreeMap.{get_by};
 ghost use Rattle.nd_eligible.specs.Eligibility.{AreEligible, IsEligibleAt};
 ghost use Rattle.nd_kinds.specs.Providers.{compare_feature, ArePlaces, HasNoted, AreNumbered, IsNumbered, IsOrderly, HasAdded, HasAddedAll, AreProviders, AreCandidates};
 
+use crate::cost::{bits, spans_in};
 use nd_bytes::{ByteString, Items};
 use nd_eligible::{Need, eligible, eligible_places};
 use nd_machines::{FeatureSet, Machine};
@@ -88,18 +89,6 @@ impl<'a> Providers<'a> {
             providers.add_machine(alloc, &machines[place], place)?;
         }
         Ok(providers)
-    }
-
-    /// How many steps the index of these machines takes: for each feature of each machine as many as it
-    /// takes to look it up among all of them.
-    pub(crate) fn cost(machines: &[Machine]) -> usize {
-        let mut features = 0usize;
-        for machine in machines {
-            features = features
-                .saturating_add(machine.supported().len())
-                .saturating_add(machine.mandatory().len());
-        }
-        features.saturating_mul(bits(features))
     }
 
     /// Adds the machine at the next place.
@@ -208,7 +197,7 @@ impl<'a> Providers<'a> {
         requires { AreProviders machines.now self.now }
         ensures { IfOk result (AreEligible machines.now need.now) }
     {
-        match self.rarest(&need.features) {
+        match self.rarest(&need.features, machines.len()) {
             Some(feature) => self.eligible_with(alloc, machines, need, feature),
             None => eligible_places(alloc, machines, need),
         }
@@ -236,22 +225,22 @@ impl<'a> Providers<'a> {
         }
     }
 
-    /// One of these features, if there are any: for the sake of time one with few machines. It stops once
-    /// the looking has taken as many steps as the rarest so far has machines, so at once at a feature
-    /// that no machine has.
-    fn rarest(&self, features: &'a FeatureSet) -> Option<&'a ByteString>
+    /// One of these features, if there are any that are worth looking up: for the sake of time one with few
+    /// of so many machines. The looking takes no more steps than the rarest so far has machines, each of which
+    /// a test of a machine would take.
+    fn rarest(&self, features: &'a FeatureSet, machines: usize) -> Option<&'a ByteString>
         requires { AreNumbered self.now }
         ensures { IfSome result (λ feature. Contains features.now feature.now) }
     {
         let steps = bits(self.lists.len());
         let mut rarest = None;
-        let mut fewest = usize::MAX;
+        let mut fewest = machines;
         let mut taken = 0usize;
         for feature in features.as_slice() {
-            if taken >= fewest {
+            taken = taken.saturating_add(steps.saturating_mul(spans_in(feature)));
+            if taken > fewest {
                 break;
             }
-            taken = taken.saturating_add(steps);
             let count = self.count(feature);
             if count < fewest {
                 rarest = Some(feature);
@@ -270,11 +259,6 @@ impl<'a> Providers<'a> {
             None => 0,
         }
     }
-}
-
-/// How many bits this number has: it takes as many steps to look something up among so many.
-fn bits(number: usize) -> usize {
-    (usize::BITS - number.leading_zeros()) as usize
 }
 
 /// The number of a feature's list, if it has one.
