@@ -44,7 +44,7 @@ so_far_none machines need = record {
 }
 
 -- a number above all that stand there goes on a rising list
-rising_on : (places : List ℕ) (place : ℕ) → ((n : ℕ) → Contains places n → n < place) → IsStrictlyIncreasing places
+pub rising_on : (places : List ℕ) (place : ℕ) → ((n : ℕ) → Contains places n → n < place) → IsStrictlyIncreasing places
     → IsStrictlyIncreasing (places ++ place ∷ [])
 rising_on places place above rising k h = elim (cases_lt (k + 1) (length places)) [
   | inl old ↦

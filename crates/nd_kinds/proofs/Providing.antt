@@ -6,16 +6,15 @@ use Rattle.std.specs.BTreeMap.{get_by, is_at, IsEmpty}
 use Rattle.std.specs.Vec.{with_item}
 use Rattle.std.specs.List.Sorted.{IsStrictlyIncreasing}
 use Rattle.std.proofs.Math.ListN.{set, length-set}
-use Rattle.std.proofs.Math.Seq.{get_or-append_seam}
 use Rattle.std.proofs.lemmas.Bool.{cases_eq, cases_lt, eqb-false}
-use Rattle.std.proofs.lemmas.List.{get_or-set_same, get_or-set_other, get_or_append_left, get_or_default}
+use Rattle.std.proofs.lemmas.List.{get_or-set_same, get_or-set_other, get_or_default}
 use Rattle.std.proofs.lemmas.List.Elements.{Contains-append_left, Contains-append_cases, Contains-push, Contains-push_cases, Contains-get_or, All-contains, All-from_get_or}
 use Rattle.std.proofs.lemmas.Option.{slice_get_read, slice_get_cases}
 use Rattle.nd_bytes.specs.Compared.{bytes_ties, bytes_same}
 use Rattle.nd_machines.specs.Builders.{Builder}
 use Rattle.nd_eligible.specs.declared.need.Need.{Need}
 use Rattle.nd_eligible.specs.Eligibility.{Eligible, IsEligibleAt, AreEligible}
-use Rattle.nd_eligible.proofs.Places.{eligible_at}
+use Rattle.nd_eligible.proofs.Places.{eligible_at, rising_on}
 use Rattle.nd_kinds.specs.declared.providers.Providers.{Providers}
 use Rattle.nd_kinds.specs.Providers.{compare_feature, list_at, ArePlaces, IsProvider, AreNumbered, IsOrderly, HasNoted, IsNumbered, HasAdded, HasAddedAll, AreProvidersTo, AreProviders, AreCandidates}
 
@@ -36,20 +35,6 @@ not_last places count place last counted read apart h = record {
         omega (arith, is, top, other)
   ])) has;
 }
-
--- a number above all that stand there goes on a rising list
-rising_on : (places : List ℕ) (place : ℕ) → ((n : ℕ) → Contains places n → n < place) → IsStrictlyIncreasing places
-    → IsStrictlyIncreasing (places ++ place ∷ [])
-rising_on places place above rising k h = elim (cases_lt (k + 1) (length places)) [
-  | inl old ↦
-      let first : k < length places = omega arith in
-      rw (get_or_append_left places (place ∷ []) 0 k first, get_or_append_left places (place ∷ []) 0 (k + 1) old) (rising k old)
-  | inr last ↦
-      let end : k + 1 ≡ length places = omega (arith, h, length-append places (place ∷ [])) in
-      let first : k < length places = omega arith in
-      rw (get_or_append_left places (place ∷ []) 0 k first, end, get_or-append_seam places place [] 0)
-      (above (get_or places k 0) (Contains-get_or places k 0 first))
-]
 
 -- a place above all that stand there
 pub noted_more : (place : ℕ) (old new : List ℕ) → ArePlaces place old → new ≡ old ++ place ∷ [] → HasNoted place old new

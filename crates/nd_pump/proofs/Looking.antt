@@ -1,5 +1,5 @@
 -- The free builders among some places, found place by place.
-use Rattle.std.proofs.Common.{◌≡◌, ◌∙◌, inl, inr, ℕ, ◌+◌, ◌<◌, ◌≤◌, Bool, false, None, Some, List, [], ◌∷◌, ◌++◌, length, length-append, get_or, eqb-true, sym, ap, subst, arith}
+use Rattle.std.proofs.Common.{◌≡◌, ◌∙◌, inl, inr, ℕ, ◌+◌, ◌<◌, ◌≤◌, Bool, false, None, Some, List, [], ◌∷◌, length, get_or, eqb-true, sym, ap, subst, arith}
 use Rattle.std.specs.Prelude.{Contains, slice_set}
 use Rattle.std.specs.declared.cmp.Ordering.TheVariants.{Less, Equal, Greater}
 use Rattle.std.specs.declared.cmp.Ordering.{Ordering}
@@ -8,18 +8,19 @@ use Rattle.std.specs.List.Sorted.{IsStrictlyIncreasing, IsSortedBy, IsNonDecreas
 use Rattle.std.specs.Ordering.{nat_cmp}
 use Rattle.std.specs.Cmp.{nat_cmp_total, unsigned_ties}
 use Rattle.std.proofs.Math.ListN.{length-set}
-use Rattle.std.proofs.Math.Seq.{get_or-append_seam}
 use Rattle.std.proofs.lemmas.Bool.{cases_eq, cases_lt}
-use Rattle.std.proofs.lemmas.List.{get_or-set_other, get_or_append_left}
-use Rattle.std.proofs.lemmas.List.Elements.{Contains-append_left, Contains-push, Contains-push_cases, Contains-get_or}
+use Rattle.std.proofs.lemmas.List.{get_or-set_other, get_or_default}
+use Rattle.std.proofs.lemmas.List.Elements.{Contains-append_left, Contains-push, Contains-push_cases}
+use Rattle.std.proofs.lemmas.List.Kept.{AllPairs-from_increasing}
 use Rattle.std.proofs.lemmas.List.Sorted.{searchable_from_sorted}
 use Rattle.std.proofs.lemmas.Map.Keys.{Less-from_sorted, sorted_from_strictly_increasing}
 use Rattle.nd_machines.specs.Builders.{Builder}
+use Rattle.nd_eligible.proofs.Places.{rising_on}
 use Rattle.nd_flags.specs.Members.{IsMember, IsFirstFrom, IsLeastFrom}
 use Rattle.nd_choose.specs.Best.{IsFree}
 use Rattle.nd_hook.specs.Few.{HoldFree}
 use Rattle.nd_pump.specs.Vacancies.{HoldVacant}
-use Rattle.nd_pump.specs.Few.{HasLooked, AreLooked}
+use Rattle.nd_pump.specs.Few.{AreFrom, HasLooked, AreLooked}
 
 -- ---- a number in a rising list
 
@@ -52,20 +53,6 @@ not_found xs n i rises cut there =
 
 -- ---- one place more
 
--- a number above all that stand there goes on a rising list
-rising_on : (places : List ℕ) (place : ℕ) → ((n : ℕ) → Contains places n → n < place) → IsStrictlyIncreasing places
-    → IsStrictlyIncreasing (places ++ place ∷ [])
-rising_on places place above rising k h = elim (cases_lt (k + 1) (length places)) [
-  | inl old ↦
-      let first : k < length places = omega arith in
-      rw (get_or_append_left places (place ∷ []) 0 k first, get_or_append_left places (place ∷ []) 0 (k + 1) old) (rising k old)
-  | inr last ↦
-      let end : k + 1 ≡ length places = omega (arith, h, length-append places (place ∷ [])) in
-      let first : k < length places = omega arith in
-      rw (get_or_append_left places (place ∷ []) 0 k first, end, get_or-append_seam places place [] 0)
-      (above (get_or places k 0) (Contains-get_or places k 0 first))
-]
-
 -- a builder without a free slot is taken out
 pub vacant_without : (machines : List Builder) (loads : List ℕ) (ups : List Bool) (old new : List Bool) (place : ℕ) → HoldVacant machines loads ups old
     → new ≡ slice_set old place false → (IsFree machines loads ups place → ⊥) → HoldVacant machines loads ups new
@@ -75,14 +62,30 @@ vacant_without machines loads ups old new place was is taken = record {
       (get_or-set_other old place p false false (λ same. taken (subst (λ (m : ℕ). IsFree machines loads ups m) same free)) ∙ was.each p free);
 }
 
+-- the first of rising places
+pub first_is_least : (places : List ℕ) → IsStrictlyIncreasing places → AreFrom places (get_or places 0 0)
+first_is_least places rising = record {
+  each = λ p has.
+      let least : get_or places 0 0 ≡ get_or places 0 p = get_or_default places 0 0 p (omega (arith, has.1)) in
+      elim (cases_lt 0 has.0) [
+        | inl later ↦
+            let lt : get_or places 0 p < get_or places has.0 p = AllPairs-from_increasing places rising 0 has.0 p later has.1 in
+            omega (arith, lt, has.2, least)
+        | inr here ↦
+            let at : has.0 ≡ 0 = omega (arith, here) in
+            let same : get_or places 0 p ≡ p = subst (λ (k : ℕ). get_or places k p ≡ p) at has.2 in
+            omega (arith, same, least)
+      ];
+}
+
 module _ (machines : List Builder) (loads : List ℕ) (ups : List Bool) (among : List ℕ) where
-  pub looked_none : (vacant : List Bool) → HoldVacant machines loads ups vacant → AreLooked machines loads ups among vacant 0 []
-  looked_none vacant hold = record {
+  pub looked_from : (vacant : List Bool) (from : ℕ) → HoldVacant machines loads ups vacant → AreFrom among from → AreLooked machines loads ups among vacant from []
+  looked_from vacant from hold least = record {
     vacant = hold;
     rising = λ k h. absurd (omega arith);
     before = λ p has. absurd (omega (arith, has.1));
     some = λ p has. absurd (omega (arith, has.1));
-    free = λ p lt. absurd (omega (arith, lt));
+    free = λ p lt has. absurd (let low = least.each p has in omega (arith, lt, low));
   }
 
   -- a free builder among the places that isn't before the place is not before the next that may be free

@@ -1,6 +1,6 @@
 -- How the free builders among some places are found.
 -- No public clause cites this: it serves private clauses alone.
-use Rattle.std.specs.Prelude.{◌≡◌, ◌⊎◌, ◌<◌, ◌++◌, ◌∷◌, [], ℕ, Bool, List, Contains}
+use Rattle.std.specs.Prelude.{◌≡◌, ◌⊎◌, ◌<◌, ◌≤◌, ◌++◌, ◌∷◌, [], ℕ, Bool, List, Contains}
 use Rattle.std.specs.List.Sorted.{IsStrictlyIncreasing}
 use Rattle.nd_machines.specs.Builders.{Builder}
 use Rattle.nd_choose.specs.Best.{IsFree}
@@ -10,6 +10,10 @@ use Rattle.nd_history.specs.declared.entry.Entry.{Entry}
 use Rattle.nd_history.specs.Premises.{Premises}
 use Rattle.nd_history.specs.Choices.{loads_of, ups_of}
 use Rattle.nd_pump.specs.Vacancies.{HoldVacant}
+
+-- none of these places stands before this one
+pub record AreFrom (places : List ℕ) (from : ℕ) : Type 0 where
+  pub each : (p : ℕ) → Contains places p → from ≤ p
 
 -- a place was looked at: it joined the few where it is among the places, or its builder has no free slot, or it isn't among them
 abbrev pub HasLooked : List Builder → List ℕ → List Bool → List ℕ → ℕ → List ℕ → List ℕ → Type 0

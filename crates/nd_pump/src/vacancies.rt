@@ -4,7 +4,7 @@ ghost use Rattle.std.specs.Prelude.{◌≡◌, ◌≤◌, ◌<◌, ◌↔◌, le
 ghost use Rattle.std.specs.List.Sorted.{IsStrictlyIncreasing};
 ghost use Rattle.nd_choose.specs.Best.{IsFree};
 ghost use Rattle.nd_hook.specs.Few.{HoldFree};
-ghost use Rattle.nd_pump.specs.Few.{HasLooked};
+ghost use Rattle.nd_pump.specs.Few.{AreFrom, HasLooked};
 ghost use Rattle.nd_pump.specs.Vacancies.{AreAllVacant, HasOpened, HoldVacant};
 
 use crate::few::Few;
@@ -20,6 +20,10 @@ const MACHINES_A_LOOK: usize = 16;
 /// binary search among the machines of a kind, so that looks without a bound would come to take longer than
 /// the walk over these machines that they stand before.
 const MOST_LOOKS: usize = 64;
+
+/// So many looks may find nothing for one that may find something: on a park where many builders of other kinds are
+/// free the looks end soon.
+const LOOKS_A_MISS: usize = 4;
 
 /// The builders that may have a free slot: all others have none. Contracts see a flag for each builder, in
 /// the order of their list. Only `new` takes memory.
@@ -66,6 +70,18 @@ fn is_among(places: &[usize], place: usize) -> bool
         Ok(_) => true,
         Err(_) => false,
     }
+}
+
+/// No place of these, which rise, stands before this one.
+#[tactic(auto, using(crate::proofs::Looking::first_is_least))]
+fn first_of(places: &[usize]) -> usize
+    requires { IsStrictlyIncreasing places.now }
+    ensures { AreFrom places.now result }
+{
+    if places.is_empty() {
+        return 0;
+    }
+    places[0]
 }
 
 /// Looks at the builder at a place: without a free slot it is no vacancy any more, and else its place joins the
@@ -122,7 +138,7 @@ impl Vacancies {
 
     /// The places of `among` whose builders are up and have a free slot, where these are few; `None` where there
     /// may be more, or more builders are to be looked at than that is worth.
-    #[tactic(auto, using(crate::proofs::Looking::looked_none, crate::proofs::Looking::looked_next, crate::proofs::Looking::looked_all))]
+    #[tactic(auto, using(crate::proofs::Looking::looked_next, crate::proofs::Looking::looked_all))]
     pub(crate) fn few_of(
         &mut self,
         machines: &[Machine],
@@ -138,12 +154,15 @@ impl Vacancies {
         ensures few { IfSome result (HoldFree machines.now loads.now ups.now among.now) }
         ensures rising { IfSome result IsStrictlyIncreasing }
     {
+        let looks = (among.len() / MACHINES_A_LOOK).min(MOST_LOOKS);
+        let mut misses = 0usize;
         let mut few = Few::new();
-        let mut from = 0;
-        for _ in 0..(among.len() / MACHINES_A_LOOK).min(MOST_LOOKS) {
+        let mut from = first_of(among);
+        for _ in 0..looks {
             let Some(place) = self.builders.first_from(from) else {
                 return Some(few);
             };
+            let found = few.len();
             if !look(
                 &mut self.builders,
                 machines,
@@ -153,6 +172,12 @@ impl Vacancies {
                 place,
                 &mut few,
             ) {
+                return None;
+            }
+            if few.len() == found {
+                misses = misses.saturating_add(1);
+            }
+            if misses > looks / LOOKS_A_MISS {
                 return None;
             }
             from = place + 1;
