@@ -17,8 +17,8 @@ const FLAGS_OF_A_SEARCH: usize = 4;
 /// The numbers of the paths that one machine holds. Contracts see the list of them in the order in which
 /// they came, each once, and beside it the reserved room, of which "equal" and "as before" do not speak.
 ///
-/// Whether a number is held is told by a flag, where the numbers go so far that flags take no more memory than what
-/// is held, and else by a set.
+/// Whether a number is held is told by a flag, where enough is held to pay for flags of all numbers, and else by
+/// a set.
 #[derive(Debug, Drop)]
 pub struct Held {
     numbers: Vec<usize>,
@@ -70,6 +70,7 @@ impl Held {
         ensures room { OnOk result (n ≤ self.new.spare) }
         ensures kept { self.new.numbers ≡ self.old.numbers }
     {
+        self.marks.complete(self.numbers.as_slice())?;
         self.marks.reserve(n)?;
         self.numbers.reserve(n)
     }
@@ -174,10 +175,7 @@ impl Held {
     {
         let paying = self.numbers.len().saturating_mul(FLAGS_OF_A_SEARCH);
         self.flag_below(alloc, paying, limit)?;
-        if self.marks.is_partial() {
-            self.marks = Marks::with_set(alloc, self.numbers.as_slice())?;
-        }
-        Ok(())
+        self.marks.complete(self.numbers.as_slice())
     }
 
     /// How many there are.

@@ -87,10 +87,15 @@ impl Marks {
         self.words.len().saturating_mul(WORD)
     }
 
-    /// Whether there may be numbers of the list of which the marks don't tell.
-    #[inline(always)]
-    pub(crate) fn is_partial(&self) -> bool {
-        self.is_partial
+    /// Makes the marks of a list anew, as a set, where they don't tell of all its numbers.
+    pub(crate) fn complete(&mut self, numbers: &[usize]) -> Result<(), AllocError>
+        ensures { AreMarked numbers.now self.old → AreMarked numbers.now self.new }
+    {
+        if self.is_partial {
+            let alloc = *self.others.allocator();
+            *self = Marks::with_set(alloc, numbers)?;
+        }
+        Ok(())
     }
 
     /// Makes room for so many numbers without a flag.

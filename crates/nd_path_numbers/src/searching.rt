@@ -25,8 +25,8 @@ pub fn reach_unheld(
     numbers.set_of(alloc, found.as_slice())
 }
 
-/// The numbers of these paths, one after another, where just these paths are so reached: none of them is
-/// looked up, but for its number. Refuses only where an allocation is refused.
+/// The numbers of these paths, one after another, where just these paths are so reached: no path is looked up
+/// by its hash. Refuses only where an allocation is refused.
 pub fn match_unheld(
     alloc: Global,
     seeds: &[usize],
