@@ -159,31 +159,8 @@ pub fn judge_ready_choice(
     }
 }
 
-/// Tests the choice of a slot, all that it names being there, where this is decided about the derivation
-/// if it is ready: it is refused with the first rule that it breaks. It takes no memory.
-#[tactic(auto, using(crate::proofs::Rules::any_choice))]
-pub fn judge_choice(
-    inputs: &Inputs,
-    book: &Book,
-    board: &Board,
-    decision: Decision,
-    drv: u32,
-    machine: u32,
-    slot: u32,
-) -> Result<(), Rule>
-    requires fit { FitTogether (premises_of inputs.now) book.now }
-    requires marked { AreMarked (premises_of inputs.now) (reverse book.now.entries) board.now }
-    requires ranged { IsInRange (premises_of inputs.now) (Entry.Chosen drv machine slot) }
-    requires decided { HasDecision (premises_of inputs.now) (reverse book.now.entries) drv decision }
-    ensures { IsJudged (premises_of inputs.now) (reverse book.now.entries) (Entry.Chosen drv machine slot) result }
-{
-    match check_ready(inputs, book, board, drv) {
-        Ok(()) => judge_ready_choice(inputs, book, decision, drv, machine, slot),
-        Err(rule) => Err(rule),
-    }
-}
-
-/// As [`judge_choice`], and decides about the derivation, where it is ready, by a walk over all machines.
+/// Tests the choice of a slot, all that it names being there: it is refused with the first rule that
+/// it breaks. It takes no memory.
 #[tactic(auto, using(crate::proofs::Rules::any_choice))]
 pub fn check_choice(
     inputs: &Inputs,
@@ -228,29 +205,8 @@ pub fn judge_ready_no_builder(
     }
 }
 
-/// Tests the word that nothing can build a derivation, which is there, where this is decided about it if it is
-/// ready: it is refused with the first rule that it breaks. It takes no memory.
-#[tactic(auto, using(crate::proofs::Rules::any_given_up))]
-pub fn judge_no_builder(
-    inputs: &Inputs,
-    book: &Book,
-    board: &Board,
-    decision: Decision,
-    drv: u32,
-) -> Result<(), Rule>
-    requires fit { FitTogether (premises_of inputs.now) book.now }
-    requires marked { AreMarked (premises_of inputs.now) (reverse book.now.entries) board.now }
-    requires ranged { drv < drvs_in (premises_of inputs.now) }
-    requires decided { HasDecision (premises_of inputs.now) (reverse book.now.entries) drv decision }
-    ensures { IsJudged (premises_of inputs.now) (reverse book.now.entries) (Entry.NoBuilder drv) result }
-{
-    match check_ready(inputs, book, board, drv) {
-        Ok(()) => judge_ready_no_builder(inputs, book, decision, drv),
-        Err(rule) => Err(rule),
-    }
-}
-
-/// As [`judge_no_builder`], and decides about the derivation, where it is ready, by a walk over all machines.
+/// Tests the word that nothing can build a derivation, which is there: it is refused with the first
+/// rule that it breaks. It takes no memory.
 #[tactic(auto, using(crate::proofs::Rules::any_given_up))]
 pub fn check_no_builder(inputs: &Inputs, book: &Book, board: &Board, drv: u32) -> Result<(), Rule>
     requires fit { FitTogether (premises_of inputs.now) book.now }
