@@ -6,6 +6,17 @@ use nd_machines::{FeatureSet, Machine};
 /// How many bytes of a feature are compared in one step.
 const SPAN: usize = 16;
 
+/// How many comparisons take as long as the test of a machine, at least: one whose system is another.
+const STEPS_A_TEST: usize = 4;
+
+/// So many comparisons are made however few machines there are: to look up a feature of some bytes takes fewer.
+const FEW_STEPS: usize = 64;
+
+/// How many comparisons may be made to spare the tests of so many machines.
+pub(crate) fn steps_for(machines: usize) -> usize {
+    machines.saturating_mul(STEPS_A_TEST).max(FEW_STEPS)
+}
+
 /// How many steps it takes to compare a feature with another.
 pub(crate) fn spans_in(feature: &ByteString) -> usize {
     feature.len() / SPAN + 1

@@ -5,7 +5,7 @@ ghost use Rattle.std.specs.BTreeMap.{get_by};
 ghost use Rattle.nd_eligible.specs.Eligibility.{AreEligible, IsEligibleAt};
 ghost use Rattle.nd_kinds.specs.Providers.{compare_feature, ArePlaces, HasNoted, AreNumbered, IsNumbered, IsOrderly, HasAdded, HasAddedAll, AreProviders, AreCandidates};
 
-use crate::cost::{bits, spans_in};
+use crate::cost::{bits, spans_in, steps_for};
 use nd_bytes::{ByteString, Items};
 use nd_eligible::{Need, eligible, eligible_places};
 use nd_machines::{FeatureSet, Machine};
@@ -226,8 +226,8 @@ impl<'a> Providers<'a> {
     }
 
     /// One of these features, if there are any that are worth looking up: for the sake of time one with few
-    /// of so many machines. The looking takes no more steps than the rarest so far has machines, each of which
-    /// a test of a machine would take.
+    /// of so many machines. The looking takes no more steps than the tests of the machines that the rarest so
+    /// far has, but for a few, and it ends at a feature that no machine has.
     fn rarest(&self, features: &'a FeatureSet, machines: usize) -> Option<&'a ByteString>
         requires { AreNumbered self.now }
         ensures { IfSome result (λ feature. Contains features.now feature.now) }
@@ -238,7 +238,7 @@ impl<'a> Providers<'a> {
         let mut taken = 0usize;
         for feature in features.as_slice() {
             taken = taken.saturating_add(steps.saturating_mul(spans_in(feature)));
-            if taken > fewest {
+            if fewest == 0 || taken > steps_for(fewest) {
                 break;
             }
             let count = self.count(feature);
