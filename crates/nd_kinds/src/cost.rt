@@ -6,10 +6,10 @@ use nd_machines::{FeatureSet, Machine};
 /// How many bytes of a feature are compared in one step.
 const SPAN: usize = 16;
 
-/// How many comparisons take as long as the test of a machine, at least: one whose system is another.
+/// How many comparisons take about as long as the test of a machine whose system is another.
 const STEPS_A_TEST: usize = 4;
 
-/// So many comparisons are made however few machines there are: to look up a feature of some bytes takes fewer.
+/// So many comparisons may be made however few machines there are: to look up a feature of some bytes takes fewer.
 const FEW_STEPS: usize = 64;
 
 /// How many comparisons may be made to spare the tests of so many machines.

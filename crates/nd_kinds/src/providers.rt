@@ -187,7 +187,7 @@ impl<'a> Providers<'a> {
     }
 
     /// The places, from 0 and rising, of the machines of this park that are eligible for this need.
-    /// Where it requires a feature, only the machines that have one of its features are tested.
+    /// Where it requires a feature that is worth looking up, only the machines that have it are tested.
     pub(crate) fn eligible_places(
         &self,
         alloc: Global,
@@ -237,10 +237,14 @@ impl<'a> Providers<'a> {
         let mut fewest = machines;
         let mut taken = 0usize;
         for feature in features.as_slice() {
-            taken = taken.saturating_add(steps.saturating_mul(spans_in(feature)));
-            if fewest == 0 || taken > steps_for(fewest) {
+            if fewest == 0 {
                 break;
             }
+            let next = taken.saturating_add(steps.saturating_mul(spans_in(feature)));
+            if next > steps_for(fewest) {
+                continue;
+            }
+            taken = next;
             let count = self.count(feature);
             if count < fewest {
                 rarest = Some(feature);
