@@ -1,5 +1,5 @@
 -- The free builders among some places, found place by place.
-use Rattle.std.proofs.Common.{◌≡◌, ◌∙◌, inl, inr, ℕ, ◌+◌, ◌<◌, ◌≤◌, Bool, false, None, Some, List, [], ◌∷◌, length, get_or, eqb-true, sym, ap, subst, arith}
+use Rattle.std.proofs.Common.{◌≡◌, ◌∙◌, inl, inr, ℕ, ◌+◌, ◌-◌, ◌<◌, ◌≤◌, Bool, false, None, Some, List, [], ◌∷◌, length, get_or, eqb-true, sym, ap, subst, arith}
 use Rattle.std.specs.Prelude.{Contains, slice_set}
 use Rattle.std.specs.declared.cmp.Ordering.TheVariants.{Less, Equal, Greater}
 use Rattle.std.specs.declared.cmp.Ordering.{Ordering}
@@ -20,7 +20,7 @@ use Rattle.nd_flags.specs.Members.{IsMember, IsFirstFrom, IsLeastFrom}
 use Rattle.nd_choose.specs.Best.{IsFree}
 use Rattle.nd_hook.specs.Few.{HoldFree}
 use Rattle.nd_pump.specs.Vacancies.{HoldVacant}
-use Rattle.nd_pump.specs.Few.{AreFrom, HasLooked, AreLooked}
+use Rattle.nd_pump.specs.Few.{AreFrom, AreUpTo, IsFirstUpTo, HasLooked, AreLooked}
 
 -- ---- a number in a rising list
 
@@ -78,6 +78,31 @@ first_is_least places rising = record {
       ];
 }
 
+-- the last of rising places
+pub last_is_greatest : (places : List ℕ) → IsStrictlyIncreasing places → AreUpTo places (get_or places (length places - 1) 0)
+last_is_greatest places rising = record {
+  each = λ p has.
+      let last : ℕ = length places - 1 in
+      let greatest : get_or places last 0 ≡ get_or places last p = get_or_default places last 0 p (omega (arith, has.1)) in
+      elim (cases_lt has.0 last) [
+        | inl earlier ↦
+            let lt : get_or places has.0 p < get_or places last p = AllPairs-from_increasing places rising has.0 last p earlier (omega (arith, has.1)) in
+            omega (arith, lt, has.2, greatest)
+        | inr here ↦
+            let at : has.0 ≡ last = omega (arith, here, has.1) in
+            let same : get_or places last p ≡ p = subst (λ (k : ℕ). get_or places k p ≡ p) at has.2 in
+            omega (arith, same, greatest)
+      ];
+}
+
+-- no member is none up to a place
+pub none_up_to : (flags : List Bool) (from last : ℕ) → IsFirstFrom flags from None → IsFirstUpTo flags from last None
+none_up_to flags from last none k late early member = none k late member
+
+-- .. nor is one behind it
+pub past_the_last : (flags : List Bool) (from last place : ℕ) → IsFirstFrom flags from (Some place) → last < place → IsFirstUpTo flags from last None
+past_the_last flags from last place first past k late early member = first.least k late (omega (arith, early, past)) member
+
 module _ (machines : List Builder) (loads : List ℕ) (ups : List Bool) (among : List ℕ) where
   pub looked_from : (vacant : List Bool) (from : ℕ) → HoldVacant machines loads ups vacant → AreFrom among from → AreLooked machines loads ups among vacant from []
   looked_from vacant from hold least = record {
@@ -131,12 +156,13 @@ module _ (machines : List Builder) (loads : List ℕ) (ups : List Bool) (among :
       → HoldVacant machines loads ups new → HasLooked machines loads ups among place old few → AreLooked machines loads ups among new (place + 1) few
   looked_next vacant new from place old few was first hold looked = looked_by vacant new from place old few was first hold looked
 
-  -- where no other builder may be free, the few are all that are
-  pub looked_all : (vacant : List Bool) (from : ℕ) (few : List ℕ) → AreLooked machines loads ups among vacant from few → IsFirstFrom vacant from None → HoldFree machines loads ups among few
-  looked_all vacant from few was none = record {
+  -- where no other builder up to the last place may be free, the few are all that are
+  pub looked_all : (vacant : List Bool) (from last : ℕ) (few : List ℕ) → AreLooked machines loads ups among vacant from few → AreUpTo among last → IsFirstUpTo vacant from last None
+      → HoldFree machines loads ups among few
+  looked_all vacant from last few was up_to none = record {
     some = was.some;
     free = λ p has free. elim (cases_lt p from) [
       | inl early ↦ was.free p early has free
-      | inr late ↦ absurd (none p late (was.vacant.each p free))
+      | inr late ↦ absurd (none p late (up_to.each p has) (was.vacant.each p free))
     ];
   }

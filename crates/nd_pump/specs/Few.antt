@@ -1,8 +1,9 @@
 -- How the free builders among some places are found.
 -- No public clause cites this: it serves private clauses alone.
-use Rattle.std.specs.Prelude.{◌≡◌, ◌⊎◌, ◌<◌, ◌≤◌, ◌++◌, ◌∷◌, [], ℕ, Bool, List, Contains}
+use Rattle.std.specs.Prelude.{◌≡◌, ◌⊎◌, ◌<◌, ◌≤◌, ◌++◌, ◌∷◌, [], ℕ, Bool, List, Contains, Option, None, Some}
 use Rattle.std.specs.List.Sorted.{IsStrictlyIncreasing}
 use Rattle.nd_machines.specs.Builders.{Builder}
+use Rattle.nd_flags.specs.Members.{IsMember, IsLeastFrom}
 use Rattle.nd_choose.specs.Best.{IsFree}
 use Rattle.nd_hook.specs.Few.{HoldFree}
 use Rattle.nd_kinds.specs.declared.kind.Kind.{Kind}
@@ -14,6 +15,15 @@ use Rattle.nd_pump.specs.Vacancies.{HoldVacant}
 -- none of these places stands before this one
 pub record AreFrom (places : List ℕ) (from : ℕ) : Type 0 where
   pub each : (p : ℕ) → Contains places p → from ≤ p
+
+-- .. and none behind this one
+pub record AreUpTo (places : List ℕ) (last : ℕ) : Type 0 where
+  pub each : (p : ℕ) → Contains places p → p ≤ last
+
+-- the least member that is not before `from`, or none where there is no such member up to `last`
+abbrev pub IsFirstUpTo : List Bool → ℕ → ℕ → Option ℕ → Type 0
+IsFirstUpTo flags from last None = (k : ℕ) → from ≤ k → k ≤ last → IsMember flags k → ⊥
+IsFirstUpTo flags from last (Some i) = IsLeastFrom flags from i
 
 -- a place was looked at: it joined the few where it is among the places, or its builder has no free slot, or it isn't among them
 abbrev pub HasLooked : List Builder → List ℕ → List Bool → List ℕ → ℕ → List ℕ → List ℕ → Type 0

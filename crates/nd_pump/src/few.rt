@@ -47,11 +47,6 @@ impl Few {
         true
     }
 
-    /// How many there are.
-    pub(crate) fn len(&self) -> usize {
-        self.len
-    }
-
     /// The places.
     pub(crate) fn as_slice(&self) -> &[usize]
         ensures { result.now ≡ self.now }

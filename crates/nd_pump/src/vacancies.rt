@@ -4,7 +4,7 @@ ghost use Rattle.std.specs.Prelude.{◌≡◌, ◌≤◌, ◌<◌, ◌↔◌, le
 ghost use Rattle.std.specs.List.Sorted.{IsStrictlyIncreasing};
 ghost use Rattle.nd_choose.specs.Best.{IsFree};
 ghost use Rattle.nd_hook.specs.Few.{HoldFree};
-ghost use Rattle.nd_pump.specs.Few.{AreFrom, HasLooked};
+ghost use Rattle.nd_pump.specs.Few.{AreFrom, AreUpTo, IsFirstUpTo, HasLooked};
 ghost use Rattle.nd_pump.specs.Vacancies.{AreAllVacant, HasOpened, HoldVacant};
 
 use crate::few::Few;
@@ -21,9 +21,9 @@ const MACHINES_A_LOOK: usize = 16;
 /// the walk over these machines that they stand before.
 const MOST_LOOKS: usize = 64;
 
-/// So many looks may find nothing for one that may find something: on a park where many builders of other kinds are
-/// free the looks end soon.
-const LOOKS_A_MISS: usize = 4;
+/// Of so many looks one may meet a builder that the kind can't use: where many of these are free, the looks end
+/// soon.
+const LOOKS_AN_OTHER: usize = 4;
 
 /// The builders that may have a free slot: all others have none. Contracts see a flag for each builder, in
 /// the order of their list. Only `new` takes memory.
@@ -84,8 +84,35 @@ fn first_of(places: &[usize]) -> usize
     places[0]
 }
 
-/// Looks at the builder at a place: without a free slot it is no vacancy any more, and else its place joins the
-/// few where it is among the places that are meant. Answers whether the few had room for it.
+/// No place of these, which rise, stands behind this one.
+#[tactic(auto, using(crate::proofs::Looking::last_is_greatest))]
+fn last_of(places: &[usize]) -> usize
+    requires { IsStrictlyIncreasing places.now }
+    ensures { AreUpTo places.now result }
+{
+    if places.is_empty() {
+        return 0;
+    }
+    places[places.len() - 1]
+}
+
+/// The next place from this one on whose builder may be free, if it stands no further than the last.
+#[tactic(auto, using(crate::proofs::Looking::none_up_to, crate::proofs::Looking::past_the_last))]
+fn next_vacancy(builders: &NodeSet, from: usize, last: usize) -> Option<usize>
+    ensures { IsFirstUpTo builders.now from last result }
+{
+    let Some(place) = builders.first_from(from) else {
+        return None;
+    };
+    if place > last {
+        return None;
+    }
+    Some(place)
+}
+
+/// Looks at the builder at a place. One that isn't among the places that are meant is left alone, and `others` is
+/// how many of these may be met. One without a free slot is no vacancy any more, and the place of another joins the
+/// few. Answers whether the looks may go on: there were fewer such others, or the few had room.
 #[tactic(auto, using(crate::proofs::Looking::vacant_without))]
 fn look(
     builders: &mut NodeSet,
@@ -95,6 +122,7 @@ fn look(
     ups: &[bool],
     place: usize,
     few: &mut Few,
+    others: &mut usize,
 ) -> bool
     requires loads { length loads.now ≡ length machines.now }
     requires ups { length ups.now ≡ length machines.now }
@@ -104,11 +132,15 @@ fn look(
     ensures vacant { HoldVacant machines.now loads.now ups.now builders.new }
     ensures looked { IsTrue result → HasLooked machines.now loads.now ups.now among.now place few.old few.new }
 {
-    if !is_free(machines, loads, ups, place) {
-        builders.remove(place);
+    if !is_among(among, place) {
+        if *others == 0 {
+            return false;
+        }
+        *others -= 1;
         return true;
     }
-    if !is_among(among, place) {
+    if !is_free(machines, loads, ups, place) {
+        builders.remove(place);
         return true;
     }
     few.push(place)
@@ -138,7 +170,6 @@ impl Vacancies {
 
     /// The places of `among` whose builders are up and have a free slot, where these are few; `None` where there
     /// may be more, or more builders are to be looked at than that is worth.
-    #[tactic(auto, using(crate::proofs::Looking::looked_next, crate::proofs::Looking::looked_all))]
     pub(crate) fn few_of(
         &mut self,
         machines: &[Machine],
@@ -155,14 +186,14 @@ impl Vacancies {
         ensures rising { IfSome result IsStrictlyIncreasing }
     {
         let looks = (among.len() / MACHINES_A_LOOK).min(MOST_LOOKS);
-        let mut misses = 0usize;
+        let mut others = looks / LOOKS_AN_OTHER;
+        let last = last_of(among);
         let mut few = Few::new();
         let mut from = first_of(among);
         for _ in 0..looks {
-            let Some(place) = self.builders.first_from(from) else {
+            let Some(place) = next_vacancy(&self.builders, from, last) else {
                 return Some(few);
             };
-            let found = few.len();
             if !look(
                 &mut self.builders,
                 machines,
@@ -171,13 +202,8 @@ impl Vacancies {
                 ups,
                 place,
                 &mut few,
+                &mut others,
             ) {
-                return None;
-            }
-            if few.len() == found {
-                misses = misses.saturating_add(1);
-            }
-            if misses > looks / LOOKS_A_MISS {
                 return None;
             }
             from = place + 1;
