@@ -110,9 +110,9 @@ fn next_vacancy(builders: &NodeSet, from: usize, last: usize) -> Option<usize>
     Some(place)
 }
 
-/// Looks at the builder at a place. One that isn't among the places that are meant is left alone, and `others` is
-/// how many of these may be met. One without a free slot is no vacancy any more, and the place of another joins the
-/// few. Answers whether the looks may go on: there were fewer such others, or the few had room.
+/// Looks at the builder at a place: without a free slot it is no vacancy any more, and else its place joins the
+/// few where it is among the places that are meant. `others` is how many free ones may be met that aren't. Answers
+/// whether the looks may go on: the few had room, and such others were fewer.
 #[tactic(auto, using(crate::proofs::Looking::vacant_without))]
 fn look(
     builders: &mut NodeSet,
@@ -132,18 +132,18 @@ fn look(
     ensures vacant { HoldVacant machines.now loads.now ups.now builders.new }
     ensures looked { IsTrue result → HasLooked machines.now loads.now ups.now among.now place few.old few.new }
 {
-    if !is_among(among, place) {
-        if *others == 0 {
-            return false;
-        }
-        *others -= 1;
-        return true;
-    }
     if !is_free(machines, loads, ups, place) {
         builders.remove(place);
         return true;
     }
-    few.push(place)
+    if is_among(among, place) {
+        return few.push(place);
+    }
+    if *others == 0 {
+        return false;
+    }
+    *others -= 1;
+    true
 }
 
 impl Vacancies {
