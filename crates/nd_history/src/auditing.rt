@@ -160,7 +160,8 @@ pub fn judge_ready_choice(
 }
 
 /// Tests the choice of a slot, all that it names being there: it is refused with the first rule that
-/// it breaks. It takes no memory.
+/// it breaks. It looks at each machine, and is kept for its contract: a dispatch decides by kinds, and tests
+/// with [`check_ready`] and [`judge_ready_choice`]. It takes no memory.
 #[tactic(auto, using(crate::proofs::Rules::any_choice))]
 pub fn check_choice(
     inputs: &Inputs,
@@ -206,7 +207,8 @@ pub fn judge_ready_no_builder(
 }
 
 /// Tests the word that nothing can build a derivation, which is there: it is refused with the first
-/// rule that it breaks. It takes no memory.
+/// rule that it breaks. It looks at each machine, and is kept for its contract: a dispatch decides by kinds, and
+/// tests with [`check_ready`] and [`judge_ready_no_builder`]. It takes no memory.
 #[tactic(auto, using(crate::proofs::Rules::any_given_up))]
 pub fn check_no_builder(inputs: &Inputs, book: &Book, board: &Board, drv: u32) -> Result<(), Rule>
     requires fit { FitTogether (premises_of inputs.now) book.now }

@@ -74,7 +74,8 @@ pub(crate) fn decide_now(inputs: &Inputs, book: &Book, drv: usize) -> Decision
     decide(machines, loads, ups, need, loc, loc_free)
 }
 
-/// The hook's reply about derivation `drv`, whatever its status. It takes no memory.
+/// The hook's reply about derivation `drv`, whatever its status. It looks at each machine, and is kept for its
+/// contract: a dispatch asks by kinds. It takes no memory.
 pub fn reply_now(inputs: &Inputs, book: &Book, drv: usize) -> Reply
     requires sound { IsSound inputs.now.graph }
     requires node { drv < length inputs.now.graph.paths }

@@ -66,8 +66,8 @@ pub fn decide_in(
     )
 }
 
-/// The decision as [`decide_in`] has it, but with the best machine looked for among `few`, which hold each place
-/// of `among` whose machine is up and has a free slot, and no others. It takes no memory.
+/// The decision as [`decide_in`] has it, but with the best machine looked for among `few`: some places of `among`,
+/// with each of these whose machine is up and has a free slot. It takes no memory.
 pub fn decide_among(
     machines: &[Machine],
     among: &[usize],

@@ -53,8 +53,8 @@ pub fn reply_in(
     reply_among(machines, among, among, loads, up, loc_free)
 }
 
-/// The reply as [`reply_in`] has it, but with the best machine looked for among `few`, which hold each place of
-/// `among` whose machine is up and has a free slot, and no others. It takes no memory.
+/// The reply as [`reply_in`] has it, but with the best machine looked for among `few`: some places of `among`,
+/// with each of these whose machine is up and has a free slot. It takes no memory.
 pub fn reply_among(
     machines: &[Machine],
     among: &[usize],
