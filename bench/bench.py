@@ -127,12 +127,13 @@ def built_line(number, references):
 
 
 class Given(NamedTuple):
-    """What the commands read: texts of the forms of docs/DESIGN.md."""
+    """What the commands read: texts of the forms of docs/DESIGN.md, and the options of the local machine."""
 
     bundle: str
     builders: str
     script: str
     stand: str = ""
+    local: tuple[str, ...] = ("--jobs", "0")
 
 
 CLASSES = (
@@ -259,6 +260,18 @@ def waiting_groups(n):
     return Given(bundle_of(waiting + others), builders, script_of(order))
 
 
+def local_preferred(n):
+    """Derivations of 256 kinds that prefer the local machine, which has one job and builds them one after another,
+    though each of 272 builders has the features of all kinds but one."""
+    names = [f"f{k}" for k in range(256)]
+    variables = [("preferLocalBuild", "1")]
+    nodes = [derivation(k, features=names[k % 256], variables=variables) for k in range(n)]
+    rows = (",".join(name for k, name in enumerate(names) if k != m % 256) for m in range(272))
+    builders = ";".join(f"m{m} - - 1 1 {features}" for m, features in enumerate(rows))
+    local = ("--jobs", "1", "--features", ",".join(names))
+    return Given(bundle_of(nodes), builders, script_of(range(n)), local=local)
+
+
 class Input(NamedTuple):
     name: str
     make: Callable[[int], Given]
@@ -274,6 +287,7 @@ INPUTS = (
     Input("deep references", deep_references, (1_024, 8_192, 32_768)),
     Input("a feature for each", own_features, (2_048, 16_384)),
     Input("64 groups wait", waiting_groups, (8_192, 65_536)),
+    Input("local preferred", local_preferred, (8_192, 65_536)),
 )
 
 
@@ -295,6 +309,7 @@ class Bench:
         self.folder = folder
         self.best = best
         self.limit = limit
+        self.local = ()
 
     def file(self, name):
         return os.path.join(self.folder, name)
@@ -308,12 +323,13 @@ class Bench:
             return written.read()
 
     def give(self, given):
-        for name, text in given._asdict().items():
-            self.write(name, text)
+        self.local = given.local
+        for name in ("bundle", "builders", "script", "stand"):
+            self.write(name, getattr(given, name))
 
     def measured(self, command, option=None):
         """The fastest of some runs, or None where one took too long. What was written is in `output`."""
-        words = [*command.split(), "--jobs", "0", "--builders", "@" + self.file("builders")]
+        words = [*command.split(), *self.local, "--builders", "@" + self.file("builders")]
         read = ["bundle", "builders"]
         if option:
             words += ["--" + option, self.file(option)]
