@@ -89,13 +89,14 @@ impl Dispatch {
             &mut self.turns,
             &mut self.vacancies,
         ) {
-            record_step(
+            let recorded = record_step(
                 &mut self.book,
                 &mut self.board,
                 &mut self.turns,
                 &mut self.vacancies,
                 step,
-            )?;
+            );
+            recorded?;
         }
         let _order = self.inputs.graph.order();
         Ok(self.book.entries().len() - before)

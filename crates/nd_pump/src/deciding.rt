@@ -64,7 +64,8 @@ pub fn decide_kind(inputs: &Inputs, book: &Book, kind: &Kind) -> Decision
 }
 
 /// The decision as [`decide_kind`] has it, found among the builders that may have a free slot where these are
-/// few. It takes no memory.
+/// few. No builder is looked at where the local machine is preferred and may build them: it decides alone then. It
+/// takes no memory.
 pub(crate) fn decide_kind_in(
     inputs: &Inputs,
     book: &Book,
@@ -78,6 +79,9 @@ pub(crate) fn decide_kind_in(
     ensures vacant { AreVacant (premises_of inputs.now) (reverse book.now.entries) vacancies.new }
     ensures decision { HasKindDecision (premises_of inputs.now) (reverse book.now.entries) kind.now result }
 {
+    if kind.prefer_local && is_home(inputs, book, kind) {
+        return decide_kind(inputs, book, kind);
+    }
     match few_of_kind(inputs, book, vacancies, kind) {
         Some(few) => decide_few(inputs, book, kind, few.as_slice()),
         None => decide_kind(inputs, book, kind),

@@ -85,7 +85,8 @@ fn take_turn_in(
 
 /// The step of the first derivation that has one. The board, which follows the book, says which
 /// derivations are ready. Those whose kind is to wait are passed over, all of the kind at once, until
-/// one of its machines changes.
+/// one of its machines changes. It looks at each machine of a kind, and is kept for its contract: a dispatch takes
+/// [`next_step_in`].
 pub fn next_step(inputs: &Inputs, book: &Book, board: &Board, turns: &mut Turns) -> Option<Entry>
     requires fit { FitTogether (premises_of inputs.now) book.now }
     requires marked { AreMarked (premises_of inputs.now) (reverse book.now.entries) board.now }

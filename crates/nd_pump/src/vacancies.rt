@@ -208,6 +208,6 @@ impl Vacancies {
             }
             from = place + 1;
         }
-        None
+        None // of those behind the last look more may be free
     }
 }
