@@ -2,11 +2,9 @@
 
 ghost use Rattle.std.specs.Prelude.{IfOk};
 ghost use Rattle.nd_kinds.specs.Kinds.{IsKindOf};
-ghost use Rattle.nd_kinds.specs.Finding.{KeepsTo};
 
-use crate::finder::Finder;
 use nd_bytes::Items;
-use nd_eligible::{Local, Need, local_ok};
+use nd_eligible::{Local, Need, eligible_places, local_ok};
 use nd_machines::Machine;
 use std::alloc::{AllocError, Global};
 
@@ -23,20 +21,17 @@ pub struct Kind {
 }
 
 impl Kind {
-    /// The kind of the derivations with this need. `finder` finds the machines.
-    pub(crate) fn of<'a>(
+    /// The kind of the derivations with this need.
+    pub(crate) fn of(
         alloc: Global,
-        machines: &'a [Machine],
-        finder: &mut Finder<'a>,
+        machines: &[Machine],
         local: &Local,
-        need: &'a Need,
+        need: &Need,
     ) -> Result<Kind, AllocError>
-        requires { KeepsTo machines.now finder.old }
-        ensures kind { IfOk result (IsKindOf machines.now local.now need.now) }
-        ensures kept { KeepsTo machines.now finder.new }
+        ensures { IfOk result (IsKindOf machines.now local.now need.now) }
     {
         Ok(Kind {
-            places: finder.eligible_places(alloc, machines, need)?,
+            places: eligible_places(alloc, machines, need)?,
             prefer_local: need.prefer_local,
             local: local_ok(local, need),
         })

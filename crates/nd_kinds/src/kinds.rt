@@ -2,10 +2,8 @@
 
 ghost use Rattle.std.specs.Prelude.{◌≡◌, ◌<◌, ◌+◌, ◌++◌, ◌∷◌, [], All, Some, length, slice_get, IfOk, IfSome, OnOk};
 ghost use Rattle.nd_kinds.specs.Kinds.{AreKinds, number_of, users_of};
-ghost use Rattle.nd_kinds.specs.Finding.{KeepsTo};
 ghost use Rattle.nd_kinds.specs.Sharing.{SharesNeed, AddsTo, IsListed, IsOneMore, IsOneMoreOf, AreSoFar};
 
-use crate::finder::Finder;
 use crate::kind::Kind;
 use crate::sharing::{Known, Marks};
 use nd_eligible::{Local, Need};
@@ -64,7 +62,6 @@ impl Kinds {
     ) -> Result<Kinds, AllocError>
         ensures { IfOk result (AreKinds machines.now local.now needs.now) }
     {
-        let mut finder = Finder::new();
         let mut known = Known::new(alloc);
         let mut marks = Marks::new(alloc);
         let mut kinds = Kinds {
@@ -74,16 +71,7 @@ impl Kinds {
         };
         for drv in 0..needs.len() {
             let first = known.meet(needs, drv)?;
-            kinds.one_more(
-                alloc,
-                machines,
-                &mut finder,
-                local,
-                needs,
-                drv,
-                first,
-                &mut marks,
-            )?;
+            kinds.one_more(alloc, machines, local, needs, drv, first, &mut marks)?;
         }
         Ok(kinds)
     }
@@ -91,30 +79,24 @@ impl Kinds {
     /// One more derivation, the next of those with these needs. `first` is an earlier one with the same
     /// need, if one is known.
     #[tactic(auto, using(crate::proofs::KindFacts::so_far_joined, crate::proofs::KindFacts::so_far_taken, crate::proofs::KindFacts::places_within))]
-    fn one_more<'a>(
+    fn one_more(
         &mut self,
         alloc: Global,
-        machines: &'a [Machine],
-        finder: &mut Finder<'a>,
+        machines: &[Machine],
         local: &Local,
-        needs: &'a [Need],
+        needs: &[Need],
         drv: usize,
         first: Option<usize>,
         marks: &mut Marks,
     ) -> Result<(), AllocError>
-        requires finder { KeepsTo machines.now finder.old }
         requires node { drv < length needs.now }
         requires first { IfSome first (SharesNeed needs.now drv) }
         requires so_far { AreSoFar machines.now local.now needs.now drv self.old }
-        ensures taken { OnOk result (AreSoFar machines.now local.now needs.now (drv + 1) self.new) }
-        ensures kept { KeepsTo machines.now finder.new }
+        ensures { OnOk result (AreSoFar machines.now local.now needs.now (drv + 1) self.new) }
     {
         match first {
             Some(first) => self.join(first),
-            None => self.take(
-                Kind::of(alloc, machines, finder, local, &needs[drv])?,
-                marks,
-            ),
+            None => self.take(Kind::of(alloc, machines, local, &needs[drv])?, marks),
         }
     }
 
