@@ -1,7 +1,8 @@
 -- Which numbers a list has, by flags and beyond them by a set.
 -- Private clauses alone cite this.
-use Rattle.std.specs.Prelude.{◌≡◌, ℕ, ◌≤◌, ◌<◌, ◌/◌, ◌%◌, Bool, true, false, List, length, slice_index_or, ◌==◌}
+use Rattle.std.specs.Prelude.{◌≡◌, ℕ, ◌≤◌, ◌<◌, ◌/◌, ◌%◌, Bool, true, false, if◌then◌else◌, List, length, slice_index_or, ◌==◌}
 use Rattle.std.specs.Int.{bit_at}
+use Rattle.indexmap.specs.IndexSet.{spare}
 use Rattle.nd_path_numbers.specs.Held.{is_among}
 use Rattle.nd_path_numbers.specs.declared.marks.Marks.{Marks}
 
@@ -15,3 +16,7 @@ pub record AreMarked (numbers : List ℕ) (m : Marks) : Type 0 where
   pub within : (n : ℕ) → n / 64 < length m.words.items → is_up m.words.items n ≡ is_among numbers n
   pub others : (n : ℕ) → length m.words.items ≤ n / 64 → is_among m.others.keys n ≡ true → is_among numbers n ≡ true
   pub whole : m.is_partial ≡ false → (n : ℕ) → length m.words.items ≤ n / 64 → is_among numbers n ≡ is_among m.others.keys n
+
+-- how many more numbers of any size can be noted without taking memory; marks that aren't whole promise none
+abbrev pub room_of : Marks → ℕ
+room_of m = if m.is_partial then 0 else spare m.others

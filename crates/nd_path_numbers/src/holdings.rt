@@ -18,7 +18,7 @@ const FLAGS_OF_A_SEARCH: usize = 4;
 /// they came, each once, and beside it the reserved room, of which "equal" and "as before" do not speak.
 ///
 /// Whether a number is held is told by a flag, where enough is held to pay for flags of all numbers, and else by
-/// a set.
+/// a set. There is reserved room only where both the list and the set have it.
 #[derive(Debug, Drop)]
 pub struct Held {
     numbers: Vec<usize>,
@@ -26,13 +26,13 @@ pub struct Held {
 }
 
 impl Model for Held {
-    ghost use Rattle.std.specs.Prelude.{◌-◌, vec_len, vec_capacity};
+    ghost use Rattle.std.specs.Prelude.{◌-◌, min, vec_len, vec_capacity};
     ghost use Rattle.nd_path_numbers.specs.Held.{Hold};
-    ghost use Rattle.nd_path_numbers.specs.Marks.{AreMarked};
+    ghost use Rattle.nd_path_numbers.specs.Marks.{AreMarked, room_of};
 
     ghost Value = { Hold };
 
-    ghost view = { λ h. record { numbers = h.numbers.items; spare = vec_capacity h.numbers - vec_len h.numbers } };
+    ghost view = { λ h. record { numbers = h.numbers.items; spare = min (vec_capacity h.numbers - vec_len h.numbers) (room_of h.marks) } };
 
     ghost invariant = { λ h. AreMarked h.numbers.items h.marks };
 }
@@ -59,7 +59,7 @@ impl Held {
         }
     }
 
-    /// The same by a look through the list.
+    /// The same by a look through the list. Only a search's list is looked through, and only while it is short.
     fn is_listed(&self, number: usize) -> bool
         ensures { IsTrue result ↔ Contains self.now.numbers number }
     {
@@ -69,31 +69,30 @@ impl Held {
     fn reserve(&mut self, n: usize) -> Result<(), AllocError>
         ensures room { OnOk result (n ≤ self.new.spare) }
         ensures kept { self.new.numbers ≡ self.old.numbers }
+        ensures as_before { self.old.spare ≤ self.new.spare }
     {
-        self.marks.complete(self.numbers.as_slice())?;
-        self.marks.reserve(n)?;
+        self.marks.reserve(self.numbers.as_slice(), n)?;
         self.numbers.reserve(n)
     }
 
-    /// The same for numbers below a limit: where all of these have flags, none of them takes room in the set.
+    /// The same for numbers below a limit, which get flags where so many pay for them.
     fn reserve_below(&mut self, alloc: Global, n: usize, limit: usize) -> Result<(), AllocError>
         ensures room { OnOk result (n ≤ self.new.spare) }
         ensures kept { self.new.numbers ≡ self.old.numbers }
+        ensures as_before { self.old.spare ≤ self.new.spare }
     {
         if n > 0 {
             let paying = self.numbers.len().saturating_add(n);
             self.flag_below(alloc, paying, limit)?;
         }
-        if self.marks.limit() < limit {
-            return self.reserve(n);
-        }
-        self.numbers.reserve(n)
+        self.reserve(n)
     }
 
     /// Makes sure that each number below the limit has a flag, where so many numbers pay for them.
     #[inline(always)]
     fn flag_below(&mut self, alloc: Global, paying: usize, limit: usize) -> Result<(), AllocError>
-        ensures { self.new ≡ self.old }
+        ensures kept { self.new.numbers ≡ self.old.numbers }
+        ensures as_before { self.old.spare ≤ self.new.spare }
     {
         if self.marks.limit() < limit && are_flags_paid(paying, limit) {
             self.flag_anew(alloc, limit)?;
@@ -101,14 +100,18 @@ impl Held {
         Ok(())
     }
 
-    /// Gives each number below the limit a flag. The flags at least double, so that over many calls the list is
-    /// walked through a few times as often as it has members, and no more.
+    /// Gives each number below the limit a flag, with as much room for others as before. The flags at least double,
+    /// so that over many calls the list is walked through a few times as often as it has members, and no more.
     #[inline(never)]
     fn flag_anew(&mut self, alloc: Global, limit: usize) -> Result<(), AllocError>
-        ensures { self.new ≡ self.old }
+        ensures kept { self.new.numbers ≡ self.old.numbers }
+        ensures as_before { self.old.spare ≤ self.new.spare }
     {
         let limit = limit.max(self.marks.limit().saturating_mul(2));
-        self.marks = Marks::with_flags(alloc, self.numbers.as_slice(), limit)?;
+        let numbers = self.numbers.as_slice();
+        let mut marks = Marks::with_flags(alloc, numbers, limit)?;
+        marks.reserve(numbers, self.marks.room())?;
+        self.marks = marks;
         Ok(())
     }
 
@@ -119,16 +122,40 @@ impl Held {
         ensures succeeds { 0 < self.old.spare → IsOk result }
         ensures room { self.old.spare ≤ self.new.spare + 1 }
     {
+        self.complete()?;
         if self.contains(number) {
             return Ok(false);
         }
-        self.numbers.push(number)?;
-        self.marks.note(number);
+        self.enter(number)?;
         Ok(true)
+    }
+
+    /// Makes sure that flags or the set tell of all that is held.
+    #[inline(always)]
+    fn complete(&mut self) -> Result<(), AllocError>
+        ensures kept { self.new.numbers ≡ self.old.numbers }
+        ensures succeeds { 0 < self.old.spare → IsOk result }
+        ensures as_before { self.old.spare ≤ self.new.spare }
+    {
+        self.marks.complete(self.numbers.as_slice())
+    }
+
+    /// Enters a number that isn't held. Within reserved room it takes no memory; a refusal changes nothing.
+    #[inline(always)]
+    fn enter(&mut self, number: usize) -> Result<(), AllocError>
+        ensures entered { OnOk result (self.new.numbers ≡ self.old.numbers ++ number ∷ []) }
+        ensures refused { OnErr result (self.new.numbers ≡ self.old.numbers) }
+        ensures succeeds { 0 < self.old.spare → IsOk result }
+        ensures room { self.old.spare ≤ self.new.spare + 1 }
+    {
+        self.numbers.reserve(1)?;
+        self.marks.note(number)?;
+        self.numbers.push_reserved(number);
+        Ok(())
     }
 }
 
-/// What a search finds is kept in the same way, and while it is little in the list alone.
+/// What a search finds is kept in the same way, and while it is little the list alone tells of it.
 impl Held {
     /// Nothing is found yet. It takes no memory.
     pub(crate) fn nothing(alloc: Global) -> Held
@@ -140,7 +167,8 @@ impl Held {
         }
     }
 
-    /// Adds a number below the limit, where it isn't among them.
+    /// Adds a number, where it isn't among them. Where the found ones are many, each number below the limit has a
+    /// flag once they pay for that.
     pub(crate) fn find(
         &mut self,
         alloc: Global,
@@ -152,7 +180,8 @@ impl Held {
         if self.numbers.len() < FEW {
             return self.find_early(number);
         }
-        self.mark_many(alloc, limit)?;
+        let paying = self.numbers.len().saturating_mul(FLAGS_OF_A_SEARCH);
+        self.flag_below(alloc, paying, limit)?;
         self.add(number)?;
         Ok(())
     }
@@ -164,18 +193,7 @@ impl Held {
         if self.is_listed(number) {
             return Ok(());
         }
-        self.numbers.push(number)?;
-        self.marks.note(number);
-        Ok(())
-    }
-
-    /// Makes sure that flags or a set tell of all that was found.
-    fn mark_many(&mut self, alloc: Global, limit: usize) -> Result<(), AllocError>
-        ensures { self.new ≡ self.old }
-    {
-        let paying = self.numbers.len().saturating_mul(FLAGS_OF_A_SEARCH);
-        self.flag_below(alloc, paying, limit)?;
-        self.marks.complete(self.numbers.as_slice())
+        self.enter(number)
     }
 
     /// How many there are.

@@ -1,8 +1,8 @@
 //! Which numbers a list has, told by flags and beyond them by a set.
 
-ghost use Rattle.std.specs.Prelude.{◌≡◌, ◌≤◌, ◌/◌, ℕ, List, ◌∷◌, ◌++◌, [], true, length, IfOk, MatchOption};
+ghost use Rattle.std.specs.Prelude.{◌≡◌, ◌≤◌, ◌<◌, ◌+◌, ◌/◌, ℕ, List, ◌∷◌, ◌++◌, [], true, false, length, IfOk, OnOk, OnErr, IsOk, MatchOption};
 ghost use Rattle.nd_path_numbers.specs.Held.{is_among};
-ghost use Rattle.nd_path_numbers.specs.Marks.{AreMarked};
+ghost use Rattle.nd_path_numbers.specs.Marks.{AreMarked, room_of};
 
 use indexmap::IndexSet;
 use std::alloc::{AllocError, Global};
@@ -19,7 +19,8 @@ pub(crate) fn are_flags_paid(numbers: usize, limit: usize) -> bool {
 }
 
 /// A flag for each number below a limit, 64 in a word: it is up where a list has the number. What else the list
-/// has, past the limit, is in a set, or in part where it had no memory for more.
+/// has, past the limit, is in a set. Only the marks of a search's short list are partial: they have no flags and
+/// leave the set empty, so they tell of nothing until they are completed.
 #[derive(Debug, Drop)]
 pub(crate) struct Marks {
     words: Vec<u64>,
@@ -30,7 +31,8 @@ pub(crate) struct Marks {
 impl Marks {
     /// The marks of the empty list, which has no flags. It takes no memory.
     pub(crate) fn new(alloc: Global) -> Marks
-        ensures { AreMarked [] result }
+        ensures marked { AreMarked [] result }
+        ensures whole { result.is_partial ≡ false }
     {
         Marks {
             words: Vec::new(alloc),
@@ -58,27 +60,35 @@ impl Marks {
     ) -> Result<Marks, AllocError>
         ensures { IfOk result (AreMarked numbers.now) }
     {
-        let mut marks = Marks {
+        let mut flags = Marks {
             words: vec![in alloc; 0; limit / WORD + 1]?,
             others: IndexSet::new(alloc),
             is_partial: false,
         };
-        for number in numbers {
-            marks.note(*number);
-        }
-        Ok(marks)
+        flags.note_all(numbers)?;
+        Ok(flags)
     }
 
     /// The marks of a list without flags.
     pub(crate) fn with_set(alloc: Global, numbers: &[usize]) -> Result<Marks, AllocError>
-        ensures { IfOk result (AreMarked numbers.now) }
+        ensures marked { IfOk result (AreMarked numbers.now) }
+        ensures whole { IfOk result (λ m. m.is_partial ≡ false) }
     {
         let mut marks = Marks::new(alloc);
         marks.others.reserve(numbers.len())?;
-        for number in numbers {
-            marks.note(*number);
-        }
+        marks.note_all(numbers)?;
         Ok(marks)
+    }
+
+    /// Takes note of all numbers of a list, where these are the marks of the empty one.
+    fn note_all(&mut self, numbers: &[usize]) -> Result<(), AllocError>
+        ensures noted { AreMarked [] self.old → OnOk result (AreMarked numbers.now self.new) }
+        ensures as_whole { self.new.is_partial ≡ self.old.is_partial }
+    {
+        for number in numbers {
+            self.note(*number)?;
+        }
+        Ok(())
     }
 
     /// The first number that has no flag.
@@ -87,9 +97,19 @@ impl Marks {
         self.words.len().saturating_mul(WORD)
     }
 
+    /// For how many more numbers without a flag there is room.
+    pub(crate) fn room(&self) -> usize
+        ensures { room_of self.now ≤ result }
+    {
+        self.others.capacity() - self.others.len()
+    }
+
     /// Makes the marks of a list anew, as a set, where they don't tell of all its numbers.
     pub(crate) fn complete(&mut self, numbers: &[usize]) -> Result<(), AllocError>
-        ensures { AreMarked numbers.now self.old → AreMarked numbers.now self.new }
+        ensures marked { AreMarked numbers.now self.old → AreMarked numbers.now self.new }
+        ensures whole { OnOk result (self.new.is_partial ≡ false) }
+        ensures succeeds { 0 < room_of self.old → IsOk result }
+        ensures room { room_of self.old ≤ room_of self.new }
     {
         if self.is_partial {
             let alloc = *self.others.allocator();
@@ -98,39 +118,48 @@ impl Marks {
         Ok(())
     }
 
-    /// Makes room for so many numbers without a flag.
-    pub(crate) fn reserve(&mut self, count: usize) -> Result<(), AllocError>
-        ensures { (numbers : List ℕ) → AreMarked numbers self.old → AreMarked numbers self.new }
+    /// Completes the marks of a list and makes room for so many more of its numbers, whether they have a flag or not.
+    pub(crate) fn reserve(&mut self, numbers: &[usize], count: usize) -> Result<(), AllocError>
+        ensures marked { AreMarked numbers.now self.old → AreMarked numbers.now self.new }
+        ensures made { OnOk result (count ≤ room_of self.new) }
+        ensures room { room_of self.old ≤ room_of self.new }
     {
+        self.complete(numbers)?;
         self.others.reserve(count)
     }
 
     /// Takes note of one more number of the list. Of one that has a flag, or that room was made for, it takes no
-    /// memory; without memory for another it is left out, and the marks don't tell of it.
+    /// memory; a refusal changes nothing.
     #[inline(always)]
-    pub(crate) fn note(&mut self, number: usize)
-        ensures { (numbers : List ℕ) → AreMarked numbers self.old → AreMarked (numbers ++ number ∷ []) self.new }
+    pub(crate) fn note(&mut self, number: usize) -> Result<(), AllocError>
+        ensures noted { OnOk result ((numbers : List ℕ) → AreMarked numbers self.old → AreMarked (numbers ++ number ∷ []) self.new) }
+        ensures refused { OnErr result ((numbers : List ℕ) → AreMarked numbers self.old → AreMarked numbers self.new) }
+        ensures succeeds { 0 < room_of self.old → IsOk result }
+        ensures room { room_of self.old ≤ room_of self.new + 1 }
+        ensures as_whole { self.new.is_partial ≡ self.old.is_partial }
     {
         let place = number / WORD;
         if place < self.words.len() {
             self.words[place] |= 1 << (number % WORD);
-        } else {
-            self.note_other(number);
+            return Ok(());
         }
+        self.note_other(number)
     }
 
     /// Takes note of one that has no flag.
     #[inline(never)]
-    fn note_other(&mut self, number: usize)
+    fn note_other(&mut self, number: usize) -> Result<(), AllocError>
         requires { length self.old.words.items ≤ number / 64 }
-        ensures { (numbers : List ℕ) → AreMarked numbers self.old → AreMarked (numbers ++ number ∷ []) self.new }
+        ensures noted { OnOk result ((numbers : List ℕ) → AreMarked numbers self.old → AreMarked (numbers ++ number ∷ []) self.new) }
+        ensures refused { OnErr result ((numbers : List ℕ) → AreMarked numbers self.old → AreMarked numbers self.new) }
+        ensures succeeds { 0 < room_of self.old → IsOk result }
+        ensures room { room_of self.old ≤ room_of self.new + 1 }
+        ensures as_whole { self.new.is_partial ≡ self.old.is_partial }
     {
-        if self.is_partial {
-            return;
+        if !self.is_partial {
+            self.others.insert(number)?;
         }
-        if self.others.insert(number).is_err() {
-            self.is_partial = true;
-        }
+        Ok(())
     }
 
     /// Whether the list has this number, where the marks tell. It takes no memory.

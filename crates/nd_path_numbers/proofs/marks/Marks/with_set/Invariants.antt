@@ -1,6 +1,0 @@
-use Rattle.std.proofs.Common.{take}
-use Rattle.nd_path_numbers.specs.Marks.{AreMarked}
-use Rattle.nd_path_numbers.proofs.marks.Marks.with_set.Given as goal
-
-abbrev pub invariant-loop-number : goal.invariant-loop-number
-invariant-loop-number l = AreMarked (take l.number-index l.numbers) l.marks
