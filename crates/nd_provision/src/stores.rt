@@ -1,6 +1,6 @@
 //! What machines hold and what paths refer to, kept beside the entries of a history.
 
-ghost use Rattle.std.specs.Prelude.{◌≡◌, ◌<◌, ◌≤◌, length, IfOk, OnOk, IfErr, IfSome, OnSome};
+ghost use Rattle.std.specs.Prelude.{◌≡◌, ◌<◌, ◌≤◌, true, length, IfOk, OnOk, IfErr, IfSome, OnSome};
 ghost use Rattle.nd_path_numbers.specs.Numbers.{AreKnown, AreNumbersOf, row_in};
 ghost use Rattle.nd_history.specs.Premises.{premises_of};
 ghost use Rattle.nd_history.specs.References.{outputs_of};
@@ -185,7 +185,7 @@ impl Stores {
     }
 
     /// The same, with the numbers of the copied paths where they are at hand: where the paths are just what
-    /// the machine lacks, the search for that has found them.
+    /// the machine lacks, the search for that has found them. A walk over the whole closure finds none.
     pub fn check_copies(
         &self,
         alloc: Global,
@@ -196,6 +196,31 @@ impl Stores {
     ) -> Result<Option<Vec<usize>>, PathsError>
         requires drv { drv < length inputs.now.graph.paths }
         requires machine { m < length self.now.stocks }
+        ensures ok { OnOk result (ArePathsRightBy (premises_of inputs.now) self.now drv m paths.now) }
+        ensures refused { IfErr result (IsPathsFaultBy (premises_of inputs.now) self.now drv m paths.now) }
+        ensures numbers { IfOk result (λ r. IfSome r (λ v. AreNumbersOf self.now.numbers.paths paths.now v.items)) }
+    {
+        if self.whole {
+            return self.match_copies(alloc, inputs, drv, m, paths);
+        }
+        match self.check_paths(alloc, inputs, drv, m, paths) {
+            Ok(()) => Ok(None),
+            Err(fault) => Err(fault),
+        }
+    }
+
+    /// The same while a search for what machine `m` lacks may stop at each path that it holds.
+    fn match_copies(
+        &self,
+        alloc: Global,
+        inputs: &Inputs,
+        drv: usize,
+        m: usize,
+        paths: &PathSet,
+    ) -> Result<Option<Vec<usize>>, PathsError>
+        requires drv { drv < length inputs.now.graph.paths }
+        requires machine { m < length self.now.stocks }
+        requires whole { self.now.whole ≡ true }
         ensures ok { OnOk result (ArePathsRightBy (premises_of inputs.now) self.now drv m paths.now) }
         ensures refused { IfErr result (IsPathsFaultBy (premises_of inputs.now) self.now drv m paths.now) }
         ensures numbers { IfOk result (λ r. IfSome r (λ v. AreNumbersOf self.now.numbers.paths paths.now v.items)) }
@@ -218,19 +243,18 @@ impl Stores {
         m: usize,
         paths: &PathSet,
     ) -> Result<Option<Vec<usize>>, AllocError>
-        requires { m < length self.now.stocks }
+        requires machine { m < length self.now.stocks }
+        requires whole { self.now.whole ≡ true }
         ensures missing { IfOk result (λ r. OnSome r (IsMissingIn self.now drv m paths.now)) }
         ensures numbers { IfOk result (λ r. IfSome r (λ v. AreNumbersOf self.now.numbers.paths paths.now v.items)) }
     {
-        if !self.whole {
-            return Ok(None);
-        }
         let seeds = self.seeds(drv);
         let held = self.holdings.held(m);
         match_unheld(alloc, seeds, &self.numbers, held, paths.as_slice())
     }
 
-    /// The same by a walk over the whole closure.
+    /// Tests these paths by a walk over the whole closure: first that each path of it is held or copied, then
+    /// that each copied one lies in it.
     fn walk_paths(
         &self,
         alloc: Global,
@@ -299,7 +323,8 @@ impl Stores {
         Ok(all_lie_in(refs.lists(), &allowed))
     }
 
-    /// Takes the memory that a start on machine `m` with these copied paths needs.
+    /// Takes the memory that a start on machine `m` with these copied paths needs. It is kept for its contract: a
+    /// dispatch calls [`Stores::prepare_copies`].
     pub fn prepare_start(
         &mut self,
         alloc: Global,

@@ -1,5 +1,5 @@
-//! What no contract of `nd_path_numbers` says: that its calls succeed with ample memory, and that what two
-//! machines lack of a closure comes out.
+//! What no contract of `nd_path_numbers` says: that its calls succeed with ample memory, that what two
+//! machines lack of a closure comes out, and that additions stay quick after a refusal.
 //!
 //! Paths are written as in the tests of closures: with the digits 1, 2 and 3.
 
@@ -77,4 +77,43 @@ fn takes_one(alloc: Global) -> Result<bool, AllocError> {
 #[test]
 fn two_machines(rt: HostRuntime) {
     assert!(rt; takes_one(rt.alloc()) == Ok(true));
+}
+
+/// Adds the numbers below `count` to what the second of two machines holds, one by one and with no room
+/// reserved. One whose addition is refused is added once more.
+fn add_each(holdings: &mut Holdings, count: usize) -> Result<(), AllocError>
+    requires { length holdings.old ≡ 2 }
+    ensures { length holdings.new ≡ 2 }
+{
+    for number in 0..count {
+        if holdings.add(1, number).is_err() {
+            holdings.add(1, number)?;
+        }
+    }
+    Ok(())
+}
+
+/// How many of the numbers below `count` are held.
+fn count_held(held: &Held, count: usize) -> usize {
+    let mut found = 0_usize;
+    for number in 0..count {
+        found = found.saturating_add(usize::from(held.contains(number)));
+    }
+    found
+}
+
+/// Whether room for more than there is memory is refused and what is held then takes 40,000 numbers and tells
+/// of each: a list that is looked through would take minutes for that. So it is with each request for memory
+/// refused once, by `rt try --test --fail-alloc`.
+fn takes_many(alloc: Global) -> Result<bool, AllocError> {
+    let mut holdings = Holdings::new(alloc, 2)?;
+    let refused = holdings.reserve(1, usize::MAX).is_err();
+    add_each(&mut holdings, 40_000)?;
+    let found = count_held(holdings.held(1), 40_001);
+    Ok(refused && found == 40_000)
+}
+
+#[test]
+fn many_additions(rt: HostRuntime) {
+    assert!(rt; takes_many(rt.alloc()) == Ok(true));
 }

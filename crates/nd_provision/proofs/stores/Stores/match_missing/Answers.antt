@@ -1,4 +1,4 @@
-use Rattle.std.proofs.Common.{◌≡◌, true, List, ℕ, ap, sym, ◌∙◌, subst}
+use Rattle.std.proofs.Common.{◌≡◌, List, ℕ, ap, ◌∙◌, subst}
 use Rattle.std.specs.Prelude.{OnSome}
 use Rattle.std.proofs.lemmas.Result.{IfOk-weaker}
 use Rattle.nd_path_numbers.specs.Numbers.{Numbered}
@@ -16,9 +16,8 @@ returns-clause-missing c =
     let paths : List (List ℕ) = c.args.paths.now in
     let held : c.held-held.result.now ≡ hold = c.held-held.ensures ∙ ap (λ (s : Stored). hold_of s.stocks c.args.m) c.self.view_is in
     let numbers : c.self.inside.numbers ≡ now.numbers = ap (λ (s : Stored). s.numbers) c.self.view_is in
-    let whole : now.whole ≡ true = sym (ap (λ (s : Stored). s.whole) c.self.view_is) ∙ c.if-not-self.false in
     IfOk-weaker c.match_unheld.result (λ r. OnSome r (FindsUnheld c.self.inside.numbers c.held-held.result.now.numbers c.seeds-seeds.result.now c.as_slice.result.now)) (λ r. OnSome r (IsMissingIn now c.args.drv c.args.m paths))
-    (λ r. on_some r (λ found. missing_in now c.args.drv c.args.m paths c.requires whole
+    (λ r. on_some r (λ found. missing_in now c.args.drv c.args.m paths c.requires.machine c.requires.whole
     (subst (λ (ns : List ℕ). FindsUnheld now.numbers hold.numbers ns paths) c.seeds-seeds.ensures
     (subst (λ (n : Numbered). FindsUnheld n hold.numbers c.seeds-seeds.result.now paths) numbers
     (subst (λ (h : Hold). FindsUnheld c.self.inside.numbers h.numbers c.seeds-seeds.result.now paths) held

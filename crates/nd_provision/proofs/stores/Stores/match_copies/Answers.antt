@@ -1,6 +1,6 @@
 use Rattle.nd_history.specs.Premises.{premises_of}
 use Rattle.nd_provision.proofs.Copied.{exact_in, some_is}
-use Rattle.nd_provision.proofs.stores.Stores.check_copies.Goals as goal
+use Rattle.nd_provision.proofs.stores.Stores.match_copies.Goals as goal
 
 pub returns-in-Some-clause-ok : goal.returns-in-Some-clause-ok
 returns-in-Some-clause-ok c =
