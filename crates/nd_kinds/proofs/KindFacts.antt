@@ -282,8 +282,3 @@ kind_suits machines local needs k d need kind are is_need at =
     let at_has = has.at in
     let one : has.kind ≡ kind = cc in
     subst (λ (some : Kind). IsKindOf machines local need some) one has.fits
-
--- .. and its machines are in the list
-pub kind_ranged : (machines : List Builder) (local : Settings) (need : Need) (kind : Kind) → IsKindOf machines local need kind → All (λ p. p < length machines) kind.places
-kind_ranged machines local need kind fits =
-    All-from_get_or (λ (p : ℕ). p < length machines) kind.places 0 (λ k lt. eligible_within machines need (get_or kind.places k 0) ((fits.eligible.exact (get_or kind.places k 0)).0 (Contains-get_or kind.places k 0 lt)))
