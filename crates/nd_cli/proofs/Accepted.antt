@@ -1,6 +1,6 @@
 -- An accepted place is in the list.
 use Rattle.std.proofs.Common.{◌≡◌, ◌<◌, ◌↔◌, ℕ, Bool, List, length, get_or, Option, None, Some, refl, inl, inr}
-use Rattle.std.specs.List.{All, Contains}
+use Rattle.std.specs.List.{All}
 use Rattle.std.proofs.lemmas.List.Elements.{Contains-get_or}
 use Rattle.std.specs.Prelude.{slice_get, IsSomeAnd}
 use Rattle.std.proofs.lemmas.Option.{slice_get_within}
@@ -9,6 +9,8 @@ use Rattle.nd_eligible.specs.Eligibility.{Eligible, IsEligibleAt, AreEligible}
 use Rattle.nd_eligible.specs.declared.need.Need.{Need}
 use Rattle.nd_hook.specs.declared.kinds.Reply.{Reply}
 use Rattle.nd_hook.specs.declared.kinds.Reply.TheVariants.{Accept, Postpone, Decline, DeclinePermanently}
+use Rattle.nd_eligible.specs.Settings.{Settings}
+use Rattle.nd_hook.specs.Idle.{IsIdleReply}
 use Rattle.nd_hook.specs.Replies.{IsReply, IsNoneFree, IsOneUp}
 use Rattle.nd_hook.specs.ReplyText.{IsInList}
 
@@ -45,8 +47,9 @@ same_reply machines loads ups A B free_here DeclinePermanently same said = said
 pub places_in_range : (machines : List Builder) (need : Need) (places : List ℕ) → AreEligible machines need places → All (λ place. place < length machines) places
 places_in_range machines need places eligible = λ k d within. eligible_in_list machines need (get_or places k d) ((eligible.exact (get_or places k d)).0 (Contains-get_or places k d within))
 
-pub accepted_in_list : (machines : List Builder) (loads : List ℕ) (ups : List Bool) (need : Need) (places : List ℕ) (loc_free : Bool) (reply : Reply) → IsReply machines loads ups (Contains places) loc_free reply → AreEligible machines need places → IsInList machines reply
-accepted_in_list machines loads ups need places loc_free (Accept place) best eligible = eligible_in_list machines need place ((eligible.exact place).0 best.candidate.meant)
-accepted_in_list machines loads ups need places loc_free Postpone best eligible = tt
-accepted_in_list machines loads ups need places loc_free Decline best eligible = tt
-accepted_in_list machines loads ups need places loc_free DeclinePermanently best eligible = tt
+-- the place that a reply on an idle park accepts is in the list
+pub idle_in_list : (machines : List Builder) (local : Settings) (need : Need) (reply : Reply) → IsIdleReply machines local need reply → IsInList machines reply
+idle_in_list machines local need (Accept place) h = eligible_in_list machines need place h.is.candidate.meant
+idle_in_list machines local need Postpone h = tt
+idle_in_list machines local need Decline h = tt
+idle_in_list machines local need DeclinePermanently h = tt

@@ -1,4 +1,5 @@
 pub mod Replying
 pub mod Accepted
 pub mod Whole
-pub mod KindReplying
+pub mod LocalTest
+pub mod ClassReplying

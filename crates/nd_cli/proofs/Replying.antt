@@ -1,11 +1,10 @@
 -- Replies that are written one after another.
-use Rattle.std.proofs.Common.{◌≡◌, ◌<◌, ◌+◌, ◌↔◌, ℕ, zero, suc, Bool, IsTrue, List, [], ◌∷◌, ◌++◌, length, take, get_or, Option, None, Some, Result, Ok, Err, OnOk, OnErr, refl, sym, ap, subst, ◌∙◌, append_assoc, append-nil, arith}
-use Rattle.std.specs.List.{AllZip, Contains, flat_map, slice_get}
+use Rattle.std.proofs.Common.{◌≡◌, ◌<◌, ◌+◌, ◌↔◌, ℕ, zero, suc, Bool, IsTrue, List, [], ◌∷◌, ◌++◌, length, take, get_or, Option, None, Some, refl, sym, ap, subst, ◌∙◌, append_assoc, append-nil, arith}
+use Rattle.std.specs.List.{AllZip, Contains, flat_map}
 use Rattle.std.specs.Io.KnownBytes.{Appends}
 use Rattle.std.proofs.KnownBytes.{Appends-trans}
 use Rattle.std.proofs.lemmas.Grind.{flat_map-append}
 use Rattle.std.proofs.lemmas.List.{take_more}
-use Rattle.std.proofs.lemmas.Option.{get_or_from_slice_get}
 use Rattle.nd_machines.specs.Builders.{Builder}
 use Rattle.nd_eligible.specs.Settings.{Settings}
 use Rattle.nd_eligible.specs.declared.need.Need.{Need}
@@ -18,7 +17,7 @@ use Rattle.nd_cli.proofs.Accepted.{same_reply}
 use Rattle.nd_hook.specs.Idle.{idle, all_up, IsFreeHere, IsIdleReply}
 use Rattle.nd_cli.specs.Asks.{AreReplies, WritesReply, WritesReplyPart, WritesReplies, WritesSomeReplies}
 
-AllZip-snoc : {A B : Type 0} (R : A → B → Type 0) (xs : List A) (ys : List B) (x : A) (y : B) → AllZip R xs ys → R x y → AllZip R (xs ++ x ∷ []) (ys ++ y ∷ [])
+pub AllZip-snoc : {A B : Type 0} (R : A → B → Type 0) (xs : List A) (ys : List B) (x : A) (y : B) → AllZip R xs ys → R x y → AllZip R (xs ++ x ∷ []) (ys ++ y ∷ [])
 AllZip-snoc R [] [] x y each here = (here, tt)
 AllZip-snoc R [] (z ∷ ys) x y each here = absurd each
 AllZip-snoc R (z ∷ xs) [] x y each here = absurd each
@@ -82,16 +81,6 @@ none_written machines local needs old = record {
   part = record { part = []; rest = []; whole = refl; written = Appends-none old };
 }
 
--- one reply
-pub one_written : {U E : Type 0} (r : Result U E) (machines : List Builder) (local : Settings) (need : Need) (reply : Reply) (old new : Option (List ℕ)) → IsIdleReply machines local need reply → OnOk r (Appends old new (reply_text machines reply)) → OnOk r (WritesReply machines local need old new)
-one_written (Ok u) machines local need reply old new is written = record { reply = reply; is = is; written = written }
-one_written (Err e) machines local need reply old new is written = written
-
--- one reply in part
-pub one_written_in_part : {U E : Type 0} (r : Result U E) (machines : List Builder) (local : Settings) (need : Need) (reply : Reply) (old new : Option (List ℕ)) → IsIdleReply machines local need reply → OnErr r (WritesPart old new (reply_text machines reply)) → OnErr r (WritesReplyPart machines local need old new)
-one_written_in_part (Ok u) machines local need reply old new is part = part
-one_written_in_part (Err e) machines local need reply old new is part = record { reply = reply; is = is; part = part }
-
 -- the reply on a park where no slot is taken and every machine is up, over the places of the eligible machines
 pub idle_reply : (machines : List Builder) (places loads : List ℕ) (ups : List Bool) (local : Settings) (need : Need) (free_here : Bool) (reply : Reply) → loads ≡ idle machines → ups ≡ all_up machines → AreEligible machines need places → (IsTrue free_here ↔ IsFreeHere local need) → IsReply machines loads ups (Contains places) free_here reply → IsIdleReply machines local need reply
 idle_reply machines places loads ups local need free_here reply no_load up eligible is_free is = record {
@@ -103,15 +92,8 @@ idle_reply machines places loads ups local need free_here reply no_load up eligi
 }
 
 -- two lists that agree place by place, at one place
-AllZip-at : {A B : Type 0} (R : A → B → Type 0) (xs : List A) (ys : List B) (i : ℕ) (d : A) (e : B) → AllZip R xs ys → i < length xs → R (get_or xs i d) (get_or ys i e)
+pub AllZip-at : {A B : Type 0} (R : A → B → Type 0) (xs : List A) (ys : List B) (i : ℕ) (d : A) (e : B) → AllZip R xs ys → i < length xs → R (get_or xs i d) (get_or ys i e)
 AllZip-at R [] ys i d e each within = absurd (omega arith)
 AllZip-at R (x ∷ xs) [] i d e each within = absurd each
 AllZip-at R (x ∷ xs) (y ∷ ys) zero d e each within = each.0
 AllZip-at R (x ∷ xs) (y ∷ ys) (suc i) d e each within = AllZip-at R xs ys i d e each.1 (omega arith)
-
--- the eligible machines for the need with a number
-pub eligible_at : (machines : List Builder) (needs : List Need) (classes : List (List ℕ)) (i : ℕ) (need : Need) (places : List ℕ) → AllZip (AreEligible machines) needs classes → i < length needs → need ≡ get_or needs i need → slice_get classes i ≡ Some places → AreEligible machines need places
-eligible_at machines needs classes i need places each within is_need is_places =
-    subst (λ (some : Need). AreEligible machines some places) (sym is_need)
-    (subst (λ (some : List ℕ). AreEligible machines (get_or needs i need) some) (get_or_from_slice_get classes i places [] is_places)
-    (AllZip-at (AreEligible machines) needs classes i need [] each within))

@@ -1,5 +1,5 @@
 -- What `ask` writes: for each derivation in order the hook's reply on an idle park. `AnswersAsk` cites `WritesReplies` and
--- `WritesSomeReplies`, and with them what they are made of; `WritesReply` and `WritesReplyPart` serve private clauses.
+-- `WritesSomeReplies`, and with them what they are made of; `WritesReply` and `WritesReplyPart` serve proofs alone.
 use Rattle.std.specs.Prelude.{◌≡◌, ℕ, Option, List, flat_map, take}
 use Rattle.std.specs.List.{AllZip}
 use Rattle.std.specs.Io.KnownBytes.{Appends}

@@ -1,7 +1,7 @@
 pub mod Inputs
 pub mod Parks
 pub mod Asks
-pub mod KindReplies
+pub mod ClassReplies
 pub mod Paths
 pub mod Asked
 pub mod Statuses

@@ -1,20 +1,20 @@
 //! The replies that `ask` writes.
 
-ghost use Rattle.std.specs.Prelude.{◌≡◌, ◌<◌, ◌↔◌, ◌⊎◌, ◌||◌, All, true, false, IsTrue, length, OnOk, OnErr, IfErr, is_err};
-ghost use Rattle.std.specs.List.Sorted.{IsStrictlyIncreasing};
-ghost use Rattle.nd_kinds.specs.Kinds.{AreKinds};
+ghost use Rattle.std.specs.Prelude.{◌≡◌, ◌<◌, ◌↔◌, ◌⊎◌, ◌||◌, true, false, IsTrue, length, IfOk, OnOk, OnErr, IfErr, is_err};
+ghost use Rattle.std.specs.List.{AllZip};
 ghost use Rattle.nd_cli.specs.Asks.{WritesReplies, WritesSomeReplies};
-ghost use Rattle.nd_cli.specs.KindReplies.{IsFreeForKind, IsKindReply, HaveReplied, IsReplyAt};
+ghost use Rattle.nd_cli.specs.ClassReplies.{HaveReplied, IsReplyAt};
 ghost use Rattle.nd_cli.specs.Inputs.{is_write_fault, is_write_failure};
-ghost use Rattle.nd_hook.specs.Idle.{idle, all_up};
+ghost use Rattle.nd_hook.specs.Idle.{IsFreeHere, IsIdleReply, idle, all_up};
 
 use crate::fault::CliFault;
+use nd_bytes::ByteString;
 use nd_devices::{Fault, Told, WriteError};
-use nd_eligible::{Local, Need};
+use nd_eligible::{Local, Need, eligible_places, local_ok};
 use nd_hook::{Reply, reply_in, write_reply};
-use nd_kinds::{Kind, Kinds};
-use nd_machines::Machine;
-use std::alloc::Global;
+use nd_machines::{FeatureSet, Machine};
+use std::alloc::{AllocError, Global};
+use std::collections::BTreeMap;
 use std::io::Write;
 
 /// Writes for each need, in order, the reply on an idle park: no slot is taken, and every machine
@@ -22,7 +22,7 @@ use std::io::Write;
 ///
 /// `Memory`: nothing is written then. `Write`: the writer refused, and is marked; the replies about
 /// some of the first needs, the last of them perhaps in part, are out.
-#[tactic(auto, using(crate::proofs::Replying::none_written, crate::proofs::Replying::begun, crate::proofs::KindReplying::none_replied))]
+#[tactic(auto, using(crate::proofs::Replying::none_written, crate::proofs::Replying::begun))]
 pub(crate) fn write_replies<W: Write>(
     alloc: Global,
     machines: &[Machine],
@@ -36,114 +36,104 @@ pub(crate) fn write_replies<W: Write>(
     ensures mark { output.new.is_marked ≡ (output.old.is_marked || is_write_failure result) }
     ensures untouched { IfErr result (λ e. is_write_fault e ≡ false → output.new ≡ output.old) }
 {
-    let Ok(loads) = vec![in alloc; 0u32; machines.len()] else {
-        return Err(CliFault::Memory);
-    };
-    let Ok(up) = vec![in alloc; true; machines.len()] else {
-        drop(loads);
-        return Err(CliFault::Memory);
-    };
-    let Ok(kinds) = Kinds::new(alloc, machines, local, needs) else {
-        drop(up);
-        drop(loads);
-        return Err(CliFault::Memory);
-    };
-    let Ok(mut replies) = vec![in alloc; None; kinds.len()] else {
-        drop(kinds);
-        drop(up);
-        drop(loads);
+    let Ok(replies) = replies_about(alloc, machines, local, needs) else {
         return Err(CliFault::Memory);
     };
     for number in 0..needs.len() {
-        let reply = reply_about(
-            machines,
-            local,
-            needs,
-            &loads,
-            &up,
-            &kinds,
-            &mut replies,
-            number,
-        );
-        match write_reply(&reply, machines, output) {
+        match write_reply(&replies[number], machines, output) {
             Ok(()) => {}
             Err(WriteError::Write) => {
                 drop(replies);
-                drop(kinds);
-                drop(up);
-                drop(loads);
                 return Err(CliFault::Write);
             }
         }
     }
     drop(replies);
-    drop(kinds);
-    drop(up);
-    drop(loads);
     match output.flush() {
         Ok(()) => Ok(()),
         Err(Fault) => Err(CliFault::Write),
     }
 }
 
-/// The reply about the derivation with this number, where no slot is taken and every machine is up.
-/// `replies` has those that were made, by the numbers of the kinds; one that wasn't is made now.
-fn reply_about(
+/// The replies about derivations with these needs, in order, where no slot is taken and every machine is up.
+fn replies_about(
+    alloc: Global,
     machines: &[Machine],
     local: &Local,
     needs: &[Need],
-    loads: &[u32],
-    up: &[bool],
-    kinds: &Kinds,
-    replies: &mut Vec<Option<Reply>>,
-    number: usize,
-) -> Reply
-    requires loads { loads.now ≡ idle machines.now }
-    requires up { up.now ≡ all_up machines.now }
-    requires kinds { AreKinds machines.now local.now needs.now kinds.now }
-    requires number { number < length needs.now }
-    requires sized { length replies.old.items ≡ length kinds.now.kinds }
-    requires replied { HaveReplied machines.now local.now needs.now kinds.now replies.old.items }
-    ensures reply { IsReplyAt machines.now local.now needs.now number result }
-    ensures sized { length replies.new.items ≡ length replies.old.items }
-    ensures replied { HaveReplied machines.now local.now needs.now kinds.now replies.new.items }
+) -> Result<Vec<Reply>, AllocError>
+    ensures { IfOk result (λ replies. AllZip (IsIdleReply machines.now local.now) needs.now replies.items) }
 {
-    // For the proof: there is a derivation with this number, and it has this need.
-    let _need = &needs[number];
-    let of = kinds.numbers()[number];
-    if let Some(reply) = replies[of] {
-        return reply;
+    let loads = vec![in alloc; 0u32; machines.len()]?;
+    let up = vec![in alloc; true; machines.len()]?;
+    let mut known = BTreeMap::new(alloc);
+    let mut replies = Vec::with_capacity(alloc, needs.len())?;
+    for drv in 0..needs.len() {
+        let reply = reply_about(alloc, machines, local, needs, &loads, &up, &mut known, drv)?;
+        replies.push(reply)?;
     }
-    let kind = kinds.kind(of);
-    let reply = reply_about_kind(machines, local, loads, up, kind);
-    replies[of] = Some(reply);
-    reply
+    Ok(replies)
 }
 
-/// The reply about the derivations of a kind, where no slot is taken and every machine is up.
-fn reply_about_kind(
+/// What the reply about a derivation depends on where no slot is taken and every machine is up: the platform and
+/// the required features of its need. These say which machines are eligible, and each of those is free then; so
+/// whether the local machine may build it and has a free slot too changes nothing.
+type Class<'a> = (&'a ByteString, &'a FeatureSet);
+
+/// The reply about the derivation with this number, where no slot is taken and every machine is up. `known` has
+/// those that were made, by their classes; one that wasn't is made now.
+fn reply_about<'a>(
+    alloc: Global,
+    machines: &[Machine],
+    local: &Local,
+    needs: &'a [Need],
+    loads: &[u32],
+    up: &[bool],
+    known: &mut BTreeMap<Class<'a>, Reply>,
+    number: usize,
+) -> Result<Reply, AllocError>
+    requires loads { loads.now ≡ idle machines.now }
+    requires up { up.now ≡ all_up machines.now }
+    requires number { number < length needs.now }
+    requires known { HaveReplied machines.now local.now known.old }
+    ensures reply { IfOk result (IsReplyAt machines.now local.now needs.now number) }
+    ensures known { OnOk result (HaveReplied machines.now local.now known.new) }
+{
+    let need = &needs[number];
+    let class = (&need.system, &need.features);
+    if let Some(reply) = known.get(&class) {
+        return Ok(*reply);
+    }
+    let reply = make_reply(alloc, machines, local, loads, up, need)?;
+    known.insert(class, reply)?;
+    Ok(reply)
+}
+
+/// The reply about a derivation with this need, where no slot is taken and every machine is up.
+fn make_reply(
+    alloc: Global,
     machines: &[Machine],
     local: &Local,
     loads: &[u32],
     up: &[bool],
-    kind: &Kind,
-) -> Reply
+    need: &Need,
+) -> Result<Reply, AllocError>
     requires loads { loads.now ≡ idle machines.now }
     requires up { up.now ≡ all_up machines.now }
-    requires rising { IsStrictlyIncreasing kind.now.places }
-    requires ranged { All (λ p. p < length machines.now) kind.now.places }
-    ensures { IsKindReply machines.now local.now kind.now result }
+    ensures { IfOk result (IsIdleReply machines.now local.now need.now) }
 {
-    let free_here = is_free_for(local, kind);
-    reply_in(machines, kind.places.as_slice(), loads, up, free_here)
+    let places = eligible_places(alloc, machines, need)?;
+    let free_here = is_free_here(local, need);
+    Ok(reply_in(machines, places.as_slice(), loads, up, free_here))
 }
 
-/// Whether derivations of this kind may be built here, on a slot that is free as long as the park is idle.
-fn is_free_for(local: &Local, kind: &Kind) -> bool
-    ensures { IsTrue result ↔ IsFreeForKind local.now kind.now }
+/// Whether a derivation with this need may be built here, on a slot that is free as long as the
+/// park is idle.
+fn is_free_here(local: &Local, need: &Need) -> bool
+    ensures { IsTrue result ↔ IsFreeHere local.now need.now }
 {
     if local.jobs() == 0 {
         return false;
     }
-    kind.local
+    local_ok(local, need)
 }

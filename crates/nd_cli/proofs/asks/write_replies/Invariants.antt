@@ -1,12 +1,9 @@
-use Rattle.std.proofs.Common.{◌≡◌, length, take}
+use Rattle.std.proofs.Common.{◌≡◌, take}
 use Rattle.nd_cli.specs.Asks.{WritesReplies}
-use Rattle.nd_cli.specs.KindReplies.{HaveReplied}
 use Rattle.nd_cli.proofs.asks.write_replies.Given as goal
 
 abbrev pub invariant-loop-number : goal.invariant-loop-number
 invariant-loop-number g l = record {
   so_far : WritesReplies l.machines l.local (take l.number l.needs) (g.W.Write.contents l.fn.output.device) (g.W.Write.contents l.output.device);
   mark : l.output.is_marked ≡ l.fn.output.is_marked;
-  sized : length l.replies.items ≡ length l.kinds.kinds;
-  replied : HaveReplied l.machines l.local l.needs l.kinds l.replies.items;
 }

@@ -1,0 +1,177 @@
+-- On an idle park needs with the same platform and the same required features have the same reply.
+use Rattle.std.proofs.Common.{◌≡◌, ℕ, ◌+◌, ◌<◌, ◌≤◌, Bool, true, false, cond, ◌&&◌, List, [], ◌∷◌, ◌++◌, length, take, replicate, get_or, Option, None, Some, slice_get, subst, sym, refl, ◌∙◌, ◌⊎◌, inl, inr, arith}
+use Rattle.std.specs.Prelude.{IsSomeAnd}
+use Rattle.std.specs.List.{AllZip}
+use Rattle.std.specs.Option.{option_map_or}
+use Rattle.std.specs.Ordering.{is_eq}
+use Rattle.std.specs.Cmp.{tied_then}
+use Rattle.std.specs.BTreeMap.{get_by, is_at, BTreeMap}
+use Rattle.std.specs.Io.KnownBytes.{Appends}
+use Rattle.std.proofs.lemmas.Bool.{cases_lt}
+use Rattle.std.proofs.lemmas.List.{get_or-replicate, get_or_past, length-replicate, take_more}
+use Rattle.std.proofs.lemmas.Option.{slice_get_read, slice_get_within, slice_get_cases, get_or_from_slice_get}
+use Rattle.std.proofs.lemmas.Slice.Zip.{AllZip-long}
+use Rattle.nd_bytes.specs.Compared.{bytes_cmp, bytes_ties, bytes_same}
+use Rattle.nd_devices.specs.Written.{WritesPart}
+use Rattle.nd_machines.specs.Builders.{Builder}
+use Rattle.nd_machines.specs.FeatureSets.{sets_cmp, sets_ties, sets_same}
+use Rattle.nd_eligible.specs.Settings.{Settings}
+use Rattle.nd_eligible.specs.declared.need.Need.{Need}
+use Rattle.nd_eligible.specs.Eligibility.{Eligible, IsEligibleAt, BuildsFor, IsSubset}
+use Rattle.nd_eligible.specs.Classing.{Kind, compare_kind, kind_cmp}
+use Rattle.nd_choose.specs.Best.{IsFree, is_up_at, load_at, jobs_at}
+use Rattle.nd_hook.specs.declared.kinds.Reply.{Reply}
+use Rattle.nd_hook.specs.declared.kinds.Reply.TheVariants.{Accept, Postpone, Decline, DeclinePermanently}
+use Rattle.nd_hook.specs.Idle.{idle, all_up, IsIdleReply}
+use Rattle.nd_hook.specs.Replies.{IsReply}
+use Rattle.nd_hook.specs.ReplyText.{reply_text}
+use Rattle.nd_cli.proofs.Accepted.{same_reply}
+use Rattle.nd_cli.proofs.LocalTest.{free_here}
+use Rattle.nd_cli.proofs.Replying.{AllZip-snoc, AllZip-at, goes_on, stops}
+use Rattle.nd_cli.specs.Asks.{WritesReplies, WritesSomeReplies}
+use Rattle.nd_cli.specs.ClassReplies.{HaveReplied, IsReplyAt}
+
+-- ---- an eligible machine is free on an idle park
+
+no_load : (n i : ℕ) → load_at (replicate n 0) i ≡ 0
+no_load n i = elim (cases_lt i n) [
+  | inl within ↦ get_or-replicate n i 0 0 within
+  | inr past ↦ get_or_past (replicate n 0) i 0 (subst (λ (j : ℕ). j ≤ i) (sym (length-replicate n 0)) past)
+]
+
+some_jobs : (found : Option Builder) (need : Need) → IsSomeAnd found (λ machine. Eligible machine need) → 1 ≤ option_map_or (λ machine. machine.jobs) found 0
+some_jobs None need h = absurd h
+some_jobs (Some machine) need h = h.jobs
+
+is_free : (machines : List Builder) (need : Need) (place : ℕ) → IsEligibleAt machines need place → is_up_at (all_up machines) place ≡ true → IsFree machines (idle machines) (all_up machines) place
+is_free machines need place eligible up = record {
+  up = up;
+  slot =
+      let none : load_at (idle machines) place ≡ 0 = no_load (length machines) place in
+      let some : 1 ≤ jobs_at machines place = some_jobs (slice_get machines place) need eligible in
+      omega (arith, none, some);
+}
+
+-- so a free slot of the local machine changes no reply
+whatever_slot : (machines : List Builder) (need : Need) (one other : Bool) (reply : Reply) → IsReply machines (idle machines) (all_up machines) (IsEligibleAt machines need) one reply
+    → IsReply machines (idle machines) (all_up machines) (IsEligibleAt machines need) other reply
+whatever_slot machines need one other (Accept place) h = h
+whatever_slot machines need one other Postpone h =
+    let up = h.1 in absurd (h.0 up.place (record { meant = up.meant; free = is_free machines need up.place up.meant up.up }))
+whatever_slot machines need one other Decline h = (h.0, h.1, inl (λ up. h.1 up.place (record { meant = up.meant; free = is_free machines need up.place up.meant up.up })))
+whatever_slot machines need one other DeclinePermanently h = h
+
+-- ---- needs with the same platform and the same required features
+
+eligible_alike : (machine : Builder) (one other : Need) → one.system ≡ other.system → one.features ≡ other.features → Eligible machine one → Eligible machine other
+eligible_alike machine one other system features h = record {
+  jobs = h.jobs;
+  system = subst (λ (s : List ℕ). BuildsFor machine s) system h.system;
+  required = subst (λ (f : List (List ℕ)). IsSubset f (machine.supported ++ machine.mandatory)) features h.required;
+  mandatory = subst (λ (f : List (List ℕ)). IsSubset machine.mandatory f) features h.mandatory;
+}
+
+some_alike : (found : Option Builder) (one other : Need) → one.system ≡ other.system → one.features ≡ other.features
+    → IsSomeAnd found (λ machine. Eligible machine one) → IsSomeAnd found (λ machine. Eligible machine other)
+some_alike None one other system features h = h
+some_alike (Some machine) one other system features h = eligible_alike machine one other system features h
+
+reply_alike : (machines : List Builder) (local : Settings) (one other : Need) (reply : Reply) → one.system ≡ other.system → one.features ≡ other.features
+    → IsIdleReply machines local one reply → IsIdleReply machines local other reply
+reply_alike machines local one other reply system features h = let free = free_here local other in record {
+  free_here = free.test;
+  is_free = free.says;
+  is = whatever_slot machines other h.free_here free.test reply
+      (same_reply machines (idle machines) (all_up machines) (IsEligibleAt machines one) (IsEligibleAt machines other) h.free_here reply
+      (λ place. (some_alike (slice_get machines place) one other system features, some_alike (slice_get machines place) other one (sym system) (sym features)))
+      h.is);
+}
+
+-- ---- what is known
+
+both_true : (a b : Bool) → (a && b) ≡ true → (a ≡ true) × (b ≡ true)
+both_true true true h = (refl, refl)
+both_true true false h = absurd (cc)
+both_true false b h = absurd (cc)
+
+-- a need's own kind
+kind_of : Need → Kind
+kind_of need = (record { ref_ptr = (0, 0); now = need.system }, record { ref_ptr = (0, 0); now = need.features })
+
+same_kind : (one other : Need) → is_at (compare_kind one) (kind_of other) ≡ true → (one.system ≡ other.system) × (one.features ≡ other.features)
+unfolding kind_of
+same_kind one other h =
+    let both = both_true (is_eq (bytes_cmp one.system other.system)) (is_eq (sets_cmp one.features other.features))
+    (tied_then (bytes_cmp one.system other.system) (sets_cmp one.features other.features) ∙ h) in (
+      bytes_same one.system other.system (bytes_ties one.system other.system ∙ both.0),
+      sets_same one.features other.features (sets_ties one.features other.features ∙ both.1),
+    )
+
+found_at : {X : Type 0} (here : Bool) (x known : X) (before : Option X) → cond here (Some x) before ≡ Some known
+    → ((here ≡ true) × (x ≡ known)) ⊎ ((here ≡ false) × (before ≡ Some known))
+found_at true x known before h = inl (refl, cc)
+found_at false x known before h = inr (refl, h)
+
+-- one more is kept
+pub replied_more : (machines : List Builder) (local : Settings) (known then : BTreeMap Kind Reply) (need : Need) (reply : Reply) → HaveReplied machines local known → IsIdleReply machines local need reply
+    → ((kind : Kind) → get_by (kind_cmp kind) then ≡ cond (is_at (compare_kind need) kind) (Some reply) (get_by (kind_cmp kind) known)) → HaveReplied machines local then
+unfolding kind_of
+replied_more machines local known then need reply so_far is updates = record {
+  each = λ other found got. elim (found_at (is_at (compare_kind need) (kind_of other)) reply found (get_by (compare_kind other) known) (sym (updates (kind_of other)) ∙ got)) [
+    | inl new ↦
+        let same = same_kind need other new.0 in
+        subst (λ (some : Reply). IsIdleReply machines local other some) new.1 (reply_alike machines local need other reply same.0 same.1 is)
+    | inr old ↦ so_far.each other found old.1
+  ];
+}
+
+-- ---- at one derivation
+
+pub reply_at : (machines : List Builder) (local : Settings) (needs : List Need) (d : ℕ) (need : Need) (reply : Reply) → d < length needs → need ≡ get_or needs d need → IsIdleReply machines local need reply
+    → IsReplyAt machines local needs d reply
+reply_at machines local needs d need reply within is_need is = record { need = need; wants = slice_get_read needs (length needs) d need refl within is_need; is = is }
+
+idle_at : (machines : List Builder) (local : Settings) (needs : List Need) (d : ℕ) (reply : Reply) → (at : IsReplyAt machines local needs d reply) → IsIdleReply machines local (get_or needs d at.need) reply
+idle_at machines local needs d reply at =
+    subst (λ (need : Need). IsIdleReply machines local need reply) (sym (get_or_from_slice_get needs d at.need at.need at.wants)) at.is
+
+-- one more reply
+pub replies_more : (machines : List Builder) (local : Settings) (needs : List Need) (replies : List Reply) (d : ℕ) (reply : Reply) → AllZip (IsIdleReply machines local) (take d needs) replies
+    → IsReplyAt machines local needs d reply → AllZip (IsIdleReply machines local) (take (d + 1) needs) (replies ++ reply ∷ [])
+replies_more machines local needs replies d reply so_far at =
+    subst (λ (some : List Need). AllZip (IsIdleReply machines local) some (replies ++ reply ∷ [])) (sym (take_more needs d at.need (slice_get_within needs d at.need at.wants)))
+    (AllZip-snoc (IsIdleReply machines local) (take d needs) replies (get_or needs d at.need) reply so_far (idle_at machines local needs d reply at))
+
+-- each has its place
+pub reply_within : (machines : List Builder) (local : Settings) (needs : List Need) (replies : List Reply) (d : ℕ) → AllZip (IsIdleReply machines local) needs replies → d < length needs → d < length replies
+reply_within machines local needs replies d each within =
+    let long = AllZip-long (IsIdleReply machines local) needs replies each in
+    omega (arith, long, within)
+
+-- ---- replies that are written
+
+-- the reply in its place
+pub reply_there : (machines : List Builder) (local : Settings) (needs : List Need) (replies : List Reply) (d : ℕ) (reply : Reply) → AllZip (IsIdleReply machines local) needs replies → d < length needs
+    → reply ≡ get_or replies d reply → IsReplyAt machines local needs d reply
+reply_there machines local needs replies d reply each within is = elim (slice_get_cases needs d).1 [
+  | inl found ↦ record {
+    need = found.0;
+    wants = found.2;
+    is = subst (λ (need : Need). IsIdleReply machines local need reply) found.3
+        (subst (λ (some : Reply). IsIdleReply machines local (get_or needs d found.0) some) (sym is)
+        (AllZip-at (IsIdleReply machines local) needs replies d found.0 reply each within));
+  }
+  | inr past ↦ let small = past.0 in absurd (omega (arith, small, within))
+]
+
+-- after one more
+pub goes_on_at : (machines : List Builder) (local : Settings) (needs : List Need) (d : ℕ) (reply : Reply) (old mid new : Option (List ℕ)) → WritesReplies machines local (take d needs) old mid → IsReplyAt machines local needs d reply
+    → Appends mid new (reply_text machines reply) → WritesReplies machines local (take (d + 1) needs) old new
+goes_on_at machines local needs d reply old mid new so_far at written =
+    goes_on machines local needs d at.need old mid new (slice_get_within needs d at.need at.wants) so_far (record { reply = reply; is = idle_at machines local needs d reply at; written = written })
+
+-- one more was written in part
+pub stops_at : (machines : List Builder) (local : Settings) (needs : List Need) (d : ℕ) (reply : Reply) (old mid new : Option (List ℕ)) → WritesReplies machines local (take d needs) old mid → IsReplyAt machines local needs d reply
+    → WritesPart mid new (reply_text machines reply) → WritesSomeReplies machines local needs old new
+stops_at machines local needs d reply old mid new so_far at part =
+    stops machines local needs d at.need old mid new (slice_get_within needs d at.need at.wants) so_far (record { reply = reply; is = idle_at machines local needs d reply at; part = part })
