@@ -3,4 +3,5 @@ pub mod OrderLemmas
 pub mod PrefixLemmas
 pub mod RefusalLemmas
 pub mod SectionLemmas
+pub mod PlainLemmas
 pub mod StringLemmas

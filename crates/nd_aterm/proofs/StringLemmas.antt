@@ -1,8 +1,8 @@
 -- Lemmas on the spelling of strings.
-use Rattle.std.proofs.Common.{◌≡◌, ◌≤◌, ℕ, zero, suc, List, [], ◌∷◌, ◌++◌, length, take, get_or, None, ◌+◌, ◌-◌, refl, sym, ap, subst, ⊎_elim, ◌∙◌, append_assoc, arith}
+use Rattle.std.proofs.Common.{◌≡◌, ◌≢◌, ◌≤◌, ◌<◌, ℕ, zero, suc, List, [], ◌∷◌, ◌++◌, length, take, drop, get_or, get_or-drop, None, ◌+◌, refl, sym, ap, subst, ◌∙◌, append_assoc, arith}
+use Rattle.std.proofs.lemmas.List.{length-drop}
 use Rattle.std.proofs.Math.Seq.{take-suc}
-use Rattle.std.proofs.lemmas.Bool.{cases_lt}
-use Rattle.nd_aterm.specs.PlainBytes.{ArePlainFrom, ArePlainTo}
+use Rattle.nd_aterm.specs.PlainBytes.{ArePlainTo}
 use Rattle.nd_aterm.specs.Spelling.{quote, letter_of, spelled, character, characters, IsPlain}
 use Rattle.nd_aterm.specs.SpellingOnce.{character_once, character_quote}
 
@@ -48,11 +48,11 @@ pub plain_to : (bytes : List ℕ) (n : ℕ) → n ≤ length bytes → ArePlainT
 plain_to bytes zero within plain = λ rest. refl
 plain_to bytes (suc n) within plain =
     rw (take-suc bytes n 0 (omega arith))
-    (IsPlain-push (take n bytes) (get_or bytes n 0) (plain_to bytes n (omega arith) (λ k low. plain k (omega arith))) (plain n (omega arith)))
+    (IsPlain-push (take n bytes) (get_or bytes n 0) (plain_to bytes n (omega arith) (record { each = λ k low. plain.each k (omega arith) })) (plain.each n (omega arith)))
 
--- bytes without an escape, behind others
-pub plain_on : (bytes : List ℕ) (place n : ℕ) → ArePlainTo bytes place → ArePlainFrom bytes place n → ArePlainTo bytes (place + n)
-plain_on bytes place n before after k low =
-    ⊎_elim (λ early. before k early)
-    (λ late. let same : place + (k - place) ≡ k = omega arith in subst (λ (j : ℕ). letter_of (get_or bytes j 0) ≡ None) same (after (k - place) (omega arith)))
-    (cases_lt k place)
+-- what stands behind the first n bytes begins with the byte there
+pub begins : (bytes : List ℕ) (n : ℕ) → (n < length bytes → letter_of (get_or bytes n 0) ≢ None)
+    → 0 < length (drop n bytes) → letter_of (get_or (drop n bytes) 0 0) ≢ None
+begins bytes n ends some =
+    let same : n + 0 ≡ n = omega arith in
+    subst (λ x. letter_of x ≢ None) (sym (get_or-drop n bytes 0 0 ∙ ap (λ j. get_or bytes j 0) same)) (ends (omega (arith, length-drop n bytes)))

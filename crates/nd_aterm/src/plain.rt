@@ -1,97 +1,80 @@
 //! The bytes in front of a text that a string spells as they are, looked for 32 at a time.
 
-ghost use Rattle.std.specs.Prelude.{◌≡◌, ◌↔◌, ◌==◌, ◌<◌, ◌≤◌, ◌+◌, ℕ, None, if◌then◌else◌, length, slice_index, bit_or};
-ghost use Rattle.std.specs.Int.{bit_at};
-ghost use Rattle.memchr.specs.Lanes.{HasLanes};
+ghost use Rattle.std.specs.Prelude.{◌≡◌, ◌≢◌, ◌<◌, ◌≤◌, ◌+◌, None, length, slice_index};
 ghost use Rattle.nd_aterm.specs.Spelling.{letter_of};
-ghost use Rattle.nd_aterm.specs.PlainBytes.{ArePlainTo, ArePlainFrom, ClearArePlain};
+ghost use Rattle.nd_aterm.specs.PlainBytes.{ArePlainTo, AreEscapesFrom, AreEscapes, ArePlaces};
 
 use crate::strings::letter;
 use std::simd::prelude::*;
 
 /// How many bytes in front have no escape: up to the first that has one, or all.
+#[tactic(auto, using(crate::proofs::PlainLemmas::none_left, crate::proofs::PlainLemmas::first_within, crate::proofs::PlainLemmas::first_plain, crate::proofs::PlainLemmas::first_escaped))]
 pub(crate) fn plain_length(bytes: &[u8]) -> usize
     ensures within { result ≤ length bytes.now }
     ensures plain { ArePlainTo bytes.now result }
+    ensures ends { result < length bytes.now → letter_of (slice_index bytes.now result) ≢ None }
+{
+    if bytes.len() < 32 {
+        return plain_length_of_few(bytes);
+    }
+    let mut place = 0;
+    while place < bytes.len() {
+        // The last block ends where the bytes do, and begins with some that were looked at.
+        let start = place.min(bytes.len() - 32);
+        let escapes = escapes_from(bytes, start, place);
+        if escapes != 0 {
+            return place + escapes.trailing_zeros() as usize;
+        }
+        place = start + 32;
+    }
+    place
+}
+
+/// The same, byte by byte.
+#[tactic(auto, using(crate::proofs::PlainLemmas::plain_further))]
+fn plain_length_of_few(bytes: &[u8]) -> usize
+    ensures within { result ≤ length bytes.now }
+    ensures plain { ArePlainTo bytes.now result }
+    ensures ends { result < length bytes.now → letter_of (slice_index bytes.now result) ≢ None }
 {
     let mut place = 0;
-    while 32 <= bytes.len() - place {
-        let count = plain_in_32(bytes, place);
-        place += count;
-        if count < 32 {
-            return place;
-        }
-    }
     while place < bytes.len() && letter(bytes[place]).is_none() {
         place += 1;
     }
     place
 }
 
-/// How many of the 32 bytes from this place on have no escape, up to the first that has one.
+/// Which of the 32 bytes from `start` on have an escape, from `place` on: a bit for each, the first the
+/// lowest.
 #[inline(always)]
-fn plain_in_32(bytes: &[u8], place: usize) -> usize
-    requires { place + 32 ≤ length bytes.now }
-    ensures within { result ≤ 32 }
-    ensures plain { ArePlainFrom bytes.now place result }
+#[tactic(auto, using(crate::proofs::PlainLemmas::escapes_moved))]
+fn escapes_from(bytes: &[u8], start: usize, place: usize) -> u64
+    requires inside { start + 32 ≤ length bytes.now }
+    requires from { start ≤ place }
+    requires below { place < start + 32 }
+    ensures { AreEscapesFrom bytes.now place (start + 32) result }
 {
-    let marks = top_bits(escaped(load(bytes, place)));
-    if marks == 0 {
-        return 32;
-    }
-    lowest(marks).min(32)
+    let block = u8x32::from_slice(&bytes[start..]);
+    escapes_in(block) >> (place - start)
 }
 
-/// The 32 bytes from this place on.
+/// Which bytes have an escape: a bit for each, the first the lowest.
 #[inline(always)]
-fn load(bytes: &[u8], place: usize) -> u8x32
-    requires { place + 32 ≤ length bytes.now }
-    ensures { HasLanes result (λ k. slice_index bytes.now (place + k)) }
+#[tactic(auto, using(crate::proofs::PlainLemmas::five_places))]
+fn escapes_in(block: u8x32) -> u64
+    ensures { AreEscapes block result }
 {
-    u8x32::from_slice(&bytes[place..])
+    places_of(b'"', block)
+        | places_of(b'\\', block)
+        | places_of(b'\n', block)
+        | places_of(b'\r', block)
+        | places_of(b'\t', block)
 }
 
-/// Lanes with the top bit set where the byte is escaped.
+/// Which bytes are this one: a bit for each, the first the lowest.
 #[inline(always)]
-fn escaped(bytes: u8x32) -> u8x32
-    ensures { ClearArePlain result bytes }
+fn places_of(byte: u8, block: u8x32) -> u64
+    ensures { ArePlaces byte block result }
 {
-    let themselves = either(equal_to(bytes, b'"'), equal_to(bytes, b'\\'));
-    let ends = either(equal_to(bytes, b'\n'), equal_to(bytes, b'\r'));
-    either(either(themselves, ends), equal_to(bytes, b'\t'))
-}
-
-/// Lanes with all bits set where the byte is this one.
-#[inline(always)]
-fn equal_to(bytes: u8x32, byte: u8) -> u8x32
-    ensures { HasLanes result (λ k. if slice_index bytes k == byte then 255 else 0) }
-{
-    bytes
-        .simd_eq(u8x32::splat(byte))
-        .select(u8x32::splat(255), u8x32::splat(0))
-}
-
-/// The bits that are set in either.
-#[inline(always)]
-fn either(one: u8x32, other: u8x32) -> u8x32
-    ensures { HasLanes result (λ k. bit_or (slice_index one k) (slice_index other k)) }
-{
-    one | other
-}
-
-/// The top bits of the lanes, from the first.
-#[inline(always)]
-fn top_bits(lanes: u8x32) -> u64
-    ensures { (k : ℕ) → (bit_at result k ≡ 1) ↔ (128 ≤ slice_index lanes k) }
-{
-    lanes.simd_ge(u8x32::splat(128)).to_bitmask()
-}
-
-/// The place of the lowest bit that is set.
-#[inline(always)]
-fn lowest(marks: u64) -> usize
-    requires { marks ≡ 0 → ⊥ }
-    ensures { (k : ℕ) → k < result → bit_at marks k ≡ 0 }
-{
-    marks.trailing_zeros() as usize
+    block.simd_eq(u8x32::splat(byte)).to_bitmask()
 }

@@ -1,6 +1,6 @@
 //! Quoted strings.
 
-ghost use Rattle.std.specs.Prelude.{◌≡◌, ℕ, ◌≤◌, ◌<◌, List, ◌∷◌, ◌++◌, length, IfOk, IfErr, OnOk, IfSome, MatchOption};
+ghost use Rattle.std.specs.Prelude.{◌≡◌, ◌≢◌, ℕ, ◌≤◌, ◌<◌, List, None, ◌∷◌, ◌++◌, length, slice_index, IfOk, IfErr, OnOk, IfSome, MatchOption};
 ghost use Rattle.nd_aterm.specs.Refusals.{Refuses};
 ghost use Rattle.nd_aterm.specs.Spelling.{quote, letter_of, character, characters, IsPlain, string};
 ghost use Rattle.nd_aterm.specs.SpellingOnce.{string_once, string_opens};
@@ -52,10 +52,12 @@ fn character_at(bytes: &[u8]) -> Option<(u8, &[u8])>
     }
 }
 
-/// The bytes in front that a string spells as they are, and what stands behind them.
+/// The bytes in front that a string spells as they are, and what stands behind them: nothing, or what
+/// begins with a byte that is escaped.
 fn plain_at(bytes: &[u8]) -> (&[u8], &[u8])
     ensures split { bytes.now ≡ result.0.now ++ result.1.now }
     ensures plain { IsPlain result.0.now }
+    ensures ends { 0 < length result.1.now → letter_of (slice_index result.1.now 0) ≢ None }
 {
     bytes.split_at(plain_length(bytes))
 }

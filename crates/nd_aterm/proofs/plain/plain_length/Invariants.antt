@@ -11,12 +11,3 @@ invariant-loop-place l = record {
 
 abbrev pub decreases-loop-place : goal.decreases-loop-place
 decreases-loop-place l = length l.bytes - l.place
-
-abbrev pub invariant-loop-place-2 : goal.invariant-loop-place-2
-invariant-loop-place-2 l = record {
-  within : l.place ≤ length l.bytes;
-  plain : ArePlainTo l.bytes l.place;
-}
-
-abbrev pub decreases-loop-place-2 : goal.decreases-loop-place-2
-decreases-loop-place-2 l = length l.bytes - l.place
