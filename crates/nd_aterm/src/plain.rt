@@ -18,16 +18,22 @@ pub(crate) fn plain_length(bytes: &[u8]) -> usize
         return plain_length_of_few(bytes);
     }
     let mut place = 0;
-    while place < bytes.len() {
-        // The last block ends where the bytes do, and begins with some that were looked at.
-        let start = place.min(bytes.len() - 32);
-        let escapes = escapes_from(bytes, start, place);
+    while 32 <= bytes.len() - place {
+        let escapes = escapes_from(bytes, place, place);
         if escapes != 0 {
             return place + escapes.trailing_zeros() as usize;
         }
-        place = start + 32;
+        place += 32;
     }
-    place
+    if place == bytes.len() {
+        return place;
+    }
+    // The last 32 bytes begin with some that were looked at.
+    let escapes = escapes_from(bytes, bytes.len() - 32, place);
+    if escapes == 0 {
+        return bytes.len();
+    }
+    place + escapes.trailing_zeros() as usize
 }
 
 /// The same, byte by byte.
