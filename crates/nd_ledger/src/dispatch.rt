@@ -89,14 +89,13 @@ impl Dispatch {
             &mut self.turns,
             &mut self.vacancies,
         ) {
-            let recorded = record_step(
+            record_step(
                 &mut self.book,
                 &mut self.board,
                 &mut self.turns,
                 &mut self.vacancies,
                 step,
-            );
-            recorded?;
+            )?; // it stands, whatever comes behind it
         }
         let _order = self.inputs.graph.order();
         Ok(self.book.entries().len() - before)
