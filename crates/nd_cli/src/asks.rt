@@ -82,6 +82,7 @@ type Class<'a> = (&'a ByteString, &'a FeatureSet);
 
 /// The reply about the derivation with this number, where no slot is taken and every machine is up. `known` has
 /// those that were made, by their classes; one that wasn't is made now.
+#[tactic(auto, using(crate::proofs::ClassReplying::replied_more))]
 fn reply_about<'a>(
     alloc: Global,
     machines: &[Machine],
