@@ -6,7 +6,7 @@
 # WORK has of each round K `bundle.K`, `history.K` and `left.K`, of which the last round may have no history, and
 # `events`, `park`, `sizes` (lines `PATH BYTES`) and `nobuilder` (lines `PATH WHY`). The report goes to standard output.
 # FILE of states gets a line `PATH STATUS HOW` for each derivation, HOW being how it failed: status, lost, nobuilder or
-# the like; and FILE of json the text that docs/FARM.md describes.
+# the like, and FILE.status the status, 1 in place of 0 where not all is built; and FILE of json the text that docs/FARM.md describes.
 
 function text(words) {
   gsub(/\\/, "\\\\", words)
@@ -159,6 +159,8 @@ BEGIN {
     if (status_of[all[at]] == "leased") { split(place_of[all[at]], where, " "); taken[where[1]] += 1 }
     if (states != "") print all[at], status_of[all[at]], (how_of[all[at]] == "" ? "-" : how_of[all[at]]) > states
   }
+  if (status == 0 && count_of["built"] + 0 < known + 0) status = 1
+  if (states != "") print status > (states ".status")
   print "total " known + 0
   split("waiting leased built failed cancelled", word, " ")
   for (at = 1; at <= 5; at++) print word[at], count_of[word[at]] + 0
