@@ -551,7 +551,6 @@ shells() {
 # What the table of messages says of those that Nix gave.
 blamed() {
   [ -e "$farm/blame.awk" ] || { wrong="$wrong; there is no table of messages"; return; }
-  awk -f /dev/null
   count=0
   while read -r message status answer; do
     case $message in
