@@ -174,6 +174,26 @@ collected_there() {
   did="collections on the machine in the middle: status 0"
 }
 
+# 3, and no collection: a path of this store is deleted under a run, which its machine isn't to blame for
+gone() {
+  machine one 1 > "$folder/builders"
+  salt=gone
+  root=$(drv wanting)
+  begin gone --jobs 0 "$root"
+  soon 300 logged ' begin '
+  # shellcheck disable=SC2046  # store paths
+  nix-store --delete --ignore-liveness "$root" $(nix-store --query --references "$root" | grep -v "\.drv$") > /dev/null 2>&1
+  soon 900 ended
+  wait "$builder"
+  status=$?
+  want "status $status" is "$status" 1
+  sound gone 2
+  want 'the machine is down' is "$(cat "$folder/gone"/history.* 2> /dev/null | grep -c '^down ')" 0
+  want 'it is not lost' has "$folder/gone/history.1" '^failed [0-9]* lost$'
+  want "it isn't said" has "$folder/gone.err" 'lost: wanting-gone.*source-gone'
+  did="a path of this store deleted under a run: lost, told by its name, and the machine isn't down"
+}
+
 # 4: only what is needed
 needed() {
   machine one 2 > "$folder/builders"
@@ -592,7 +612,7 @@ quick() {
 }
 
 failed=0
-all='blamed slots lost collected collected_there needed progress told interrupted killed_run full_at_start full_folder silent killed_agent small substituted full_machine read_only two_at_once awks shells quick'
+all='blamed slots lost collected collected_there gone needed progress told interrupted killed_run full_at_start full_folder silent killed_agent small substituted full_machine read_only two_at_once awks shells quick'
 # shellcheck disable=SC2086  # words
 for case in ${*:-$all}; do
   wrong='' did=''

@@ -46,5 +46,7 @@ in {
   big = build "big" "s=0123456789abcdef; for i in 0 1 2 3 4 5 6 7 8 9; do s=$s$s; done; i=0; while [ $i -lt 1536 ]; do echo $s || exit 7; i=$((i + 1)); done > $out" { };
   # one chain of eight among forty others, whose derivations stand behind them in no order of their own
   long = build "long" "echo > $out" { parts = [ (wide 40 "sleep 1") (chain "link" 8 "sleep 1") ]; };
+  # what wants a source once something else is built
+  wanting = build "wanting" "read line < ${source}; echo $line > $out" { before = build "before" "sleep 6; echo > $out" { }; };
   sourced = build "sourced" "read line < ${source}; echo $line > $out" { };
 }

@@ -115,6 +115,23 @@ say connection there slow
 later $$ '__build-remote'
 say hook there slow
 
+# The machine's process is ended while the outputs come back.
+{
+  # shellcheck disable=SC2034  # a count
+  for tenth in 1 2 3 4 5 6 7 8 9 10 11 12 13 14 15 16 17 18 19 20; do
+    sleep 0.5
+    for beat in 1 2 3 4 5 6 7 8 9 10 11 12 13 14 15 16 17 18 19 20 21 22 23 24 25; do
+      if grep -q '^copying path .* from ' "$into/raw" 2> /dev/null; then
+        # shellcheck disable=SC2046  # process numbers
+        kill -9 $(below_with "$(cat "$folder/sshd.pid")" 'nix-store --serve')
+        exit
+      fi
+      sleep 0.02
+    done
+  done
+} > /dev/null 2>&1 &
+say after there large
+
 # A path of this store is gone, and a derivation.
 drv=$(nix-instantiate "$graph" -A gone 2> /dev/null)
 source=$(nix-store --query --references "$drv" | grep -v '\.drv$')

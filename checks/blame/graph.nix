@@ -24,6 +24,8 @@ in {
   slow = build "slow" "echo a line; sleep 8; echo slow > $out" { };
   # 24 MiB, by a shell that has no command
   big = build "big" "echo a line; ${fill "1536"}" { };
+  # 240 MiB
+  large = build "large" "echo a line; ${fill "15360"}" { };
   gone = build "gone" "echo ${builtins.toFile "gone-source" "gone"} > $out" { };
   # builders whose own words are those of a machine at fault, or of another's fault
   liar = build "liar" "echo error: unexpected end-of-file; echo \"error: writing to file: No space left on device\"; exit 4" { };
