@@ -111,6 +111,60 @@ slots() {
   did="24 slots on one machine, 49 derivations: status 0 in three runs of three"
 }
 
+# A proxy before the sshd, and a machine behind it: REFUSED; the file `stall` makes it silent.
+proxied() {
+  rm -f "$folder/stall" "$folder/proxy.port"
+  python3 checks/bad-day/proxy.py "$port" "$1" "$folder/stall" > "$folder/proxy.port" &
+  proxy=$!
+  soon 100 [ -s "$folder/proxy.port" ]
+  # Nix tells ssh a host key by the host's name, without the port.
+  printf 'Host proxied\nHostKeyAlias proxied\nHostName 127.0.0.1\nPort %s\nHost localhost\nHostKeyAlias localhost\nPort %s\n' "$(cat "$folder/proxy.port")" "$port" > "$folder/ssh_config"
+  options=$NIX_SSHOPTS
+  NIX_SSHOPTS="-F $folder/ssh_config"
+}
+end_proxy() {
+  kill "$proxy"
+  wait "$proxy" 2> /dev/null
+  NIX_SSHOPTS=$options
+}
+
+# 1: connections that are refused at first
+refused() {
+  proxied 3
+  machine one 4 | sed 's/root@localhost/root@proxied/' > "$folder/builders"
+  salt=refused
+  build refused --jobs 0 "$(drv broken)"
+  end_proxy
+  want "status $status" is "$status" 1
+  sound refused 4
+  want 'the machine is down' is "$(grep -c '^down ' "$folder/refused/history")" 0
+  want 'nothing was built there' has "$folder/refused/history" '^failed [0-9]* status 3$'
+  did="a machine that refuses three connections is asked again, and isn't down"
+}
+
+# 8: a machine that falls silent in a build
+stalled() {
+  proxied 0
+  { machine one 1 | sed 's/root@localhost/root@proxied/; s/ 1 1 - / 1 9 - /'; machine two 1; } > "$folder/builders"
+  salt=stalled
+  more=''
+  [ "$farm" != farm ] || more='--connect-timeout 3'
+  # shellcheck disable=SC2086  # words
+  begin stalled --jobs 0 $more "$(drv slow)"
+  soon 300 serving
+  sleep 1
+  : > "$folder/stall"
+  want 'the build hangs' soon 900 ended || kill "$builder"
+  wait "$builder"
+  status=$?
+  end_proxy
+  want "status $status" is "$status" 0
+  sound stalled 2
+  want 'nothing was lost' has "$folder/stalled/history.1" '^failed [0-9]* lost$'
+  want 'the machine is not down in the next round' has "$folder/stalled/history.2" '^down '
+  did="a machine that falls silent in a build: lost after three times the bound, then down, and another one builds"
+}
+
 # 2: the machine's process is killed in a build, which is built elsewhere in the next round
 lost() {
   { machine one 1; machine two 1; } > "$folder/builders"
@@ -418,6 +472,9 @@ killed_agent() {
   status=$?
   want "status $status" is "$status" 1
   sound killagent 1
+  build killagent --jobs 0 "$(drv sourced)"
+  want "again in the folder, it ends with status $status" is "$status" 0
+  sound killagent 1
   did="kill -9 of an agent: what it had started has ended, here and there"
 }
 serving() { [ -n "$(below_with "$(cat "$folder/sshd.pid")" 'nix-store --serve')" ]; }
@@ -481,6 +538,23 @@ full_machine() {
   sound fullmachine 1
   want 'nothing was lost' has "$folder/fullmachine/history.1" '^failed [0-9]* lost$'
   did="a full machine: lost twice, then without it in round $(counted rounds fullmachine)"
+}
+
+# This machine's store is full while outputs come back.
+full_store() {
+  mkdir -p "$folder/tiny6"
+  mount -t tmpfs -o size=16m tmpfs "$folder/tiny6" || { wrong="$wrong; a tmpfs can't be mounted"; return; }
+  machine one 1 > "$folder/builders"
+  salt=fullstore
+  NIX_REMOTE=$folder/tiny6
+  build fullstore --jobs 0 "$(drv big)"
+  NIX_REMOTE=$folder/local
+  umount "$folder/tiny6"
+  want "status $status" is "$status" 5
+  sound fullstore 1
+  want "it isn't lost" has "$folder/fullstore/history" '^failed [0-9]* lost$'
+  want "it isn't said" has "$folder/fullstore.err" 'no space left here'
+  did="this store full while outputs come back: lost, no fault of the builder or the machine, and status 5"
 }
 
 # A machine whose store can't be written to.
@@ -612,7 +686,7 @@ quick() {
 }
 
 failed=0
-all='blamed slots lost collected collected_there gone needed progress told interrupted killed_run full_at_start full_folder silent killed_agent small substituted full_machine read_only two_at_once awks shells quick'
+all='blamed slots refused lost collected collected_there gone needed progress told interrupted killed_run full_at_start full_folder silent stalled killed_agent small substituted full_machine full_store read_only two_at_once awks shells quick'
 # shellcheck disable=SC2086  # words
 for case in ${*:-$all}; do
   wrong='' did=''

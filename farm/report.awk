@@ -138,7 +138,7 @@ function bytes_of(paths,    count, word, at, sum) {
 }
 
 function why(one,    words) {
-  if (how_of[one] == "nobuilder") return nobuilder[one]
+  if (how_of[one] == "nobuilder") return (one in nobuilder) ? nobuilder[one] : "each machine that may build it is down"
   if (how_of[one] == "references") return "it refers to what it may not refer to"
   if (how_of[one] == "memory") return "the dispatcher had no memory for the lease"
   if (status_of[one] == "cancelled") return "it waited when another failed, or depends on one that did"
@@ -162,8 +162,8 @@ BEGIN {
   if (status == 0 && count_of["built"] + 0 < known + 0) status = 1
   if (states != "") print status > (states ".status")
   print "total " known + 0
-  split("waiting leased built failed cancelled", word, " ")
-  for (at = 1; at <= 5; at++) print word[at], count_of[word[at]] + 0
+  split("waiting leased built failed cancelled", kind, " ")
+  for (at = 1; at <= 5; at++) print kind[at], count_of[kind[at]] + 0
   if (interrupted != "") print "interrupted " interrupted
   if (ran > 1) print "rounds " ran
   for (at = 0; at <= machines; at++) {
@@ -174,7 +174,7 @@ BEGIN {
   if (json == "") exit 0
   printf "{\"status\": %d, \"interrupted\": %s, \"rounds\": %d,\n", status, interrupted == "" ? "null" : text(interrupted), ran > json
   printf " \"counts\": {\"total\": %d", known + 0 > json
-  for (at = 1; at <= 5; at++) printf ", \"%s\": %d", word[at], count_of[word[at]] + 0 > json
+  for (at = 1; at <= 5; at++) printf ", \"%s\": %d", kind[at], count_of[kind[at]] + 0 > json
   printf "},\n \"derivations\": [" > json
   for (at = 1; at <= known; at++) {
     one = all[at]
@@ -186,7 +186,11 @@ BEGIN {
     printf ", \"begin\": %s, \"end\": %s", timed ? or_null(begun[one]) : "null", timed ? or_null(ended[one]) : "null" > json
     printf ", \"bytes\": %s", bytes_of(copied_of[one]) > json
     log_file = where[1] == "-" ? "" : out "/" where[1] "." where[2] ".log"
-    if (status_of[one] == "failed" && (one in cause) && how_of[one] != "nobuilder") { count = split(one, where, "/"); log_file = out "/logs/" where[count] ".log" }
+    if (status_of[one] == "failed" && (one in cause) && how_of[one] != "nobuilder") {
+      count = split(one, word, "/")
+      if ((getline line < (out "/logs/" word[count] ".log")) > 0) log_file = out "/logs/" word[count] ".log"
+      close(out "/logs/" word[count] ".log")
+    }
     printf ", \"log\": %s", log_file == "" ? "null" : text(log_file) > json
     words = why(one)
     printf ", \"cause\": %s}", words == "" ? "null" : text(words) > json
