@@ -497,6 +497,18 @@ small() {
   want "Nix's words: status $status, $(tail -n 1 "$folder/words.err")" is "$status" 0
   want '--no-link leaves a link' [ ! -e "$folder/words/result" ]
   want 'the path that was built is not printed' has "$folder/words.out" '^/nix/store/.*-sourced-small$'
+  # a park without a slot
+  : > "$folder/builders"
+  build none --jobs 0 "$(drv other)"
+  want "without a slot: status $status" is "$status" 1
+  sound none 1
+  machine one 1 > "$folder/builders"
+  # files that aren't a run's stay
+  mkdir -p "$folder/mine/logs"
+  : > "$folder/mine/logs/mine"
+  : > "$folder/mine/mine.log"
+  build mine --jobs 1 "$(drv sourced)"
+  want "what isn't a run's is gone" [ -e "$folder/mine/logs/mine" -a -e "$folder/mine/mine.log" ]
   salt=small2
   build linked --jobs 1 "$(drv sourced)"
   want 'there is no link' is "$(readlink "$folder/linked/result")" "$(output "$(drv sourced)")"
@@ -582,8 +594,10 @@ two_at_once() {
   first=$builder
   salt=other
   begin second --jobs 0 "$(drv many)"
+  soon 300 [ -e "$folder/first/gcroots" ]
   "$farm/build" -o "$folder/first" --builders "@$folder/builders" --jobs 0 "$root" > "$folder/third.out" 2> "$folder/third.err"
   third=$?
+  want 'a third in the same folder takes the roots of the first away' [ -e "$folder/first/gcroots" ]
   soon 1200 ended
   wait "$builder"
   second=$?
