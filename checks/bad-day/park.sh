@@ -56,7 +56,7 @@ below() {
 # Those of them whose words hold this.
 below_with() {
   for one in $(below "$1"); do
-    if tr '\0' ' ' < "/proc/$one/cmdline" 2> /dev/null | grep -q -e "$2"; then echo "$one"; fi
+    if { tr '\0' ' ' < "/proc/$one/cmdline"; } 2> /dev/null | grep -q -e "$2"; then echo "$one"; fi
   done
 }
 
