@@ -104,11 +104,13 @@ slots() {
   machine one 24 > "$folder/builders"
   for run in 1 2 3; do
     salt=slots$run
+    connections=$(grep -c Accepted "$folder/sshd.log")
     build "slots$run" --jobs 0 "$(drv many)"
+    connections=$(($(grep -c Accepted "$folder/sshd.log") - connections))
     want "run $run: status $status, $(counted built "slots$run") of 49 built" is "$status" 0
     sound "slots$run" 49
   done
-  did="24 slots on one machine, 49 derivations: status 0 in three runs of three"
+  did="24 slots on one machine, 49 derivations: status 0 in three runs of three, the last by $connections connections"
 }
 
 # A proxy before the sshd, and a machine behind it: REFUSED; the file `stall` makes it silent.

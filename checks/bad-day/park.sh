@@ -27,8 +27,8 @@ mkdir -p /run/sshd
 configuration=/etc/ssh/sshd_config
 [ -r "$configuration" ] || configuration=/dev/null
 start_sshd() {
-  "$sshd" -f "$configuration" -h "$folder/host" -o ListenAddress=127.0.0.1 -o "Port=$port" -o "PidFile=$folder/sshd.pid" \
-    -o "AuthorizedKeysFile=$folder/key.pub" -o StrictModes=no -o "SetEnv=NIX_CONF_DIR=$folder/conf" "$@"
+  "$sshd" -E "$folder/sshd.log" -f "$configuration" -h "$folder/host" -o ListenAddress=127.0.0.1 -o "Port=$port" -o "PidFile=$folder/sshd.pid" \
+    -o LogLevel=INFO -o "AuthorizedKeysFile=$folder/key.pub" -o StrictModes=no -o "SetEnv=NIX_CONF_DIR=$folder/conf" "$@"
 }
 start_sshd
 host_key=$(cut -d' ' -f1,2 "$folder/host.pub" | tr -d '\n' | base64 -w0)
