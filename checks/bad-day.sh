@@ -309,7 +309,7 @@ progress() {
 told() {
   { machine one 2; echo "ssh://nobody@localhost x86_64-linux $folder/key 2 9 - - $host_key"; } > "$folder/builders"
   salt=told
-  build told --jobs 0 -k "$(drv broken)" "$(drv other)" "$(drv featured)"
+  build told --jobs 0 --keep-going "$(drv broken)" "$(drv other)" "$(drv featured)"
   want "status $status" is "$status" 1
   sound told 6
   want 'a failure is told without its status' has "$folder/told.err" 'status 3: broken-told '
