@@ -325,7 +325,8 @@ told() {
 }
 
 # What is looked at behind a run that was ended by a signal: nothing goes on, here or there.
-quiet() { soon 200 all_ended; }
+quiet() { soon 200 all_ended && soon 100 unconnected; }
+unconnected() { [ -z "$(below_with "$(cat "$folder/sshd.pid")" 'sshd: root')" ]; }
 
 # 7: runs that are ended by a signal, and the same folder again
 interrupted() {
