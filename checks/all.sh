@@ -15,6 +15,8 @@
 #                  built program, strace and Python 3
 # real-park.sh     a graph on real Nix stores; needs the built program, Nix 2.8 or later, a static busybox, Python 3
 #                  and root
+# bad-day.sh       graphs on machines behind ssh that break: connections refused, builds lost, collections in the middle,
+#                  full disks, signals and silence; needs what ssh-park.sh needs, and takes some twenty minutes
 # ssh-park.sh      the same graph on machines behind ssh; needs what real-park.sh needs, and OpenSSH's sshd
 # allocations.sh   each allocation refused in turn; needs the built program, a C compiler, and the tests of
 #                  `nd_test_ledger` that `rt test` leaves in its folder
@@ -45,7 +47,7 @@ needs_of() {
     durable.py) echo program python3 strace ;;
     first.sh) echo rt python3 ;;
     real-park.sh) echo program nix-store busybox python3 root ;;
-    ssh-park.sh) echo program nix-store busybox python3 root ssh-keygen sshd ;;
+    bad-day.sh|ssh-park.sh) echo program nix-store busybox python3 root ssh-keygen sshd ;;
     wrong-bodies.sh) echo rt git time ;;
     *) echo program ;;
   esac

@@ -83,7 +83,7 @@ echo '6: nix-build alone makes the same outputs, references and hashes'
 
 # 7: an agent is killed in the middle of a build
 slow=$(nix-instantiate "$graph" -A slow 2> /dev/null)
-build killed "$slow" &
+build killed --retries 0 "$slow" &
 runner=$!
 agent=''
 for _ in 1 2 3 4 5 6 7 8 9 10 11 12 13 14 15 16 17 18 19 20; do

@@ -46,7 +46,7 @@ ssh-keygen -q -t ed25519 -N '' -f "$folder/host"
 mkdir -p /run/sshd
 "$sshd" -f /dev/null -h "$folder/host" -o ListenAddress=127.0.0.1 -o "Port=$port" -o "PidFile=$folder/pid" \
   -o "AuthorizedKeysFile=$folder/key.pub" -o PermitRootLogin=prohibit-password -o PasswordAuthentication=no \
-  -o StrictModes=no -o MaxStartups=100 -o "SetEnv=NIX_CONF_DIR=$folder/conf"
+  -o StrictModes=no -o "SetEnv=NIX_CONF_DIR=$folder/conf"
 host_key=$(cut -d' ' -f1,2 "$folder/host.pub" | tr -d '\n' | base64 -w0)
 
 # This side: Nix tells ssh the key and the host key of the builders list, and these options.
