@@ -9,6 +9,7 @@ use crate::closures::{are, path, path_named};
 use nd_bytes::Items;
 use nd_path_numbers::{Held, Holdings, PathNumbers, reach_unheld};
 use std::alloc::{AllocError, Global};
+use std::marker::Model;
 
 /// Says that the path of one digit refers to that of another, and to nothing else.
 fn refer(alloc: Global, numbers: &mut PathNumbers, from: u8, to: u8) -> Result<(), AllocError> {
@@ -79,41 +80,72 @@ fn two_machines(rt: HostRuntime) {
     assert!(rt; takes_one(rt.alloc()) == Ok(true));
 }
 
-/// Adds the numbers below `count` to what the second of two machines holds, one by one and with no room
-/// reserved. One whose addition is refused is added once more.
-fn add_each(holdings: &mut Holdings, count: usize) -> Result<(), AllocError>
-    requires { length holdings.old ≡ 2 }
-    ensures { length holdings.new ≡ 2 }
-{
+/// Two machines, the second of which takes numbers.
+#[derive(Drop)]
+struct Two {
+    holdings: Holdings,
+}
+
+impl Model for Two {
+    ghost use Rattle.std.specs.Prelude.{◌≡◌, List, length};
+    ghost use Rattle.nd_path_numbers.specs.Held.{Hold};
+
+    ghost Value = { List Hold };
+
+    ghost view = { λ t. t.holdings };
+
+    ghost invariant = { λ t. length t.holdings ≡ 2 };
+}
+
+impl Two {
+    /// Nothing is held yet.
+    fn new(alloc: Global) -> Result<Two, AllocError> {
+        let holdings = Holdings::new(alloc, 2)?;
+        Ok(Two { holdings })
+    }
+
+    /// Makes room for `n` more.
+    fn reserve(&mut self, n: usize) -> Result<(), AllocError> {
+        self.holdings.reserve(1, n)
+    }
+
+    /// Adds a number, and once more where that was refused.
+    fn add(&mut self, number: usize) -> Result<bool, AllocError> {
+        if let Ok(added) = self.holdings.add(1, number) {
+            return Ok(added);
+        }
+        self.holdings.add(1, number)
+    }
+
+    /// Whether this one is held.
+    fn holds(&self, number: usize) -> bool {
+        self.holdings.held(1).contains(number)
+    }
+}
+
+/// Whether room for more than there is memory is refused, and the machine then takes the numbers below
+/// `count` one by one, holds each of them, and not the next one.
+fn takes_many(alloc: Global, count: usize) -> Result<bool, AllocError> {
+    let mut two = Two::new(alloc)?;
+    if two.reserve(usize::MAX).is_ok() {
+        return Ok(false);
+    }
     for number in 0..count {
-        if holdings.add(1, number).is_err() {
-            holdings.add(1, number)?;
+        if !two.add(number)? {
+            return Ok(false);
         }
     }
-    Ok(())
-}
-
-/// How many of the numbers below `count` are held.
-fn count_held(held: &Held, count: usize) -> usize {
-    let mut found = 0_usize;
     for number in 0..count {
-        found = found.saturating_add(usize::from(held.contains(number)));
+        if !two.holds(number) {
+            return Ok(false);
+        }
     }
-    found
+    Ok(!two.holds(count))
 }
 
-/// Whether room for more than there is memory is refused and what is held then takes 40,000 numbers and tells
-/// of each: a list that is looked through would take minutes for that. So it is with each request for memory
-/// refused once, by `rt try --test --fail-alloc`.
-fn takes_many(alloc: Global) -> Result<bool, AllocError> {
-    let mut holdings = Holdings::new(alloc, 2)?;
-    let refused = holdings.reserve(1, usize::MAX).is_err();
-    add_each(&mut holdings, 40_000)?;
-    let found = count_held(holdings.held(1), 40_001);
-    Ok(refused && found == 40_000)
-}
-
+/// Numbers that are looked for one by one in a list of so many take minutes: none is, behind a refused request
+/// too, be it the one for too much room or one that `rt try --test --fail-alloc` refuses.
 #[test]
 fn many_additions(rt: HostRuntime) {
-    assert!(rt; takes_many(rt.alloc()) == Ok(true));
+    assert!(rt; takes_many(rt.alloc(), 40_000) == Ok(true));
 }
