@@ -17,6 +17,8 @@ for command in nix-store busybox python3 ssh ssh-keygen flock; do
 done
 cd "$(dirname "$0")/.." || exit 2
 farm=${FARM-farm}
+# the scripts that `shells` copies have no program beside them
+export NIX_DISPATCH="${NIX_DISPATCH-$PWD/crates/nix_dispatch/out/nix_dispatch}"
 graph=checks/bad-day/graph.nix
 folder=$(mktemp -d /tmp/bad-day.XXXXXX)
 # shellcheck source=checks/bad-day/park.sh
