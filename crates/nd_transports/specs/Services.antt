@@ -1,7 +1,8 @@
 -- What serving a lease does to its transport: the calls that stand behind each answer. The clauses of `serve_copy` and
 -- `serve_build` cite these definitions. This project's own choice.
 use Rattle.std.specs.Prelude.{◌≡◌, ℕ, true, false, List, [], ◌∷◌, ◌++◌, ◌⊎◌}
-use Rattle.nd_transports.specs.declared.kinds.Answer.TheVariants.{Built, Status, Lost}
+use Rattle.nd_transports.specs.declared.kinds.Answer.{Answer}
+use Rattle.nd_transports.specs.declared.kinds.Answer.TheVariants.{Built, Status, Lost, Memory as AnswerMemory}
 use Rattle.nd_transports.specs.declared.kinds.Call.TheVariants.{Connect, Copy}
 use Rattle.nd_transports.specs.declared.kinds.Phase.TheVariants.{Copied as HasCopied, Idle}
 use Rattle.nd_transports.specs.declared.serving.Fetch.{Fetch}
@@ -27,14 +28,16 @@ Fetches s drv paths Copied t = IsFetched s drv paths t
 Fetches s drv paths (Refused n) t = IsTurnedAway s paths n t
 Fetches s drv paths Memory t = IsIdleAgain s t
 
--- a build that ended with its outputs, for whose references no memory was found
-pub record IsUnreported (s t : State) : Type 0 where
-  pub refs : List (List (List ℕ))
-  pub after : t ≡ built s (Built refs)
+-- a build for which no memory was found: for the references of its outputs, with which it ended, or for what the
+-- transport was answered
+pub record IsShort (s t : State) : Type 0 where
+  pub answer : Answer
+  pub either : ((refs : List (List (List ℕ))) × (answer ≡ Built refs)) ⊎ (answer ≡ AnswerMemory)
+  pub after : t ≡ built s answer
 
 -- a build is one call, of which the outcome is the answer
 abbrev pub Serves : State → Outcome → State → Type 0
 Serves s (OutcomeBuilt refs) t = t ≡ built s (Built refs)
 Serves s (OutcomeStatus code) t = t ≡ built s (Status code)
 Serves s OutcomeLost t = t ≡ built s Lost
-Serves s OutcomeMemory t = IsUnreported s t
+Serves s OutcomeMemory t = IsShort s t

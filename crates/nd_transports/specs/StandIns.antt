@@ -2,7 +2,7 @@
 use Rattle.std.specs.Prelude.{◌≡◌, ℕ, Bool, true, false, not, ◌&&◌, ◌==◌, ◌-◌, List, [], Option, Some, None, replicate, ◌⊎◌}
 use Rattle.std.specs.List.{find, list_any}
 use Rattle.nd_transports.specs.declared.kinds.Answer.{Answer}
-use Rattle.nd_transports.specs.declared.kinds.Answer.TheVariants.{Built, Status, Lost}
+use Rattle.nd_transports.specs.declared.kinds.Answer.TheVariants.{Built, Status, Lost, Memory}
 use Rattle.nd_script.specs.declared.rule.Rule.{Rule}
 use Rattle.nd_script.specs.declared.rule.Rule.TheVariants.{NoConnect, NoCopy, Fail, Lose, Built as RuleBuilt}
 use Rattle.nd_script.specs.Rules.{is_no_connect, is_no_copy, is_about}
@@ -63,6 +63,7 @@ abbrev pub NeedsLists : Answer → Type 0
 NeedsLists (Built refs) = Unit {0}
 NeedsLists (Status code) = ⊥
 NeedsLists Lost = ⊥
+NeedsLists Memory = ⊥
 
 -- a build that the fuse lets pass ends as the rules say, or is lost where they say that it ends with its outputs, for
 -- whose references no memory was found; one that the fuse doesn't let pass is lost

@@ -28,6 +28,8 @@ pub enum Ended {
     Status(u8),
     /// The transport was lost.
     Lost,
+    /// There was no memory for what the transport was answered.
+    Memory,
 }
 
 /// How a build ended, with the references that it reported.
@@ -39,6 +41,8 @@ pub enum Answer {
     Status(u8),
     /// The transport was lost.
     Lost,
+    /// There was no memory for what the transport was answered.
+    Memory,
 }
 
 impl Answer {
@@ -50,6 +54,7 @@ impl Answer {
             Answer::Built(_) => Ended::Built,
             Answer::Status(code) => Ended::Status(*code),
             Answer::Lost => Ended::Lost,
+            Answer::Memory => Ended::Memory,
         }
     }
 }

@@ -28,7 +28,8 @@ pub enum Outcome {
     Status(u8),
     /// The transport was lost.
     Lost,
-    /// It ended with its outputs, but memory was refused for their references.
+    /// Memory was refused: for what the transport was answered, or for the references of a build that
+    /// ended with its outputs.
     Memory,
 }
 
@@ -60,5 +61,6 @@ pub fn serve_build<T: Transport>(transport: &mut T) -> Outcome
         },
         Ended::Status(code) => Outcome::Status(code),
         Ended::Lost => Outcome::Lost,
+        Ended::Memory => Outcome::Memory,
     }
 }

@@ -32,7 +32,8 @@ pub trait Transport: Send + Drop {
         requires { (state self.old).phase ≡ Phase.Connected }
         ensures { state self.new ≡ copied (state self.old) result };
 
-    /// Builds the derivation of the prepared job.
+    /// Builds the derivation of the prepared job. `Lost` says that the transport is lost, and `Memory` that
+    /// there was no memory for what it was answered: the one is never told for the other.
     fn build(&mut self) -> Ended
         requires { (state self.old).phase ≡ Phase.Copied }
         ensures { Builds (state self.old) result (state self.new) };
