@@ -4,7 +4,9 @@
 #
 #     checks/all.sh [--long]
 #
-# explain.sh       what --explain says of each refusal, and README.md's table of them; needs the built program
+# examples.py      the commands that README.md, docs/SERVE.md and docs/REFUSALS.md show, and what they show of the
+#                  answers; needs the built program and Python 3
+# explain.sh       what --explain says of each refusal, and the table of docs/REFUSALS.md; needs the built program
 # first.sh         `./try` on the bundled example, beside the built program where there is one, and what `./try` and
 #                  `./build` refuse; needs the toolchain and Python 3, and some minutes the first time
 # farm.sh          the replies and the paths of the bundled example; needs the built program
@@ -43,7 +45,7 @@ fi
 needs_of() {
   case $1 in
     allocations.sh) echo program cc tests ;;
-    runs.py|worlds.py|serve.sh) echo program python3 ;;
+    examples.py|runs.py|worlds.py|serve.sh) echo program python3 ;;
     durable.py) echo program python3 strace ;;
     first.sh) echo rt python3 ;;
     real-park.sh) echo program nix-store busybox python3 root ;;

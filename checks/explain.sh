@@ -1,11 +1,12 @@
 #!/bin/sh
 # Provokes each refusal that the command line can bring about, and shows what `--explain` says of it. Each
 # fault's line and status have to be the same with the option and without it, nothing may be written on
-# standard output, and the cause and the cure have to be those of its row in the table "Refusals" of README.md,
+# standard output, and the cause and the cure have to be those of its row in the table of docs/REFUSALS.md,
 # of which every row has to come up but those that a command line can't bring about.
 set -eu
 cd "$(dirname "$0")/.."
 program=crates/nix_dispatch/out/nix_dispatch
+table=docs/REFUSALS.md
 folder=$(mktemp -d)
 trap 'rm -rf "$folder"' EXIT
 INPUT=
@@ -18,7 +19,7 @@ fail() {
 
 # The cell of a row of the table, its cells counted from 1.
 cell() {
-  awk -F ' [|] ' -v row="| \`$1\`" -v at="$2" '$1 == row { sub(/ [|]$/, "", $at); print $at }' README.md
+  awk -F ' [|] ' -v row="| \`$1\`" -v at="$2" '$1 == row { sub(/ [|]$/, "", $at); print $at }' "$table"
 }
 
 # refused LINE STATUS WHERE COMMAND WORD ..: over the input $folder/in, or the file of INPUT.
@@ -49,10 +50,10 @@ explained() {
   echo
   row=$(printf '%s' "$1" | sed 's/ [0-9]*$/ N/; s/^[a-z]*: TooLarge$/INPUT: TooLarge/; s/^journal: Illegal .*/journal: Illegal N RULE/')
   printf '%s\n' "$row" >> "$folder/seen"
-  [ -n "$(cell "$row" 3)" ] || fail "$row: no row in README.md"
+  [ -n "$(cell "$row" 3)" ] || fail "$row: no row in $table"
   grep -qxF "where: $2" "$folder/said--explain" || fail "$1: not at $2"
-  grep -qxF "cause: $(cell "$row" 3)" "$folder/said--explain" || fail "$row: another cause in README.md"
-  grep -qxF "cure: $(cell "$row" 4)" "$folder/said--explain" || fail "$row: another cure in README.md"
+  grep -qxF "cause: $(cell "$row" 3)" "$folder/said--explain" || fail "$row: another cause in $table"
+  grep -qxF "cure: $(cell "$row" 4)" "$folder/said--explain" || fail "$row: another cure in $table"
 }
 
 # A line of a bundle: the digit of its digest and its output's, its name, its inputs, its environment.
@@ -155,6 +156,6 @@ explained 'write failed' 'standard output'
 
 # Those that come up for want of memory or of threads, and the one that no run brings about.
 printf '%s\n' 'out of memory' 'thread not started' 'receipts differ' >> "$folder/seen"
-sed -n '/^## Refusals/,/^## /s/^| `\([^`]*\)` .*/\1/p' README.md | sort > "$folder/rows"
-sort -u "$folder/seen" | cmp - "$folder/rows" || fail 'README.md has other rows'
-echo "explain: $(wc -l < "$folder/rows") rows, each with the words of README.md"
+sed -n 's/^| `\([^`]*\)` .*/\1/p' "$table" | sort > "$folder/rows"
+sort -u "$folder/seen" | cmp - "$folder/rows" || fail "$table has other rows"
+echo "explain: $(wc -l < "$folder/rows") rows, each with the words of $table"
