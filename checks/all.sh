@@ -9,6 +9,8 @@
 # explain.sh       what --explain says of each refusal, and the table of docs/REFUSALS.md; needs the built program
 # first.sh         `./try` on the bundled example, beside the built program where there is one, and what `./try` and
 #                  `./build` refuse; needs the toolchain and Python 3, and some minutes the first time
+# faults.py        how runs end, and why: wrong references, refused threads, refused memory; needs the built program,
+#                  Python 3 and a C compiler
 # farm.sh          the replies and the paths of the bundled example; needs the built program
 # runs.py          runs on threads, and the audit of their histories; needs the built program and Python 3
 # serve.sh         sessions of the built program and of the two drivers in examples/serve, one of them killed and
@@ -47,6 +49,7 @@ needs_of() {
     allocations.sh) echo program cc tests ;;
     examples.py|runs.py|worlds.py|serve.sh) echo program python3 ;;
     durable.py) echo program python3 strace ;;
+    faults.py) echo program python3 cc ;;
     first.sh) echo rt python3 ;;
     real-park.sh) echo program nix-store busybox python3 root ;;
     bad-day.sh|ssh-park.sh) echo program nix-store busybox python3 root ssh-keygen sshd ;;

@@ -27,23 +27,23 @@ shortage false b n d paths these h says =
     let other : (n == 1) ≡ false = elim h [ inl without ↦ ap test without.0 | inr two ↦ ap test two.0 ] in
     subst P (sym other ∙ says) h
 
-failure : (own past : List Entry) (n d : ℕ) (paths : List (List ℕ)) (why : Why) (these : List Call) → AreCallsOfFailure (is_started d own) n paths d why these → (why ≡ Memory → (n == 1) ≡ is_started d past) → AreCallsOfFailure (is_started d past) n paths d why these
-failure own past n d paths (Status code) these h says = h
-failure own past n d paths Lost these h says = h
-failure own past n d paths BadReferences these h says = h
-failure own past n d paths NoWorker these h says = h
-failure own past n d paths Memory these h says = shortage (is_started d own) (is_started d past) n d paths these h (says refl)
+failure : (own past : List Entry) (n d : ℕ) (paths : List (List ℕ)) (refs : List (List (List ℕ))) (why : Why) (these : List Call) → AreCallsOfFailure (is_started d own) n paths refs d why these → (why ≡ Memory → (n == 1) ≡ is_started d past) → AreCallsOfFailure (is_started d past) n paths refs d why these
+failure own past n d paths refs (Status code) these h says = h
+failure own past n d paths refs Lost these h says = h
+failure own past n d paths refs BadReferences these h says = h
+failure own past n d paths refs NoWorker these h says = h
+failure own past n d paths refs Memory these h says = shortage (is_started d own) (is_started d past) n d paths these h (says refl)
 
-calls_for : (own past : List Entry) (n : ℕ) (paths : List (List ℕ)) (e : Entry) (these : List Call) → AreCallsFor own n paths e these → ((d : ℕ) → e ≡ Failed d Memory → (n == 1) ≡ is_started d past) → AreCallsFor past n paths e these
-calls_for own past n paths (Started d copied) these h says = h
-calls_for own past n paths (Down d) these h says = h
-calls_for own past n paths (Built d refs) these h says = h
-calls_for own past n paths (Failed d why) these h says = failure own past n d paths why these h (λ is. says d (ap (Failed d) is))
-calls_for own past n paths (Chosen d m s) these h says = h
-calls_for own past n paths (NoBuilder d) these h says = h
-calls_for own past n paths Stop these h says = h
-calls_for own past n paths (Drain m) these h says = h
-calls_for own past n paths (Enable m) these h says = h
+calls_for : (own past : List Entry) (n : ℕ) (paths : List (List ℕ)) (refs : List (List (List ℕ))) (e : Entry) (these : List Call) → AreCallsFor own n paths refs e these → ((d : ℕ) → e ≡ Failed d Memory → (n == 1) ≡ is_started d past) → AreCallsFor past n paths refs e these
+calls_for own past n paths refs (Started d copied) these h says = h
+calls_for own past n paths refs (Down d) these h says = h
+calls_for own past n paths refs (Built d reported) these h says = h
+calls_for own past n paths refs (Failed d why) these h says = failure own past n d paths refs why these h (λ is. says d (ap (Failed d) is))
+calls_for own past n paths refs (Chosen d m s) these h says = h
+calls_for own past n paths refs (NoBuilder d) these h says = h
+calls_for own past n paths refs Stop these h says = h
+calls_for own past n paths refs (Drain m) these h says = h
+calls_for own past n paths refs (Enable m) these h says = h
 
 calls_at : (history own : List Entry) (r : Receipt) (e : Entry) (these : List Call) → AreCallsOf own r e these → IsNotedIn history r e → AreCallsAt history r these
 calls_at history own r e these h noted = record {
@@ -51,7 +51,7 @@ calls_at history own r e these h noted = record {
   at = noted.at;
   calls = record {
     kind = h.kind;
-    calls = calls_for own (reverse (take r.index history)) r.calls r.paths e these h.calls noted.start.each;
+    calls = calls_for own (reverse (take r.index history)) r.calls r.paths r.refs e these h.calls noted.start.each;
   };
 }
 

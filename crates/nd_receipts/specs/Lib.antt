@@ -1,4 +1,5 @@
 pub mod Dealt
+pub mod Judged
 pub mod Made
 pub mod Meaning
 pub mod Noted

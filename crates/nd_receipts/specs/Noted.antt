@@ -1,6 +1,7 @@
 -- What a worker notes: receipts, and beside each a copy of its entry. No clause of `run` cites these definitions: those of
 -- the functions between a worker's notes and the comparison with the history do. This project's own choice.
-use Rattle.std.specs.Prelude.{◌≡◌, ℕ, ◌+◌, ◌==◌, ◌≤◌, List, [], ◌∷◌, ◌++◌, ◌⊎◌, Bool, true, false, slice_get, take, reverse, Some}
+use Rattle.std.specs.Prelude.{◌≡◌, ℕ, ◌+◌, ◌==◌, ◌≤◌, List, [], ◌∷◌, ◌++◌, ◌⊎◌, Bool, true, false, slice_get, take, reverse, Some, Vec}
+use Rattle.std.specs.List.{AllZip}
 use Rattle.nd_history.specs.declared.entry.Entry.{Entry}
 use Rattle.nd_history.specs.declared.entry.Entry.TheVariants.{Started, Built, Failed}
 use Rattle.nd_history.specs.declared.entry.Why.TheVariants.{BadReferences, Memory}
@@ -20,25 +21,29 @@ pub record Noted : Type 0 where
   -- for how many more entries there is room
   pub room : ℕ
 
--- an entry of this kind was noted with this many calls and with these paths
-pub record HasNoted (old new : Noted) (of : Kind) (n : ℕ) (apart : List (List ℕ)) (e : Entry) : Type 0 where
+-- an entry of this kind was noted with this many calls, with these paths and these references
+pub record HasNotedWith (old new : Noted) (of : Kind) (n : ℕ) (apart : List (List ℕ)) (refs : List (List (List ℕ))) (e : Entry) : Type 0 where
   pub index : ℕ
-  pub receipts : new.receipts ≡ old.receipts ++ record { index = index; kind = of; calls = n; paths = apart } ∷ []
+  pub receipts : new.receipts ≡ old.receipts ++ record { index = index; kind = of; calls = n; paths = apart; refs = refs } ∷ []
   pub copies : new.copies ≡ old.copies ++ e ∷ []
   pub room : old.room ≤ new.room + 1
+
+-- .. with no references
+abbrev pub HasNoted : Noted → Noted → Kind → ℕ → List (List ℕ) → Entry → Type 0
+HasNoted old new of n apart e = HasNotedWith old new of n apart [] e
 
 -- a start was noted, or that there was no memory for it
 abbrev pub HasBegun : Noted → Noted → ℕ → List (List ℕ) → Bool → Type 0
 HasBegun old new d paths true = HasNoted old new KindStarted 2 [] (Started d paths)
 HasBegun old new d paths false = HasNoted old new KindFailed 2 paths (Failed d Memory)
 
--- a failure of this build was noted: that it reported references that it may not have, or that there was no memory for them
-abbrev pub HasEndedShort : Noted → Noted → ℕ → Type 0
-HasEndedShort old new d = HasNoted old new KindFailed 1 [] (Failed d BadReferences) ⊎ HasNoted old new KindFailed 1 [] (Failed d Memory)
+-- the end of a build that reported these references was noted: its outputs with them, or that it may not have them
+pub record HasJudged (old new : Noted) (d : ℕ) (refs : List (List (List ℕ))) : Type 0 where
+  pub either : HasNoted old new KindBuilt 1 [] (Built d refs) ⊎ HasNotedWith old new KindFailed 1 [] refs (Failed d BadReferences)
 
--- the end of a build was noted: its outputs, or a failure
+-- .. or that there was no memory for them
 pub record HasEnded (old new : Noted) (d : ℕ) (refs : List (List (List ℕ))) : Type 0 where
-  pub either : HasNoted old new KindBuilt 1 [] (Built d refs) ⊎ HasEndedShort old new d
+  pub either : HasJudged old new d refs ⊎ HasNoted old new KindFailed 1 [] (Failed d Memory)
 
 -- what a worker and its transport have done so far
 pub record Track : Type 0 where
@@ -128,3 +133,7 @@ pub record TellsStart (past : List Entry) (r : Receipt) (e : Entry) : Type 0 whe
 pub record IsNotedIn (history : List Entry) (r : Receipt) (e : Entry) : Type 0 where
   pub at : slice_get history r.index ≡ Some e
   pub start : TellsStart (take r.index history) r e
+
+-- .. each receipt of these workers, beside the copies of their entries
+pub record AreRowsNoted {A B : Type 0} (history : List Entry) (rows : List (Vec Receipt A)) (copies : List (Vec Entry B)) : Type 0 where
+  pub each : AllZip (λ row beside. AllZip (IsNotedIn history) row.items beside.items) rows copies

@@ -6,48 +6,51 @@ use Rattle.nd_history.specs.declared.entry.Entry.TheVariants.{Chosen, NoBuilder,
 use Rattle.nd_history.specs.declared.entry.Why.{Why}
 use Rattle.nd_history.specs.declared.entry.Why.TheVariants.{Status, Lost, BadReferences, NoWorker, Memory}
 use Rattle.nd_history.specs.History.{is_started}
-use Rattle.nd_transports.specs.declared.kinds.Answer.TheVariants.{Built as AnswerBuilt, Status as AnswerStatus, Lost as AnswerLost}
+use Rattle.nd_transports.specs.declared.kinds.Answer.{Answer}
+use Rattle.nd_transports.specs.declared.kinds.Answer.TheVariants.{Built as AnswerBuilt, Status as AnswerStatus, Lost as AnswerLost, Memory as AnswerMemory}
 use Rattle.nd_transports.specs.declared.kinds.Call.{Call}
 use Rattle.nd_transports.specs.declared.kinds.Call.TheVariants.{Connect, Copy, Build}
 use Rattle.nd_receipts.specs.declared.receipt.Receipt.{Receipt}
 use Rattle.nd_receipts.specs.declared.receipt.Kind.{Kind}
 use Rattle.nd_receipts.specs.declared.receipt.Kind.TheVariants.{Started as KindStarted, Down as KindDown, Built as KindBuilt, Failed as KindFailed}
 
--- the one call is a build of d that ended with its outputs
-pub record IsOneBuilt (d : ℕ) (n : ℕ) (calls : List Call) : Type 0 where
-  pub refs : List (List (List ℕ))
+-- the one call is a build of d that ended with its outputs, or for whose answer there was no memory
+pub record IsOneShort (d : ℕ) (n : ℕ) (calls : List Call) : Type 0 where
+  pub answer : Answer
+  pub either : ((refs : List (List (List ℕ))) × (answer ≡ AnswerBuilt refs)) ⊎ (answer ≡ AnswerMemory)
   pub one : n ≡ 1
-  pub is : calls ≡ Build d (AnswerBuilt refs) ∷ []
+  pub is : calls ≡ Build d answer ∷ []
 
--- the calls behind a failure for want of memory: the build of a lease that was started; or, where it wasn't, either none
--- or a connect and a copy that were both answered yes
+-- the calls behind a failure for want of memory: the build of a lease that was started, for whose answer or for whose references there
+-- was none; or, where it wasn't, either none or a connect and a copy that were both answered yes
 abbrev pub AreCallsOfShortage : Bool → ℕ → List (List ℕ) → ℕ → List Call → Type 0
-AreCallsOfShortage true n paths d calls = IsOneBuilt d n calls
+AreCallsOfShortage true n paths d calls = IsOneShort d n calls
 AreCallsOfShortage false n paths d calls = ((n ≡ 0) × (calls ≡ [])) ⊎ ((n ≡ 2) × (calls ≡ Connect true ∷ Copy paths true ∷ []))
 
--- the calls behind a failure of a lease that was started, or wasn't
-abbrev pub AreCallsOfFailure : Bool → ℕ → List (List ℕ) → ℕ → Why → List Call → Type 0
-AreCallsOfFailure started n paths d (Status code) calls = (n ≡ 1) × (calls ≡ Build d (AnswerStatus code) ∷ [])
-AreCallsOfFailure started n paths d Lost calls = (n ≡ 1) × (calls ≡ Build d AnswerLost ∷ [])
-AreCallsOfFailure started n paths d BadReferences calls = IsOneBuilt d n calls
-AreCallsOfFailure started n paths d Memory calls = AreCallsOfShortage started n paths d calls
-AreCallsOfFailure started n paths d NoWorker calls = ⊥
+-- the calls behind a failure of a lease that was started, or wasn't; `refs` are references that a build reported and may not have
+abbrev pub AreCallsOfFailure : Bool → ℕ → List (List ℕ) → List (List (List ℕ)) → ℕ → Why → List Call → Type 0
+AreCallsOfFailure started n paths refs d (Status code) calls = (n ≡ 1) × (calls ≡ Build d (AnswerStatus code) ∷ [])
+AreCallsOfFailure started n paths refs d Lost calls = (n ≡ 1) × (calls ≡ Build d AnswerLost ∷ [])
+AreCallsOfFailure started n paths refs d BadReferences calls = (n ≡ 1) × (calls ≡ Build d (AnswerBuilt refs) ∷ [])
+AreCallsOfFailure started n paths refs d Memory calls = AreCallsOfShortage started n paths d calls
+AreCallsOfFailure started n paths refs d NoWorker calls = ⊥
 
 -- the two ways in which a lease is given back: the machine wasn't reached, or the copy of these paths failed
 abbrev pub AreCallsOfDown : ℕ → List (List ℕ) → List Call → Type 0
 AreCallsOfDown n paths calls = ((n ≡ 1) × (calls ≡ Connect false ∷ [])) ⊎ ((n ≡ 2) × (calls ≡ Connect true ∷ Copy paths false ∷ []))
 
--- n calls, with the paths of a copy that the entry doesn't hold, behind an entry that a worker makes after `past`, newest first
-abbrev pub AreCallsFor : List Entry → ℕ → List (List ℕ) → Entry → List Call → Type 0
-AreCallsFor past n paths (Started d copied) calls = (n ≡ 2) × (calls ≡ Connect true ∷ Copy copied true ∷ [])
-AreCallsFor past n paths (Down d) calls = AreCallsOfDown n paths calls
-AreCallsFor past n paths (Built d refs) calls = (n ≡ 1) × (calls ≡ Build d (AnswerBuilt refs) ∷ [])
-AreCallsFor past n paths (Failed d why) calls = AreCallsOfFailure (is_started d past) n paths d why calls
-AreCallsFor past n paths (Chosen d m s) calls = ⊥
-AreCallsFor past n paths (NoBuilder d) calls = ⊥
-AreCallsFor past n paths Stop calls = ⊥
-AreCallsFor past n paths (Drain m) calls = ⊥
-AreCallsFor past n paths (Enable m) calls = ⊥
+-- n calls, with the paths of a copy and the references of a build that the entry doesn't hold, behind an entry that a worker makes
+-- after `past`, newest first
+abbrev pub AreCallsFor : List Entry → ℕ → List (List ℕ) → List (List (List ℕ)) → Entry → List Call → Type 0
+AreCallsFor past n paths reported (Started d copied) calls = (n ≡ 2) × (calls ≡ Connect true ∷ Copy copied true ∷ [])
+AreCallsFor past n paths reported (Down d) calls = AreCallsOfDown n paths calls
+AreCallsFor past n paths reported (Built d refs) calls = (n ≡ 1) × (calls ≡ Build d (AnswerBuilt refs) ∷ [])
+AreCallsFor past n paths reported (Failed d why) calls = AreCallsOfFailure (is_started d past) n paths reported d why calls
+AreCallsFor past n paths reported (Chosen d m s) calls = ⊥
+AreCallsFor past n paths reported (NoBuilder d) calls = ⊥
+AreCallsFor past n paths reported Stop calls = ⊥
+AreCallsFor past n paths reported (Drain m) calls = ⊥
+AreCallsFor past n paths reported (Enable m) calls = ⊥
 
 -- the entry is of this kind
 abbrev pub IsOfKind : Kind → Entry → Type 0
@@ -64,7 +67,7 @@ IsOfKind kind (Enable m) = ⊥
 -- these are the calls of a receipt whose entry e came after `past`, newest first
 pub record AreCallsOf (past : List Entry) (r : Receipt) (e : Entry) (these : List Call) : Type 0 where
   pub kind : IsOfKind r.kind e
-  pub calls : AreCallsFor past r.calls r.paths e these
+  pub calls : AreCallsFor past r.calls r.paths r.refs e these
 
 -- these are the calls of a receipt, for the entry of the history that it names and what stands before that entry
 pub record AreCallsAt (history : List Entry) (r : Receipt) (these : List Call) : Type 0 where

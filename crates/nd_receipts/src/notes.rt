@@ -74,14 +74,12 @@ impl Notes {
         self.copies.as_slice()
     }
 
-    /// The receipts alone. It takes no memory.
-    pub fn into_receipts(self) -> Vec<Receipt>
-        ensures { result.items ≡ self.receipts }
+    /// The receipts and the copies. It takes no memory.
+    pub fn into_parts(self) -> (Vec<Receipt>, Vec<Entry>)
+        ensures receipts { result.0.items ≡ self.receipts }
+        ensures copies { result.1.items ≡ self.copies }
     {
-        let Notes {
-            receipts,
-            copies: _,
-        } = self;
-        receipts
+        let Notes { receipts, copies } = self;
+        (receipts, copies)
     }
 }

@@ -1,5 +1,6 @@
 //! What a worker keeps of each entry that it made.
 
+use nd_closure::Refs;
 use nd_path::PathSet;
 
 /// The kind of an entry that a worker makes.
@@ -26,4 +27,7 @@ pub struct Receipt {
     pub calls: u8,
     /// The paths of a copy among these calls that the entry doesn't hold.
     pub paths: PathSet,
+    /// The references that a build among these calls reported and may not have, where the entry is the failure
+    /// that says so.
+    pub refs: Refs,
 }

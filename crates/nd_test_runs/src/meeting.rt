@@ -140,6 +140,7 @@ fn built_in(end: Ran<Meets>) -> Option<usize> {
         dispatch,
         workers: _,
         receipts: _,
+        evidence: _,
         fault,
     } = end;
     let built = dispatch.counts().built;

@@ -84,6 +84,7 @@ pub(crate) fn close_run<T: Transport>(end: Ran<T>) {
         dispatch,
         workers: _,
         receipts: _,
+        evidence: _,
         fault: _,
     } = end;
     close(dispatch);

@@ -194,6 +194,7 @@ fn is_stored(alloc: Global, end: RunEnd) -> bool {
         dispatch,
         workers: _,
         receipts,
+        evidence: _,
         fault,
     } = end;
     let told = has_lines(alloc, &dispatch, STORED);
@@ -406,4 +407,46 @@ fn dishonest_transports(rt: HostRuntime) {
     assert!(rt; gives(&rt, alloc, chain, ONE, Stand::Lists(2), lines));
     let chain = dispatch(alloc, CHAIN, "m");
     assert!(rt; gives(&rt, alloc, chain, ONE, Stand::Stranger, lines));
+}
+
+/// What a run by one worker has of the references of its one build: how many lists were refused, and how many its
+/// receipt has. None where none were refused, and where another entry, another worker or a missing thread is told.
+fn refused_lists(end: &Ran<StandIn>) -> Option<(usize, usize)> {
+    let evidence = &end.evidence;
+    if end.fault.is_some() || evidence.refused || evidence.threads != 1 {
+        return None;
+    }
+    let kept = evidence.misreports.at(2)?;
+    let receipt = end.receipts.get(0)?.get(1)?;
+    if receipt.index != 2 || evidence.misreports.at(1).is_some() {
+        return None;
+    }
+    Some((kept.lists().len(), receipt.refs.lists().len()))
+}
+
+/// The refused lists of a run over the chain, whose worker does so.
+fn judged<R: Threads + Wait + Sync>(rt: &R, alloc: Global, stand: Stand) -> Option<(usize, usize)> {
+    let opened = dispatch(alloc, CHAIN, "m")?;
+    match ran(rt, opened, workers(alloc, ONE, stand)) {
+        Ok(end) => {
+            let lists = refused_lists(&end);
+            close_run(end);
+            lists
+        }
+        Err(refused) => {
+            close_refused(refused);
+            None
+        }
+    }
+}
+
+/// References that a build may not have are handed back, as they were reported; no other ones are.
+#[test]
+fn judged_references(rt: HostRuntime) {
+    let alloc = rt.alloc();
+    assert!(rt; judged(&rt, alloc, Stand::Stranger) == Some((1, 1)));
+    assert!(rt; judged(&rt, alloc, Stand::Lists(0)) == Some((0, 0)));
+    assert!(rt; judged(&rt, alloc, Stand::Lists(2)) == Some((2, 2)));
+    assert!(rt; judged(&rt, alloc, Stand::Plain).is_none());
+    assert!(rt; judged(&rt, alloc, Stand::Lose).is_none());
 }

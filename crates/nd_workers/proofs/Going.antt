@@ -13,9 +13,9 @@ use Rattle.nd_receipts.specs.declared.receipt.Receipt.{Receipt}
 use Rattle.nd_receipts.specs.declared.receipt.Kind.{Kind}
 use Rattle.nd_receipts.specs.declared.receipt.Kind.TheVariants.{Started as KindStarted, Down as KindDown, Built as KindBuilt, Failed as KindFailed}
 use Rattle.nd_transports.specs.Calls.{State, IsIdleAgain, built}
-use Rattle.nd_transports.specs.Services.{IsFetched, IsTurnedAway, IsUnreported}
-use Rattle.nd_receipts.specs.Receipts.{IsOneBuilt, AreCallsOfShortage, AreCallsFor, IsOfKind}
-use Rattle.nd_receipts.specs.Noted.{Noted, HasNoted, HasBegun, HasEnded, Track, track, AreLeases, IsBegun, IsFinished, HasFetched, GoesOn}
+use Rattle.nd_transports.specs.Services.{IsFetched, IsTurnedAway, IsShort}
+use Rattle.nd_receipts.specs.Receipts.{IsOneShort, AreCallsOfShortage, AreCallsFor, IsOfKind}
+use Rattle.nd_receipts.specs.Noted.{Noted, HasNoted, HasNotedWith, HasBegun, HasJudged, HasEnded, Track, track, AreLeases, IsBegun, IsFinished, HasFetched, GoesOn}
 use Rattle.nd_receipts.specs.Noted.AreLeases.{none, unstarted, served}
 
 -- ---- leases, one after another
@@ -54,9 +54,9 @@ goes_further s t u one two = record {
 -- ---- before the start
 
 -- the end of a lease that wasn't started was noted, with its calls
-goes_one : (old new : Noted) (of : Kind) (n d : ℕ) (paths : List (List ℕ)) (e : Entry) (before after these : List Call) → HasNoted old new of n paths e → IsOfKind of e → ends d e ≡ true → AreCallsFor [] n paths e these → after ≡ before ++ these → GoesOn (track old before) (track new after)
+goes_one : (old new : Noted) (of : Kind) (n d : ℕ) (paths : List (List ℕ)) (e : Entry) (before after these : List Call) → HasNoted old new of n paths e → IsOfKind of e → ends d e ≡ true → AreCallsFor [] n paths [] e these → after ≡ before ++ these → GoesOn (track old before) (track new after)
 goes_one old new of n d paths e before after these noted kind end calls grown =
-    let r : Receipt = record { index = noted.index; kind = of; calls = n; paths = paths } in
+    let r : Receipt = record { index = noted.index; kind = of; calls = n; paths = paths; refs = [] } in
     let P : List Call → Type 0 = λ cs. AreLeases (r ∷ []) (e ∷ []) cs in
     record {
       receipts = r ∷ [];
@@ -73,7 +73,7 @@ same d = eq-eqb d d refl
 
 pub has_begun : (old new : Noted) (d : ℕ) (paths : List (List ℕ)) (b : Bool) (s t : State) → IsFetched s d paths t → HasBegun old new d paths b → HasFetched (track old s.calls) (track new t.calls) d b
 has_begun old new d paths true s t fetched begun = record {
-  receipt = record { index = begun.index; kind = KindStarted; calls = 2; paths = [] };
+  receipt = record { index = begun.index; kind = KindStarted; calls = 2; paths = []; refs = [] };
   paths = paths;
   calls = Connect true ∷ Copy paths true ∷ [];
   receipts_are = begun.receipts;
@@ -107,9 +107,9 @@ goes_short old new d paths s t idle noted =
 -- ---- the end of a started lease
 
 -- the end of a lease that was started was noted, with its one build
-finishes : (old new : Noted) (of : Kind) (n d : ℕ) (apart : List (List ℕ)) (e : Entry) (answer : Answer) (before after : List Call) → HasNoted old new of n apart e → IsOfKind of e → ends d e ≡ true → ((paths : List (List ℕ)) → AreCallsFor (Started d paths ∷ []) n apart e (Build d answer ∷ [])) → after ≡ before ++ Build d answer ∷ [] → IsFinished (track old before) (track new after) d
-finishes old new of n d apart e answer before after noted kind end calls grown = record {
-  receipt = record { index = noted.index; kind = of; calls = n; paths = apart };
+finishes : (old new : Noted) (of : Kind) (n d : ℕ) (apart : List (List ℕ)) (refs : List (List (List ℕ))) (e : Entry) (answer : Answer) (before after : List Call) → HasNotedWith old new of n apart refs e → IsOfKind of e → ends d e ≡ true → ((paths : List (List ℕ)) → AreCallsFor (Started d paths ∷ []) n apart refs e (Build d answer ∷ [])) → after ≡ before ++ Build d answer ∷ [] → IsFinished (track old before) (track new after) d
+finishes old new of n d apart refs e answer before after noted kind end calls grown = record {
+  receipt = record { index = noted.index; kind = of; calls = n; paths = apart; refs = refs };
   copy = e;
   answer = answer;
   receipts_are = noted.receipts;
@@ -119,7 +119,7 @@ finishes old new of n d apart e answer before after noted kind end calls grown =
 }
 
 -- behind the start of d, one build stands behind a failure for want of memory
-short_started : (d n : ℕ) (apart : List (List ℕ)) (calls : List Call) → IsOneBuilt d n calls → (paths : List (List ℕ)) → AreCallsFor (Started d paths ∷ []) n apart (Failed d Memory) calls
+short_started : (d n : ℕ) (apart : List (List ℕ)) (calls : List Call) → IsOneShort d n calls → (paths : List (List ℕ)) → AreCallsFor (Started d paths ∷ []) n apart [] (Failed d Memory) calls
 short_started d n apart calls one paths =
     let P : Bool → Type 0 = λ b. AreCallsOfShortage (b || false) n apart d calls in
     subst P (sym (eq-eqb d d refl)) one
@@ -135,34 +135,39 @@ finishes_ended old new d refs s t is after ended =
     let answer : Answer = AnswerBuilt refs in
     let grown = grown_by s t d answer is after in
     elim ended.either [
-      | inl noted ↦ finishes old new KindBuilt 1 d [] (Built d refs) answer s.calls t.calls noted refl (same d) (λ paths. (refl, refl)) grown
-      | inr rest ↦ elim rest [
-        | inl noted ↦ finishes old new KindFailed 1 d [] (Failed d BadReferences) answer s.calls t.calls noted refl (same d) (λ paths. record { refs = refs; one = refl; is = refl }) grown
-        | inr noted ↦ finishes old new KindFailed 1 d [] (Failed d Memory) answer s.calls t.calls noted refl (same d) (short_started d 1 [] (Build d answer ∷ []) (record { refs = refs; one = refl; is = refl })) grown
+      | inl judged ↦ elim judged.either [
+        | inl noted ↦ finishes old new KindBuilt 1 d [] [] (Built d refs) answer s.calls t.calls noted refl (same d) (λ paths. (refl, refl)) grown
+        | inr noted ↦ finishes old new KindFailed 1 d [] refs (Failed d BadReferences) answer s.calls t.calls noted refl (same d) (λ paths. (refl, refl)) grown
       ]
+      | inr noted ↦ finishes old new KindFailed 1 d [] [] (Failed d Memory) answer s.calls t.calls noted refl (same d) (short_started d 1 [] (Build d answer ∷ []) (record { answer = answer; either = inl (refs, refl); one = refl; is = refl })) grown
     ]
 
 pub finishes_status : (old new : Noted) (d code : ℕ) (apart : List (List ℕ)) (s t : State) → s.drv ≡ d → t ≡ built s (AnswerStatus code) → HasNoted old new KindFailed 1 apart (Failed d (Status code)) → IsFinished (track old s.calls) (track new t.calls) d
-finishes_status old new d code apart s t is after noted = finishes old new KindFailed 1 d apart (Failed d (Status code)) (AnswerStatus code) s.calls t.calls noted refl (same d) (λ paths. (refl, refl)) (grown_by s t d (AnswerStatus code) is after)
+finishes_status old new d code apart s t is after noted = finishes old new KindFailed 1 d apart [] (Failed d (Status code)) (AnswerStatus code) s.calls t.calls noted refl (same d) (λ paths. (refl, refl)) (grown_by s t d (AnswerStatus code) is after)
 
 pub finishes_lost : (old new : Noted) (d : ℕ) (apart : List (List ℕ)) (s t : State) → s.drv ≡ d → t ≡ built s AnswerLost → HasNoted old new KindFailed 1 apart (Failed d Lost) → IsFinished (track old s.calls) (track new t.calls) d
-finishes_lost old new d apart s t is after noted = finishes old new KindFailed 1 d apart (Failed d Lost) AnswerLost s.calls t.calls noted refl (same d) (λ paths. (refl, refl)) (grown_by s t d AnswerLost is after)
+finishes_lost old new d apart s t is after noted = finishes old new KindFailed 1 d apart [] (Failed d Lost) AnswerLost s.calls t.calls noted refl (same d) (λ paths. (refl, refl)) (grown_by s t d AnswerLost is after)
 
-pub finishes_unreported : (old new : Noted) (d : ℕ) (apart : List (List ℕ)) (s t : State) → s.drv ≡ d → IsUnreported s t → HasNoted old new KindFailed 1 apart (Failed d Memory) → IsFinished (track old s.calls) (track new t.calls) d
+pub finishes_unreported : (old new : Noted) (d : ℕ) (apart : List (List ℕ)) (s t : State) → s.drv ≡ d → IsShort s t → HasNoted old new KindFailed 1 apart (Failed d Memory) → IsFinished (track old s.calls) (track new t.calls) d
 finishes_unreported old new d apart s t is h noted =
-    let answer : Answer = AnswerBuilt h.refs in
-    finishes old new KindFailed 1 d apart (Failed d Memory) answer s.calls t.calls noted refl (same d) (short_started d 1 apart (Build d answer ∷ []) (record { refs = h.refs; one = refl; is = refl })) (grown_by s t d answer is h.after)
+    finishes old new KindFailed 1 d apart [] (Failed d Memory) h.answer s.calls t.calls noted refl (same d)
+    (short_started d 1 apart (Build d h.answer ∷ []) (record { answer = h.answer; either = h.either; one = refl; is = refl })) (grown_by s t d h.answer is h.after)
 
-pub ended_built : (old new : Noted) (d : ℕ) (refs : List (List (List ℕ))) → HasNoted old new KindBuilt 1 [] (Built d refs) → HasEnded old new d refs
-ended_built old new d refs h = record { either = inl h }
+pub judged_right : (old new : Noted) (d : ℕ) (refs : List (List (List ℕ))) → HasNoted old new KindBuilt 1 [] (Built d refs) → HasJudged old new d refs
+judged_right old new d refs h = record { either = inl h }
 
-pub ended_wrong : (old new : Noted) (d : ℕ) (refs : List (List (List ℕ))) → HasNoted old new KindFailed 1 [] (Failed d BadReferences) → HasEnded old new d refs
-ended_wrong old new d refs h = record { either = inr (inl h) }
+pub judged_wrong : (old new : Noted) (d : ℕ) (refs : List (List (List ℕ))) → HasNotedWith old new KindFailed 1 [] refs (Failed d BadReferences) → HasJudged old new d refs
+judged_wrong old new d refs h = record { either = inr h }
+
+pub ended_judged : (old new : Noted) (d : ℕ) (refs : List (List (List ℕ))) → HasJudged old new d refs → HasEnded old new d refs
+ended_judged old new d refs h = record { either = inl h }
 
 pub ended_short : (old new : Noted) (d : ℕ) (refs : List (List (List ℕ))) → HasNoted old new KindFailed 1 [] (Failed d Memory) → HasEnded old new d refs
-ended_short old new d refs h = record { either = inr (inr h) }
+ended_short old new d refs h = record { either = inr h }
 
-pub ruleset endings = (ended_built, ended_wrong, ended_short)
+pub ruleset endings = (ended_judged, ended_short)
+
+pub ruleset judgements = (judged_right, judged_wrong)
 
 -- ---- a whole lease
 

@@ -1,8 +1,12 @@
 pub mod Compared
 pub mod Counts
+pub mod Faulted
 pub mod Going
+pub mod Kept
 pub mod Leaving
 pub mod Manned
 pub mod Onward
 pub mod Stints
+pub mod Told
+pub mod Upheld
 pub mod Zips

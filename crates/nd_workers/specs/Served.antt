@@ -1,6 +1,6 @@
 -- What a worker is known to have done. The public clauses of a run cite `Seated`, `seat_of` and `places_served`; the others serve
 -- proofs alone. This project's own choice.
-use Rattle.std.specs.Prelude.{◌≡◌, ℕ, List, [], map, sum_by, length}
+use Rattle.std.specs.Prelude.{◌≡◌, ℕ, Bool, true, false, List, [], map, sum_by, length}
 use Rattle.std.specs.List.{AllZip}
 use Rattle.nd_history.specs.declared.entry.Entry.{Entry}
 use Rattle.nd_transports.specs.declared.kinds.Call.{Call}
@@ -8,7 +8,7 @@ use Rattle.nd_transports.specs.Calls.{State}
 use Rattle.nd_workers.specs.declared.seat.Seat.{Seat}
 use Rattle.nd_workers.specs.declared.threads.Stint.{Stint}
 use Rattle.nd_workers.specs.declared.working.End.{End}
-use Rattle.nd_workers.specs.declared.working.End.TheVariants.{Refused}
+use Rattle.nd_workers.specs.declared.working.End.TheVariants.{Again, Finished, Left, Refused}
 use Rattle.nd_receipts.specs.Noted.{Noted, track, IsNotedIn}
 use Rattle.nd_workers.specs.Ends.{EndsWell}
 
@@ -43,6 +43,13 @@ HaveServed state workers stints = AllZip (λ w x. HasServed state (seat_of state
 -- how many receipts came back
 abbrev pub receipts_in : {T : Type 0} → List (Stint T) → ℕ
 receipts_in stints = sum_by (λ x. length x.notes.receipts) stints
+
+-- a worker ended so since an entry of its own was refused
+abbrev pub is_refused : End → Bool
+is_refused Again = false
+is_refused Finished = false
+is_refused Left = false
+is_refused Refused = true
 
 -- the worker ended as it should, and its receipts name the entries that it noted
 abbrev pub IsSound : {T : Type 0} → List Entry → Stint T → Type 0

@@ -1,11 +1,16 @@
 -- What a run adds to a history. The public clauses of a run cite it. The histories of these definitions stand newest first, but
 -- for those of `AreRunSteps`. This project's own choice.
-use Rattle.std.specs.Prelude.{◌≡◌, List, [], ◌∷◌, ◌++◌, reverse}
+use Rattle.std.specs.Prelude.{◌≡◌, ◌≤◌, true, false, List, [], ◌∷◌, ◌++◌, length, drop, reverse}
+use Rattle.std.specs.List.{list_any, list_all}
 use Rattle.nd_history.specs.declared.entry.Entry.{Entry}
 use Rattle.nd_history.specs.declared.entry.Entry.TheVariants.{Chosen, NoBuilder, Started, Down, Built, Failed, Stop, Drain, Enable}
+use Rattle.nd_history.specs.History.{is_stop}
 use Rattle.nd_history.specs.Premises.{Premises}
 use Rattle.nd_history.specs.Pumping.{IsPumpStep}
 use Rattle.nd_ledger.specs.Worlds.{World}
+use Rattle.nd_receipts.specs.declared.judging.Misreports.{Misreports}
+use Rattle.nd_receipts.specs.Judged.{AreMisreports}
+use Rattle.nd_receipts.specs.Made.{is_quiet}
 
 -- a run may add the entry: a choice, or the word that nothing can build a derivation, is the pump's step of what stands before
 -- it; and no machine is drained or enabled
@@ -35,3 +40,15 @@ pub record IsRunOf (opening now : World) : Type 0 where
 -- .. as a fact that has at most one proof, so that it can be kept under a lock
 pub record RunsOn (opening now : World) : Type 0 where
   pub merely : ∥ IsRunOf opening now ∥₁
+
+-- nothing but quiet entries came since the opening, where no stop stands: whoever ends a lease that no worker serves stops the run
+pub record StopsAreTold (opening now : World) : Type 0 where
+  pub long : length opening.history ≤ length now.history
+  pub quiet : list_any is_stop now.history ≡ false → list_all is_quiet (drop (length opening.history) now.history) ≡ true
+
+-- what is known of a run's dispatch whenever its lock is taken: it goes on from the opening one, a stop tells that the run was ended, and
+-- what is kept as wrong references is
+pub record IsUpheld (opening now : World) (misreports : Misreports) : Type 0 where
+  pub runs : RunsOn opening now
+  pub told : StopsAreTold opening now
+  pub judged : AreMisreports now.inputs now.history misreports

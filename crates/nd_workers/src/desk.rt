@@ -1,8 +1,10 @@
-//! What lies under the lock: the dispatch, and how many entries the workers made.
+//! What lies under the lock: the dispatch, how many entries the workers made, and the references that builds
+//! reported and may not have.
 
-ghost use Rattle.std.specs.Prelude.{◌≡◌, ◌+◌, ◌<◌, ◌≤◌, drop, true, IfErr, OnOk, OnErr, IsTrue};
+ghost use Rattle.std.specs.Prelude.{◌≡◌, ◌+◌, ◌<◌, ◌≤◌, drop, reverse, true, IfErr, OnOk, OnErr, IsTrue};
+ghost use Rattle.nd_ledger.specs.Moves.{IsEndRefused};
 ghost use Rattle.nd_receipts.specs.Made.{made, is_worker_cause};
-ghost use Rattle.nd_workers.specs.Steps.{RunsOn};
+ghost use Rattle.nd_workers.specs.Steps.{IsUpheld};
 
 use crate::abandoning::abandon;
 use crate::opened::Opened;
@@ -11,19 +13,20 @@ use nd_history::{Entry, Why};
 use nd_leases::Ticket;
 use nd_ledger::{Dispatch, Job, Refusal, Refused};
 use nd_path::PathSet;
-use std::alloc::Global;
+use nd_receipts::Misreports;
+use std::alloc::{AllocError, Global};
 use std::sync::ledger::{Book, Share};
 
-/// The dispatch with the book of what the workers made, and the places that workers serve.
+/// The dispatch with the book of what the workers made, the places that workers serve, and the references that
+/// were refused.
 #[derive(Drop)]
 pub(crate) struct Desk<L: Opened> {
     pub(crate) dispatch: Dispatch,
     pub(crate) book: Book<L>,
     pub(crate) manned: Vec<(u32, u32)>,
-    pub(crate) short: bool,
-    pub(crate) threadless: bool,
+    pub(crate) misreports: Misreports,
     ghost counted: { made dispatch.history ≡ book.total },
-    ghost runs: { RunsOn L.opening dispatch },
+    ghost upheld: { IsUpheld L.opening dispatch misreports },
 }
 
 /// What there is to do for a worker.
@@ -41,7 +44,6 @@ pub(crate) enum Next {
 
 impl<L: Opened> Desk<L> {
     /// Records a start.
-    #[tactic(auto, using(crate::proofs::Counts::made_one, crate::proofs::Onward::runs_made))]
     pub(crate) fn start(
         &mut self,
         alloc: Global,
@@ -67,7 +69,6 @@ impl<L: Opened> Desk<L> {
     }
 
     /// Records that a lease is given back.
-    #[tactic(auto, using(crate::proofs::Counts::made_one, crate::proofs::Onward::runs_made))]
     pub(crate) fn down(&mut self, ticket: Ticket, mine: &mut Share<L>) -> Result<usize, Refusal>
         requires { 0 < mine.old.parts }
         ensures ok { OnOk result (mine.new.amount ≡ mine.old.amount + 1) }
@@ -85,19 +86,21 @@ impl<L: Opened> Desk<L> {
         }
     }
 
-    /// Records the end of a build with its outputs.
-    #[tactic(auto, using(crate::proofs::Counts::made_one, crate::proofs::Onward::runs_made))]
+    /// Records the end of a build with its outputs. A refusal hands the references back, and is about the history
+    /// as it is then.
     pub(crate) fn end(
         &mut self,
         alloc: Global,
         ticket: Ticket,
         refs: Refs,
         mine: &mut Share<L>,
-    ) -> Result<usize, Refusal>
+    ) -> Result<usize, Refused<Refs>>
         requires { 0 < mine.old.parts }
         ensures ok { OnOk result (mine.new.amount ≡ mine.old.amount + 1) }
         ensures err { OnErr result (mine.new.amount ≡ mine.old.amount) }
         ensures parts { mine.new.parts ≡ mine.old.parts }
+        ensures back { IfErr result (λ r. r.value ≡ refs) }
+        ensures refused { IfErr result (λ r. IsEndRefused self.new.dispatch.inputs (reverse self.new.dispatch.history) ticket refs r.why) }
     {
         let Desk { dispatch, book, .. } = self;
         let index = dispatch.history().len();
@@ -106,15 +109,43 @@ impl<L: Opened> Desk<L> {
                 book.add(mine, 1);
                 Ok(index)
             }
-            Err(Refused { why, value }) => {
-                drop(value);
-                Err(why)
+            Err(refused) => Err(refused),
+        }
+    }
+
+    /// Records that a build may not have the references that it reported, and keeps them beside the entry. Where
+    /// there is no memory to keep them nothing is recorded.
+    #[tactic(auto, using(crate::proofs::Upheld::upheld_same))]
+    pub(crate) fn misreport(
+        &mut self,
+        ticket: Ticket,
+        refs: Refs,
+        mine: &mut Share<L>,
+    ) -> Result<usize, AllocError>
+        requires part { 0 < mine.old.parts }
+        requires wrong { IsEndRefused self.old.dispatch.inputs (reverse self.old.dispatch.history) ticket refs Refusal.BadReferences }
+        ensures ok { OnOk result (mine.new.amount ≡ mine.old.amount + 1) }
+        ensures err { OnErr result (mine.new.amount ≡ mine.old.amount) }
+        ensures parts { mine.new.parts ≡ mine.old.parts }
+    {
+        let Desk {
+            dispatch,
+            book,
+            misreports,
+            ..
+        } = self;
+        let index = dispatch.history().len();
+        misreports.keep(index, refs)?;
+        match dispatch.failed(ticket, Why::BadReferences) {
+            Ok(()) => {
+                book.add(mine, 1);
+                Ok(index)
             }
+            Err(_) => unreachable!(),
         }
     }
 
     /// Records the end of a lease without outputs.
-    #[tactic(auto, using(crate::proofs::Counts::made_one, crate::proofs::Onward::runs_made))]
     pub(crate) fn fail(
         &mut self,
         ticket: Ticket,
@@ -148,12 +179,11 @@ impl<L: Opened> Desk<L> {
     /// Makes the choices that can be made. Where memory is refused nothing more is begun.
     pub(crate) fn pump(&mut self) {
         if !self.choose() {
-            self.end_short();
+            self.begin_no_more();
         }
     }
 
     /// Makes the choices that can be made. The answer is whether there was memory for them all.
-    #[tactic(auto, using(crate::proofs::Counts::pumped_made, crate::proofs::Counts::pumped_by_made, crate::proofs::Onward::runs_pumped, crate::proofs::Onward::runs_pumped_by))]
     fn choose(&mut self) -> bool {
         let Desk { dispatch, .. } = self;
         match dispatch.pump() {
@@ -162,16 +192,11 @@ impl<L: Opened> Desk<L> {
         }
     }
 
-    /// For want of memory nothing more is begun.
-    #[tactic(auto, using(crate::proofs::Counts::abandoned_made, crate::proofs::Onward::runs_abandoned))]
-    fn end_short(&mut self) {
+    /// Nothing more is begun.
+    fn begin_no_more(&mut self) {
         let Desk {
-            dispatch,
-            manned,
-            short,
-            ..
+            dispatch, manned, ..
         } = self;
-        *short = true;
         abandon(dispatch, manned.as_slice());
     }
 
@@ -179,21 +204,13 @@ impl<L: Opened> Desk<L> {
     pub(crate) fn leave(&mut self, machine: u32, slot: u32) {
         self.manned
             .retain(|place| machine != place.0 || slot != place.1);
-        self.end_short();
+        self.begin_no_more();
     }
 
     /// Only the first `started` workers have threads, and nothing more is begun.
-    #[tactic(auto, using(crate::proofs::Counts::abandoned_made, crate::proofs::Onward::runs_abandoned))]
     pub(crate) fn unstarted(&mut self, started: usize) {
-        let Desk {
-            dispatch,
-            manned,
-            threadless,
-            ..
-        } = self;
-        *threadless = true;
-        manned.truncate(started);
-        abandon(dispatch, manned.as_slice());
+        self.manned.truncate(started);
+        self.begin_no_more();
     }
 
     /// What there is to do for the worker of this place.

@@ -1,50 +1,49 @@
-//! What a run ended with: the histories, the notes and the receipts compared.
+//! What a run ended with: what came back of it, compared with its history.
 
-ghost use Rattle.std.specs.Prelude.{◌≡◌, ◌+◌, ◌^◌, ◌<◌, ◌≤◌, ℕ, length, drop, map, replicate, reverse, true, All, Some, None};
-ghost use Rattle.std.specs.List.{AllZip, list_any, list_all};
-ghost use Rattle.nd_history.specs.History.{is_stop};
-ghost use Rattle.nd_history.specs.Statuses.{IsFinished};
-ghost use Rattle.nd_receipts.specs.Made.{is_quiet};
-ghost use Rattle.nd_receipts.specs.Noted.{IsNotedIn};
-ghost use Rattle.nd_receipts.specs.Dealt.{AreApart, AreReceipted};
+ghost use Rattle.std.specs.Prelude.{◌≡◌, ◌+◌, ◌<◌, ◌≤◌, ◌↔◌, ℕ, length, drop, count_by, replicate, reverse, true, false, IsTrue};
+ghost use Rattle.std.specs.List.{list_any};
+ghost use Rattle.nd_history.specs.Standing.{drvs_in};
+ghost use Rattle.nd_receipts.specs.Dealt.{AreApart};
 ghost use Rattle.nd_receipts.specs.Walks.{AreUnknown};
-ghost use Rattle.nd_workers.specs.Runs.{Agrees, AreReceiptedFrom};
-ghost use Rattle.nd_workers.specs.Served.{IsSound};
+ghost use Rattle.nd_workers.specs.Faults.{IsAlikeFrom, IsFaultBy, IsStopped};
+ghost use Rattle.nd_workers.specs.Runs.{AreReceiptedFrom};
+ghost use Rattle.nd_workers.specs.Served.{is_refused};
 
 use crate::desk::entries_since;
-use crate::run_end::RunFault;
+use crate::run_end::{Evidence, RunFault};
 use crate::threads::Stint;
 use crate::working::End;
-use nd_history::Entry;
 use nd_ledger::Dispatch;
-use nd_receipts::{Receipt, Tables, are_as_noted, are_dealt, has_stop, is_quiet};
+use nd_receipts::{Receipt, Tables, are_dealt, are_rows_judged, are_rows_noted, has_stop, is_quiet};
 use nd_transports::Transport;
 
-/// Whether a worker ended as it should, and its receipts name the entries that it noted.
-fn is_sound<T: Transport>(history: &[Entry], stint: &Stint<T>) -> bool
-    ensures end { result ≡ true → stint.now.end ≡ End.Refused → ⊥ }
-    ensures noted { result ≡ true → AllZip (IsNotedIn history.now) stint.now.notes.receipts stint.now.notes.copies }
+/// Whether a worker ended so since an entry of its own was refused.
+fn is_refused(end: End) -> bool
+    ensures { result ≡ is_refused end }
 {
-    if stint.end == End::Refused {
-        return false;
+    match end {
+        End::Refused => true,
+        End::Again | End::Finished | End::Left => false,
     }
-    are_as_noted(history, stint.notes.receipts(), stint.notes.copies())
 }
 
-/// Whether every worker ended as it should, and its receipts name the entries that it noted.
-pub(crate) fn are_sound<T: Transport>(history: &[Entry], stints: &[Stint<T>]) -> bool
-    ensures { result ≡ true → All (IsSound history.now) stints.now }
+/// Whether an entry of a worker's own was refused.
+pub(crate) fn is_any_refused<T: Transport>(stints: &[Stint<T>]) -> bool
+    ensures { result ≡ list_any (λ stint. is_refused stint.end) stints.now }
 {
-    for stint in stints {
-        if !is_sound(history, stint) {
-            return false;
-        }
-    }
-    true
+    stints.iter().any(|stint| is_refused(stint.end))
+}
+
+/// How many of the workers had a thread.
+pub(crate) fn count_threads<T: Transport>(stints: &[Stint<T>]) -> usize
+    ensures { result ≡ count_by (λ stint. stint.threaded) stints.now }
+{
+    stints.iter().filter(|stint| stint.threaded).count()
 }
 
 /// Whether the entries that workers made behind the first `opened` are the receipts, each of one worker.
-pub(crate) fn are_receipted(
+#[tactic(auto, using(crate::proofs::Faulted::all_within))]
+fn are_receipted(
     opened: usize,
     dispatch: &Dispatch,
     places: &[(u32, u32)],
@@ -53,57 +52,81 @@ pub(crate) fn are_receipted(
 ) -> bool
     requires apart { AreApart places.now }
     requires choices { AreUnknown (length places.now) tables.choices.items }
+    requires sized { length tables.choices.items ≡ drvs_in dispatch.now.inputs }
     requires met { tables.met.items ≡ replicate (length places.now) 0 }
-    ensures { result ≡ true → AreReceiptedFrom opened dispatch.now.history places.now receipts.now }
+    requires long { opened ≤ length dispatch.now.history }
+    ensures receipted { result ≡ true → AreReceiptedFrom opened dispatch.now.history places.now receipts.now }
+    ensures unlike { result ≡ false → AreReceiptedFrom opened dispatch.now.history places.now receipts.now → ⊥ }
 {
-    if dispatch.history().len() < opened {
-        drop(tables);
-        return false;
-    }
-    let new = entries_since(dispatch, opened);
+    let history = dispatch.history();
+    let (_, new) = history.split_at(opened);
     are_dealt(new, opened, places, receipts, tables)
 }
 
-/// What a run ended with that began behind the first `opened` entries. The workers' notes are those of
-/// the history where `sound` says so, and their receipts where `dealt` does.
+/// Whether a stop is in the history, where fewer workers had a thread than there are.
+fn is_stopped(dispatch: &Dispatch, threads: usize, workers: usize) -> bool
+    ensures { IsTrue result ↔ IsStopped threads workers dispatch.now.history }
+{
+    if threads >= workers {
+        return true;
+    }
+    has_stop(dispatch.history())
+}
+
+/// Whether what came back of a run that began behind the first `opened` entries is what its history says.
+pub(crate) fn is_alike(
+    opened: usize,
+    dispatch: &Dispatch,
+    places: &[(u32, u32)],
+    receipts: &[Vec<Receipt>],
+    evidence: &Evidence,
+    tables: Tables,
+) -> bool
+    requires apart { AreApart places.now }
+    requires choices { AreUnknown (length places.now) tables.choices.items }
+    requires sized { length tables.choices.items ≡ drvs_in dispatch.now.inputs }
+    requires met { tables.met.items ≡ replicate (length places.now) 0 }
+    requires long { opened ≤ length dispatch.now.history }
+    ensures alike { result ≡ true → IsAlikeFrom opened dispatch.now places.now receipts.now evidence.now }
+    ensures unlike { result ≡ false → IsAlikeFrom opened dispatch.now places.now receipts.now evidence.now → ⊥ }
+{
+    if !dispatch.finished() {
+        return false;
+    }
+    if evidence.refused {
+        return false;
+    }
+    if !is_stopped(dispatch, evidence.threads, places.len()) {
+        return false;
+    }
+    if !are_rows_noted(dispatch.history(), receipts, evidence.copies.as_slice()) {
+        return false;
+    }
+    if !are_rows_judged(&evidence.misreports, receipts, evidence.copies.as_slice()) {
+        return false;
+    }
+    are_receipted(opened, dispatch, places, receipts, tables)
+}
+
+/// What a run ended with that began behind the first `opened` entries, with so many of its workers in threads.
+/// `alike` says whether what came back is what the history says.
 pub(crate) fn fault_of(
     opened: usize,
     dispatch: &Dispatch,
-    sound: bool,
-    dealt: bool,
-    short: bool,
-    threadless: bool,
+    alike: bool,
+    threads: usize,
+    workers: usize,
 ) -> Option<RunFault>
-    ensures sound { Agrees result → sound ≡ true }
-    ensures dealt { Agrees result → dealt ≡ true }
-    ensures quiet { result ≡ None → list_all is_quiet (drop opened dispatch.now.history) ≡ true }
-    ensures thread { result ≡ Some RunFault.Thread → list_any is_stop dispatch.now.history ≡ true }
-    ensures memory { result ≡ Some RunFault.Memory → list_any is_stop dispatch.now.history ≡ true }
-    ensures finished { Agrees result → IsFinished dispatch.now.inputs (reverse dispatch.now.history) }
+    ensures { IsFaultBy alike threads workers (drop opened dispatch.now.history) result }
 {
-    if !dispatch.finished() {
+    if !alike {
         return Some(RunFault::Receipts);
     }
-    if !sound {
-        return Some(RunFault::Receipts);
-    }
-    if !dealt {
-        return Some(RunFault::Receipts);
-    }
-    if threadless {
-        if has_stop(dispatch.history()) {
-            return Some(RunFault::Thread);
-        }
-        return Some(RunFault::Receipts);
-    }
-    if short {
-        if has_stop(dispatch.history()) {
-            return Some(RunFault::Memory);
-        }
-        return Some(RunFault::Receipts);
+    if threads < workers {
+        return Some(RunFault::Thread);
     }
     if is_quiet(entries_since(dispatch, opened)) {
         return None;
     }
-    Some(RunFault::Receipts)
+    Some(RunFault::Memory)
 }

@@ -1,8 +1,9 @@
 //! What a worker holds: its share of the entries that were made, and its notes.
 
-ghost use Rattle.std.specs.Prelude.{◌≡◌, ◌+◌, ◌<◌, ◌≤◌, [], length, true, IfErr, OnOk, OnErr};
+ghost use Rattle.std.specs.Prelude.{◌≡◌, ◌+◌, ◌<◌, ◌≤◌, [], length, reverse, true, IfErr, OnOk, OnErr};
+ghost use Rattle.nd_ledger.specs.Moves.{IsEndRefused};
 ghost use Rattle.nd_receipts.specs.Made.{is_worker_cause};
-ghost use Rattle.nd_receipts.specs.Noted.{HasNoted};
+ghost use Rattle.nd_receipts.specs.Noted.{HasNoted, HasNotedWith, HasJudged};
 
 use crate::desk::Desk;
 use crate::opened::Opened;
@@ -15,6 +16,13 @@ use nd_receipts::notes::Notes;
 use nd_receipts::receipt::{Kind, Receipt};
 use std::alloc::{AllocError, Global};
 use std::sync::ledger::Share;
+
+/// No references. It takes no memory.
+fn no_refs(alloc: Global) -> Refs
+    ensures { result ≡ [] }
+{
+    Refs::new(Vec::new(alloc))
+}
 
 /// A worker's share, which is the number of its receipts, and its notes.
 #[derive(Drop)]
@@ -71,6 +79,7 @@ impl<L: Opened> Hand<L> {
                     kind: Kind::Started,
                     calls: 2,
                     paths: PathSet::new(alloc),
+                    refs: no_refs(alloc),
                 };
                 notes.note(receipt, copy);
                 Ok(())
@@ -85,6 +94,7 @@ impl<L: Opened> Hand<L> {
     /// Gives a lease back, and notes it.
     pub(crate) fn down(
         &mut self,
+        alloc: Global,
         desk: &mut Desk<L>,
         ticket: Ticket,
         calls: u8,
@@ -101,6 +111,7 @@ impl<L: Opened> Hand<L> {
                     kind: Kind::Down,
                     calls,
                     paths,
+                    refs: no_refs(alloc),
                 };
                 notes.note(receipt, Entry::Down { drv: ticket.drv });
                 Ok(())
@@ -112,18 +123,20 @@ impl<L: Opened> Hand<L> {
         }
     }
 
-    /// Ends a build with its outputs, and notes it.
+    /// Ends a build with its outputs, where it may have the references that it reported, and else as a failure
+    /// for them, and notes it.
+    #[tactic(auto, using(crate::proofs::Going::judgements))]
     pub(crate) fn end(
         &mut self,
         alloc: Global,
         desk: &mut Desk<L>,
         ticket: Ticket,
         refs: Refs,
-        copy: Entry,
+        copy: Refs,
     ) -> Result<(), Refusal>
         requires room { 0 < self.old.notes.room }
-        requires copy { copy ≡ Entry.Built ticket.drv refs }
-        ensures ok { OnOk result (HasNoted self.old.notes self.new.notes Kind.Built 1 [] (Entry.Built ticket.drv refs)) }
+        requires copy { copy ≡ refs }
+        ensures ok { OnOk result (HasJudged self.old.notes self.new.notes ticket.drv refs) }
         ensures err { OnErr result (self.new.notes ≡ self.old.notes) }
     {
         let Hand { share, notes } = self;
@@ -134,13 +147,55 @@ impl<L: Opened> Hand<L> {
                     kind: Kind::Built,
                     calls: 1,
                     paths: PathSet::new(alloc),
+                    refs: no_refs(alloc),
                 };
-                notes.note(receipt, copy);
+                let drv = ticket.drv;
+                notes.note(receipt, Entry::Built { drv, refs: copy });
                 Ok(())
             }
-            Err(refusal) => {
+            Err(Refused { why, value }) => {
+                if why != Refusal::BadReferences {
+                    drop(value);
+                    drop(copy);
+                    return Err(why);
+                }
+                self.misreport(alloc, desk, ticket, value, copy)
+            }
+        }
+    }
+
+    /// Ends a build as a failure for the references that it reported, and notes it with them.
+    fn misreport(
+        &mut self,
+        alloc: Global,
+        desk: &mut Desk<L>,
+        ticket: Ticket,
+        refs: Refs,
+        copy: Refs,
+    ) -> Result<(), Refusal>
+        requires room { 0 < self.old.notes.room }
+        requires copy { copy ≡ refs }
+        requires wrong { IsEndRefused desk.old.dispatch.inputs (reverse desk.old.dispatch.history) ticket refs Refusal.BadReferences }
+        ensures ok { OnOk result (HasNotedWith self.old.notes self.new.notes Kind.Failed 1 [] refs (Entry.Failed ticket.drv Why.BadReferences)) }
+        ensures err { OnErr result (self.new.notes ≡ self.old.notes) }
+    {
+        let Hand { share, notes } = self;
+        match desk.misreport(ticket, refs, share) {
+            Ok(index) => {
+                let receipt = Receipt {
+                    index,
+                    kind: Kind::Failed,
+                    calls: 1,
+                    paths: PathSet::new(alloc),
+                    refs: copy,
+                };
+                let (drv, why) = (ticket.drv, Why::BadReferences);
+                notes.note(receipt, Entry::Failed { drv, why });
+                Ok(())
+            }
+            Err(_) => {
                 drop(copy);
-                Err(refusal)
+                Err(Refusal::Memory)
             }
         }
     }
@@ -148,6 +203,7 @@ impl<L: Opened> Hand<L> {
     /// Ends a lease without outputs, and notes it.
     pub(crate) fn fail(
         &mut self,
+        alloc: Global,
         desk: &mut Desk<L>,
         ticket: Ticket,
         why: Why,
@@ -166,6 +222,7 @@ impl<L: Opened> Hand<L> {
                     kind: Kind::Failed,
                     calls,
                     paths,
+                    refs: no_refs(alloc),
                 };
                 let drv = ticket.drv;
                 notes.note(receipt, Entry::Failed { drv, why });

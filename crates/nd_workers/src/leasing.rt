@@ -3,7 +3,7 @@
 
 ghost use Rattle.std.specs.Prelude.{◌≡◌, ◌+◌, ◌<◌, ◌≤◌, [], true, IfOk, IfErr, OnOk, OnErr, ℕ, List};
 ghost use Rattle.nd_receipts.specs.Made.{is_worker_cause};
-ghost use Rattle.nd_receipts.specs.Noted.{HasNoted, HasBegun, HasEnded, HasFetched, IsFinished, GoesOn, track_of};
+ghost use Rattle.nd_receipts.specs.Noted.{HasNoted, HasJudged, HasBegun, HasEnded, HasFetched, IsFinished, GoesOn, track_of};
 
 use crate::bells::Bells;
 use crate::desk::Desk;
@@ -32,6 +32,7 @@ pub(crate) struct Shared<L: Opened> {
 /// Under the lock, gives a lease back.
 fn down<L: Opened, R: Wait>(
     rt: &R,
+    alloc: Global,
     shared: &Shared<L>,
     hand: &mut Hand<L>,
     ticket: Ticket,
@@ -42,12 +43,13 @@ fn down<L: Opened, R: Wait>(
     ensures ok { OnOk result (HasNoted hand.old.notes hand.new.notes Kind.Down calls paths (Entry.Down ticket.drv)) }
 {
     let mut desk = shared.desk.lock(rt);
-    hand.down(&mut *desk, ticket, calls, paths)
+    hand.down(alloc, &mut *desk, ticket, calls, paths)
 }
 
 /// Under the lock, ends a lease without outputs.
 fn fail<L: Opened, R: Wait>(
     rt: &R,
+    alloc: Global,
     shared: &Shared<L>,
     hand: &mut Hand<L>,
     ticket: Ticket,
@@ -60,7 +62,7 @@ fn fail<L: Opened, R: Wait>(
     ensures ok { OnOk result (HasNoted hand.old.notes hand.new.notes Kind.Failed calls paths (Entry.Failed ticket.drv why)) }
 {
     let mut desk = shared.desk.lock(rt);
-    hand.fail(&mut *desk, ticket, why, calls, paths)
+    hand.fail(alloc, &mut *desk, ticket, why, calls, paths)
 }
 
 /// Under the lock, makes a start.
@@ -83,7 +85,8 @@ fn start<L: Opened, R: Wait>(
     hand.start(alloc, &mut *desk, ticket, paths, copy)
 }
 
-/// Under the lock, ends a build with its outputs.
+/// In one hold of the lock, judges the references that a build reported, and makes the entry of its end: with its
+/// outputs where it may have them, and else the failure for them.
 fn end<L: Opened, R: Wait>(
     rt: &R,
     alloc: Global,
@@ -91,11 +94,11 @@ fn end<L: Opened, R: Wait>(
     hand: &mut Hand<L>,
     ticket: Ticket,
     refs: Refs,
-    copy: Entry,
+    copy: Refs,
 ) -> Result<(), Refusal>
     requires room { 0 < hand.old.notes.room }
-    requires copy { copy ≡ Entry.Built ticket.drv refs }
-    ensures ok { OnOk result (HasNoted hand.old.notes hand.new.notes Kind.Built 1 [] (Entry.Built ticket.drv refs)) }
+    requires copy { copy ≡ refs }
+    ensures ok { OnOk result (HasJudged hand.old.notes hand.new.notes ticket.drv refs) }
     ensures err { OnErr result (hand.new.notes ≡ hand.old.notes) }
 {
     let mut desk = shared.desk.lock(rt);
@@ -116,7 +119,7 @@ pub(crate) fn give_up<L: Opened, R: Wait>(
     requires cause { is_worker_cause why ≡ true }
     ensures ok { OnOk result (HasNoted hand.old.notes hand.new.notes Kind.Failed calls [] (Entry.Failed ticket.drv why)) }
 {
-    fail(rt, shared, hand, ticket, why, calls, PathSet::new(alloc))
+    fail(rt, alloc, shared, hand, ticket, why, calls, PathSet::new(alloc))
 }
 
 /// The entry of a start with a copy of these paths.
@@ -125,14 +128,6 @@ fn entry_of_start(drv: u32, paths: &PathSet) -> Result<Entry, AllocError>
 {
     let paths = paths.try_clone()?;
     Ok(Entry::Started { drv, paths })
-}
-
-/// The entry of an end with a copy of these references.
-fn entry_of_end(drv: u32, refs: &Refs) -> Result<Entry, AllocError>
-    ensures { IfOk result (λ e. e ≡ Entry.Built drv refs.now) }
-{
-    let refs = refs.try_clone()?;
-    Ok(Entry::Built { drv, refs })
 }
 
 /// Makes a start with the paths that were copied. The answer is whether there was memory for it; where
@@ -149,17 +144,18 @@ fn begin<L: Opened, R: Wait>(
     ensures { IfOk result (HasBegun hand.old.notes hand.new.notes ticket.drv paths) }
 {
     let Ok(copy) = entry_of_start(ticket.drv, &paths) else {
-        return unstarted(rt, shared, hand, ticket, Refusal::Memory, paths);
+        return unstarted(rt, alloc, shared, hand, ticket, Refusal::Memory, paths);
     };
     match start(rt, alloc, shared, hand, ticket, paths, copy) {
         Ok(()) => Ok(true),
-        Err(Refused { why, value }) => unstarted(rt, shared, hand, ticket, why, value),
+        Err(Refused { why, value }) => unstarted(rt, alloc, shared, hand, ticket, why, value),
     }
 }
 
 /// What becomes of a start that was refused: for want of memory the lease failed.
 fn unstarted<L: Opened, R: Wait>(
     rt: &R,
+    alloc: Global,
     shared: &Shared<L>,
     hand: &mut Hand<L>,
     ticket: Ticket,
@@ -173,14 +169,14 @@ fn unstarted<L: Opened, R: Wait>(
         drop(paths);
         return Err(why);
     }
-    match fail(rt, shared, hand, ticket, Why::Memory, 2, paths) {
+    match fail(rt, alloc, shared, hand, ticket, Why::Memory, 2, paths) {
         Ok(()) => Ok(false),
         Err(refusal) => Err(refusal),
     }
 }
 
-/// Ends a build that reported these references. Where it may not have them, or where there is no
-/// memory for them, the lease failed.
+/// Ends a build that reported these references. Where it may not have them, or where there is no memory for
+/// them, the lease failed.
 #[tactic(auto, using(crate::proofs::Going::endings))]
 fn finish<L: Opened, R: Wait>(
     rt: &R,
@@ -193,7 +189,7 @@ fn finish<L: Opened, R: Wait>(
     requires { 0 < hand.old.notes.room }
     ensures { OnOk result (HasEnded hand.old.notes hand.new.notes ticket.drv refs) }
 {
-    let Ok(copy) = entry_of_end(ticket.drv, &refs) else {
+    let Ok(copy) = refs.try_clone() else {
         drop(refs);
         return unfinished(rt, alloc, shared, hand, ticket, Refusal::Memory);
     };
@@ -203,8 +199,7 @@ fn finish<L: Opened, R: Wait>(
     unfinished(rt, alloc, shared, hand, ticket, refusal)
 }
 
-/// What becomes of an end that was refused: for wrong references and for want of memory the lease
-/// failed.
+/// What becomes of an end that was refused: for want of memory the lease failed.
 #[tactic(auto, using(crate::proofs::Going::endings))]
 fn unfinished<L: Opened, R: Wait>(
     rt: &R,
@@ -217,10 +212,6 @@ fn unfinished<L: Opened, R: Wait>(
     requires { 0 < hand.old.notes.room }
     ensures { (refs : List (List (List ℕ))) → OnOk result (HasEnded hand.old.notes hand.new.notes ticket.drv refs) }
 {
-    if refusal == Refusal::BadReferences {
-        give_up(rt, alloc, shared, hand, ticket, Why::BadReferences, 1)?;
-        return Ok(());
-    }
     if refusal != Refusal::Memory {
         return Err(refusal);
     }
@@ -290,7 +281,7 @@ fn fetch_lease<L: Opened, T: Transport, R: Wait>(
         }
         Fetch::Refused(calls) => {
             let kept = copied_paths(alloc, calls, paths);
-            down(rt, shared, hand, ticket, calls, kept)?;
+            down(rt, alloc, shared, hand, ticket, calls, kept)?;
             Ok(false)
         }
         Fetch::Memory => {

@@ -21,6 +21,6 @@ pub use nd_transports::{
     Answer, Call, CallLog, Ended, Fetch, Outcome, Phase, Rule, RuleBook, StandIn, Transport,
     serve_build, serve_copy,
 };
-pub use run_end::{Refused, RunEnd, RunError, RunFault};
+pub use run_end::{Evidence, Refused, RunEnd, RunError, RunFault};
 pub use running::run;
 pub use seat::{Seat, Worker};

@@ -1,8 +1,9 @@
 //! How a run ends, or why it was refused.
 
 use crate::seat::Seat;
+use nd_history::Entry;
 use nd_ledger::Dispatch;
-use nd_receipts::Receipt;
+use nd_receipts::{Misreports, Receipt};
 use nd_transports::Transport;
 
 /// Why a run was refused: the first cause that stands, but `Memory` may come at any point.
@@ -16,18 +17,21 @@ pub enum RunError {
     Memory,
 }
 
-/// What a run may end with. It has none of these only where nothing waits or is leased any more, the receipts
-/// are the entries that workers made, and nobody stopped the run. That it has the one that it has for the
-/// cause that is named isn't proved.
+/// What a run may end with: the first of `Receipts`, `Thread` and `Memory` whose cause stands, and none where none
+/// does.
 #[derive(Clone, Copy, Debug, PartialEq, Eq)]
 pub enum RunFault {
-    /// 1: a thread wasn't started, and a stop is in the history; leases may have failed for want of a
-    /// worker. The calls and the receipts are as without a fault.
+    /// 1: a worker had no thread. A stop is in the history; leases may have failed for want of a worker. The calls
+    /// and the receipts are as without a fault.
     Thread,
-    /// 2: memory was refused for choices or for receipts, and a stop is in the history; leases may have
-    /// failed for want of a worker. The calls and the receipts are as without a fault.
+    /// 2: each worker had a thread, and the run was stopped all the same, as it is where memory is refused for
+    /// choices or for receipts. A stop is in the history; leases may have failed for want of a worker. The calls
+    /// and the receipts are as without a fault.
     Memory,
-    /// 3: it wasn't seen that the run is over and that the receipts are the entries that workers made.
+    /// 3: what came back of the run isn't what its history says. Something waits or is leased still; or an entry
+    /// of a worker's own was refused; or a receipt names another entry than its worker noted, or has other
+    /// references than those that were refused; or the receipts aren't the entries that workers made, each of the
+    /// worker on its lease's place; or a worker had no thread, and no stop is in the history.
     Receipts,
 }
 
@@ -42,6 +46,19 @@ pub struct NotRun<T> {
     pub workers: Vec<Seat<T>>,
 }
 
+/// What a run's end is compared with its history by, beside the receipts.
+#[derive(Drop)]
+pub struct Evidence {
+    /// Beside each worker's receipts its own copies of their entries, in the order of the workers.
+    pub copies: Vec<Vec<Entry>>,
+    /// The references that builds reported and that they may not have, by their entries' places in the history.
+    pub misreports: Misreports,
+    /// Whether an entry of a worker's own was refused, after which it left.
+    pub refused: bool,
+    /// How many of the workers had a thread.
+    pub threads: usize,
+}
+
 /// The end of a run.
 #[derive(Drop)]
 pub struct Ran<T> {
@@ -51,6 +68,8 @@ pub struct Ran<T> {
     pub workers: Vec<Seat<T>>,
     /// Each worker's receipts, in the order of the workers.
     pub receipts: Vec<Vec<Receipt>>,
+    /// What the fault, or that there is none, goes by.
+    pub evidence: Evidence,
     /// What the run ended with, if it isn't as it should be.
     pub fault: Option<RunFault>,
 }

@@ -1,29 +1,30 @@
 //! A run of all leases of a dispatch by its workers, each in a thread of its own.
 
-ghost use Rattle.std.specs.Prelude.{◌≡◌, ◌+◌, ◌<◌, ◌≤◌, ℕ, length, vec_len, vec_capacity, sum_by, map, drop, replicate, reverse, true, All, IfOk, IfErr, OnOk, Some, None};
+ghost use Rattle.std.specs.Prelude.{◌≡◌, ◌+◌, ◌<◌, ◌≤◌, ℕ, length, vec_len, vec_capacity, count_by, sum_by, map, replicate, true, IfOk, IfErr, OnOk, Some, None};
 ghost use Rattle.std.specs.List.{AllZip, zip, list_any, list_all};
 ghost use Rattle.nd_history.specs.History.{is_stop};
-ghost use Rattle.nd_history.specs.Statuses.{IsFinished};
+ghost use Rattle.nd_history.specs.Standing.{drvs_in};
 ghost use Rattle.nd_receipts.specs.Made.{made, is_quiet};
-ghost use Rattle.nd_receipts.specs.Noted.{IsNotedIn};
-ghost use Rattle.nd_receipts.specs.Dealt.{AreApart, AreReceipted};
+ghost use Rattle.nd_receipts.specs.Judged.{AreMisreports};
+ghost use Rattle.nd_receipts.specs.Dealt.{AreApart};
 ghost use Rattle.nd_receipts.specs.Walks.{AreUnknown};
-ghost use Rattle.nd_workers.specs.Runs.{AreManned, IsRunRefused, Agrees, IsOver, AreServedIn, AreReceiptedFrom, AreReceiptedSince, since};
-ghost use Rattle.nd_workers.specs.Served.{places_served, HaveServed, IsSound, receipts_in};
-ghost use Rattle.nd_workers.specs.Steps.{RunsOn};
+ghost use Rattle.nd_workers.specs.Faults.{IsFaultFrom, IsFaultOf, AreAllWrong};
+ghost use Rattle.nd_workers.specs.Runs.{AreManned, IsRunRefused, Agrees, IsOver, AreServedIn, AreReceiptedSince, since};
+ghost use Rattle.nd_workers.specs.Served.{places_served, HaveServed, is_refused, receipts_in};
+ghost use Rattle.nd_workers.specs.Steps.{RunsOn, IsUpheld};
 
 use crate::bells::Bells;
 use crate::desk::Desk;
-use crate::faults::{are_receipted, are_sound, fault_of};
+use crate::faults::{count_threads, fault_of, is_alike, is_any_refused};
 use crate::leasing::Shared;
 use crate::manning::{are_manned, places_of};
 use crate::opened::Opened;
-use crate::run_end::{NotRun, Ran, Refused, RunEnd, RunError, RunFault};
+use crate::run_end::{Evidence, NotRun, Ran, Refused, RunEnd, RunError, RunFault};
 use crate::seat::{Seat, Worker};
 use crate::threads::{Ended, Ready, Running, Stint, in_scope};
-use crate::working::End;
+use nd_history::Entry;
 use nd_ledger::Dispatch;
-use nd_receipts::{Receipt, Tables, count_made};
+use nd_receipts::{Misreports, Receipt, Tables, count_made};
 use nd_transports::Transport;
 use std::alloc::{AllocError, Global};
 use std::marker::Brand;
@@ -61,13 +62,15 @@ struct Room<L: Opened, T: Transport> {
     ghost no_stints: { vec_len stints ≡ 0 },
 }
 
-/// Room for the workers and their receipts.
+/// Room for the workers, their receipts and the copies beside them.
 #[derive(Drop)]
 struct Back<T> {
     workers: Vec<Seat<T>>,
     receipts: Vec<Vec<Receipt>>,
+    copies: Vec<Vec<Entry>>,
     ghost no_workers: { vec_len workers ≡ 0 },
     ghost no_receipts: { vec_len receipts ≡ 0 },
+    ghost no_copies: { vec_len copies ≡ 0 },
 }
 
 /// Room for so many workers.
@@ -76,6 +79,7 @@ fn make_room<L: Opened, T: Transport>(alloc: Global, count: usize) -> Result<Roo
     ensures stints { IfOk result (λ r. count ≤ vec_capacity r.stints) }
     ensures workers { IfOk result (λ r. count ≤ vec_capacity r.back.workers) }
     ensures receipts { IfOk result (λ r. count ≤ vec_capacity r.back.receipts) }
+    ensures copies { IfOk result (λ r. count ≤ vec_capacity r.back.copies) }
 {
     let back = make_back(alloc, count)?;
     let stints = match Vec::with_capacity(alloc, count) {
@@ -99,16 +103,23 @@ fn make_room<L: Opened, T: Transport>(alloc: Global, count: usize) -> Result<Roo
     }
 }
 
-/// Room for so many workers and their receipts.
+/// Room for so many workers, their receipts and the copies beside them.
 fn make_back<T: Transport>(alloc: Global, count: usize) -> Result<Back<T>, AllocError>
     ensures workers { IfOk result (λ b. count ≤ vec_capacity b.workers) }
     ensures receipts { IfOk result (λ b. count ≤ vec_capacity b.receipts) }
+    ensures copies { IfOk result (λ b. count ≤ vec_capacity b.copies) }
 {
-    let workers = Vec::with_capacity(alloc, count)?;
+    let receipts = Vec::with_capacity(alloc, count)?;
+    let copies = Vec::with_capacity(alloc, count)?;
     match Vec::with_capacity(alloc, count) {
-        Ok(receipts) => Ok(Back { workers, receipts }),
+        Ok(workers) => Ok(Back {
+            workers,
+            receipts,
+            copies,
+        }),
         Err(error) => {
-            drop(workers);
+            drop(receipts);
+            drop(copies);
             Err(error)
         }
     }
@@ -151,6 +162,7 @@ fn make_plan(
     ensures opened { IfOk result (λ p. p.opened ≡ length dispatch.now.history) }
     ensures places { IfOk result (λ p. p.places.items ≡ places.items) }
     ensures choices { IfOk result (λ p. AreUnknown (length places.items) p.tables.choices.items) }
+    ensures sized { IfOk result (λ p. length p.tables.choices.items ≡ drvs_in dispatch.now.inputs) }
 {
     let tables = match Tables::new(alloc, dispatch.graph().len(), places.len()) {
         Ok(tables) => tables,
@@ -194,6 +206,7 @@ fn prepare<T>(
     ensures opened { IfOk result (λ p. p.1.opened ≡ length dispatch.now.history) }
     ensures places { IfOk result (λ p. p.1.places.items ≡ places_served seats.now) }
     ensures choices { IfOk result (λ p. AreUnknown (length p.1.places.items) p.1.tables.choices.items) }
+    ensures sized { IfOk result (λ p. length p.1.tables.choices.items ≡ drvs_in dispatch.now.inputs) }
 {
     let places = match accepted_places(alloc, dispatch, seats) {
         Ok(places) => places,
@@ -212,83 +225,117 @@ fn prepare<T>(
     }
 }
 
-/// Takes the workers and their receipts apart.
+/// Takes the workers, their receipts and the copies beside them apart.
 #[tactic(auto, using(crate::proofs::Zips::zips))]
 fn take_apart<T: Transport>(
     stints: Vec<Stint<T>>,
     workers: &mut Vec<Seat<T>>,
     receipts: &mut Vec<Vec<Receipt>>,
+    copies: &mut Vec<Vec<Entry>>,
 )
     requires no_workers { vec_len workers.old ≡ 0 }
     requires no_receipts { vec_len receipts.old ≡ 0 }
+    requires no_copies { vec_len copies.old ≡ 0 }
     requires workers_room { vec_len stints ≤ vec_capacity workers.old }
     requires receipts_room { vec_len stints ≤ vec_capacity receipts.old }
+    requires copies_room { vec_len stints ≤ vec_capacity copies.old }
     ensures each { AllZip (λ y x. (x.0 ≡ y.seat) × (x.1.items ≡ y.notes.receipts)) stints.items (zip workers.new.items receipts.new.items) }
     ensures workers { workers.new.items ≡ map (λ y. y.seat) stints.items }
     ensures count { vec_len receipts.new ≡ vec_len stints }
     ensures total { sum_by (λ v. vec_len v) receipts.new.items ≡ receipts_in stints.items }
+    ensures beside { AllZip (λ y x. x.items ≡ y.notes.copies) stints.items copies.new.items }
 {
     'parting: for stint in stints {
         let Stint {
             seat,
             notes,
             end: _,
+            threaded: _,
         } = stint;
+        let (mine, beside) = notes.into_parts();
         workers.push_reserved(seat);
-        receipts.push_reserved(notes.into_receipts());
+        receipts.push_reserved(mine);
+        copies.push_reserved(beside);
     }
 }
 
-/// Compares what came back with the histories, and hands it back.
-fn settle<T: Transport>(
-    dispatch: Dispatch,
-    stints: Vec<Stint<T>>,
-    plan: Plan,
-    back: Back<T>,
-    short: bool,
-    threadless: bool,
-) -> Ran<T>
+/// Compares what came back with the history, and hands it back.
+fn settle<T: Transport>(served: Served<T>, plan: Plan, back: Back<T>) -> Ran<T>
     requires choices { AreUnknown (length plan.places.items) plan.tables.choices.items }
-    requires workers_room { vec_len stints ≤ vec_capacity back.workers }
-    requires receipts_room { vec_len stints ≤ vec_capacity back.receipts }
-    ensures dispatch { result.dispatch ≡ dispatch }
-    ensures each { AllZip (λ y x. (x.0 ≡ y.seat) × (x.1.items ≡ y.notes.receipts)) stints.items (zip result.workers.items result.receipts.items) }
-    ensures workers { result.workers.items ≡ map (λ y. y.seat) stints.items }
-    ensures count { vec_len result.receipts ≡ vec_len stints }
-    ensures total { sum_by (λ v. vec_len v) result.receipts.items ≡ receipts_in stints.items }
-    ensures sound { Agrees result.fault → All (IsSound result.dispatch.history) stints.items }
-    ensures receipted { Agrees result.fault → AreReceiptedFrom plan.opened result.dispatch.history plan.places.items result.receipts.items }
-    ensures quiet { result.fault ≡ None → list_all is_quiet (drop plan.opened result.dispatch.history) ≡ true }
-    ensures thread { result.fault ≡ Some RunFault.Thread → list_any is_stop result.dispatch.history ≡ true }
-    ensures memory { result.fault ≡ Some RunFault.Memory → list_any is_stop result.dispatch.history ≡ true }
-    ensures finished { Agrees result.fault → IsFinished result.dispatch.inputs (reverse result.dispatch.history) }
+    requires sized { length plan.tables.choices.items ≡ drvs_in served.dispatch.inputs }
+    requires long { plan.opened ≤ length served.dispatch.history }
+    requires workers_room { vec_len served.stints ≤ vec_capacity back.workers }
+    requires receipts_room { vec_len served.stints ≤ vec_capacity back.receipts }
+    requires copies_room { vec_len served.stints ≤ vec_capacity back.copies }
+    ensures dispatch { result.dispatch ≡ served.dispatch }
+    ensures each { AllZip (λ y x. (x.0 ≡ y.seat) × (x.1.items ≡ y.notes.receipts)) served.stints.items (zip result.workers.items result.receipts.items) }
+    ensures workers { result.workers.items ≡ map (λ y. y.seat) served.stints.items }
+    ensures count { vec_len result.receipts ≡ vec_len served.stints }
+    ensures total { sum_by (λ v. vec_len v) result.receipts.items ≡ receipts_in served.stints.items }
+    ensures beside { AllZip (λ y x. x.items ≡ y.notes.copies) served.stints.items result.evidence.copies.items }
+    ensures misreports { result.evidence.misreports ≡ served.misreports }
+    ensures refused { result.evidence.refused ≡ list_any (λ stint. is_refused stint.end) served.stints.items }
+    ensures threads { result.evidence.threads ≡ count_by (λ stint. stint.threaded) served.stints.items }
+    ensures fault { IsFaultFrom plan.opened result.dispatch plan.places.items result.receipts.items result.evidence result.fault }
+{
+    let Served {
+        dispatch,
+        stints,
+        misreports,
+    } = served;
+    let Back {
+        mut workers,
+        mut receipts,
+        mut copies,
+    } = back;
+    let refused = is_any_refused(stints.as_slice());
+    let threads = count_threads(stints.as_slice());
+    take_apart(stints, &mut workers, &mut receipts, &mut copies);
+    let evidence = Evidence {
+        copies,
+        misreports,
+        refused,
+        threads,
+    };
+    let fault = judge(plan, &dispatch, receipts.as_slice(), &evidence);
+    Ran {
+        dispatch,
+        workers,
+        receipts,
+        evidence,
+        fault,
+    }
+}
+
+/// What a run of this plan ended with.
+#[tactic(auto, using(crate::proofs::Faulted::fault_by))]
+fn judge(
+    plan: Plan,
+    dispatch: &Dispatch,
+    receipts: &[Vec<Receipt>],
+    evidence: &Evidence,
+) -> Option<RunFault>
+    requires choices { AreUnknown (length plan.places.items) plan.tables.choices.items }
+    requires sized { length plan.tables.choices.items ≡ drvs_in dispatch.now.inputs }
+    requires long { plan.opened ≤ length dispatch.now.history }
+    ensures { IsFaultFrom plan.opened dispatch.now plan.places.items receipts.now evidence.now result }
 {
     let Plan {
         opened,
         places,
         tables,
     } = plan;
-    let Back {
-        mut workers,
-        mut receipts,
-    } = back;
-    let sound = are_sound(dispatch.history(), stints.as_slice());
-    take_apart(stints, &mut workers, &mut receipts);
-    let dealt = are_receipted(
+    let alike = is_alike(
         opened,
-        &dispatch,
+        dispatch,
         places.as_slice(),
-        receipts.as_slice(),
+        receipts,
+        evidence,
         tables,
     );
-    let fault = fault_of(opened, &dispatch, sound, dealt, short, threadless);
+    let workers = places.len();
     drop(places);
-    Ran {
-        dispatch,
-        workers,
-        receipts,
-        fault,
-    }
+    fault_of(opened, dispatch, alike, evidence.threads, workers)
 }
 
 /// Refuses a run.
@@ -310,12 +357,10 @@ fn refused<T>(why: RunError, dispatch: Dispatch, workers: Vec<Seat<T>>) -> Resul
 struct Served<T> {
     dispatch: Dispatch,
     stints: Vec<Stint<T>>,
-    short: bool,
-    threadless: bool,
+    misreports: Misreports,
 }
 
 /// Serves the leases of a dispatch, with a ledger of the entries that workers make.
-#[tactic(auto, using(crate::proofs::Onward::runs_first))]
 fn serve_leases<L: Opened + Send + Sync, T: Transport, R: Threads + Wait + Sync>(
     rt: &R,
     alloc: Global,
@@ -334,7 +379,7 @@ fn serve_leases<L: Opened + Send + Sync, T: Transport, R: Threads + Wait + Sync>
     requires running_room { vec_len seats ≤ vec_capacity running }
     requires no_stints { vec_len stints ≡ 0 }
     requires stints_room { vec_len seats ≤ vec_capacity stints }
-    ensures runs { RunsOn dispatch result.dispatch }
+    ensures upheld { IsUpheld dispatch result.dispatch result.misreports }
     ensures count { vec_len result.stints ≡ vec_len seats }
     ensures total { made result.dispatch.history ≡ made dispatch.history + receipts_in result.stints.items }
     ensures each { HaveServed T.state seats.items result.stints.items }
@@ -346,8 +391,7 @@ fn serve_leases<L: Opened + Send + Sync, T: Transport, R: Threads + Wait + Sync>
         dispatch,
         book,
         manned,
-        short: false,
-        threadless: false,
+        misreports: Misreports::new(alloc),
     };
     desk.begin(seats.len());
     let shared = Shared {
@@ -363,34 +407,32 @@ fn serve_leases<L: Opened + Send + Sync, T: Transport, R: Threads + Wait + Sync>
     let Ended { all, stints } = in_scope(rt, alloc, &shared, ready);
     let Shared { desk, bells } = shared;
     drop(bells);
-    let (dispatch, short, threadless) = close(desk.into_inner(), all);
+    let (dispatch, misreports) = close(desk.into_inner(), all);
     Served {
         dispatch,
         stints,
-        short,
-        threadless,
+        misreports,
     }
 }
 
 /// What lay under the lock, where the ledger's whole share came back: it is what the workers made.
-fn close<L: Opened>(desk: Desk<L>, all: Share<L>) -> (Dispatch, bool, bool)
+fn close<L: Opened>(desk: Desk<L>, all: Share<L>) -> (Dispatch, Misreports)
     requires { all.parts ≡ L.parts }
     ensures total { made result.0.history ≡ all.amount }
-    ensures runs { RunsOn L.opening result.0 }
+    ensures upheld { IsUpheld L.opening result.0 result.1 }
 {
     let mut all = all;
     let Desk {
         dispatch,
         mut book,
         manned,
-        short,
-        threadless,
+        misreports,
     } = desk;
     book.audit(&mut all);
     drop(book);
     drop(all);
     drop(manned);
-    (dispatch, short, threadless)
+    (dispatch, misreports)
 }
 
 /// Runs the dispatch, with room for what comes back.
@@ -414,6 +456,8 @@ fn run_in<L: Opened + Send + Sync, T: Transport, R: Threads + Wait + Sync>(
     requires stints { vec_len seats ≤ vec_capacity room.stints }
     requires workers { vec_len seats ≤ vec_capacity room.back.workers }
     requires receipts { vec_len seats ≤ vec_capacity room.back.receipts }
+    requires copies { vec_len seats ≤ vec_capacity room.back.copies }
+    requires sized { length plan.tables.choices.items ≡ drvs_in dispatch.inputs }
     ensures places { places_served result.workers.items ≡ places_served seats.items }
     ensures count { vec_len result.receipts ≡ vec_len seats }
     ensures total { made result.dispatch.history ≡ made dispatch.history + sum_by (λ v. vec_len v) result.receipts.items }
@@ -424,6 +468,9 @@ fn run_in<L: Opened + Send + Sync, T: Transport, R: Threads + Wait + Sync>(
     ensures thread { result.fault ≡ Some RunFault.Thread → list_any is_stop result.dispatch.history ≡ true }
     ensures memory { result.fault ≡ Some RunFault.Memory → list_any is_stop result.dispatch.history ≡ true }
     ensures calls { Agrees result.fault → AreServedIn T.state result.dispatch.history seats.items result.workers.items result.receipts.items }
+    ensures judged { Agrees result.fault → AreAllWrong result.dispatch.inputs result.dispatch.history result.receipts.items }
+    ensures misreports { AreMisreports result.dispatch.inputs result.dispatch.history result.evidence.misreports }
+    ensures fault { IsFaultOf dispatch result.dispatch plan.places.items result.receipts.items result.evidence result.fault }
 {
     let Room {
         running,
@@ -431,13 +478,7 @@ fn run_in<L: Opened + Send + Sync, T: Transport, R: Threads + Wait + Sync>(
         back,
     } = room;
     let served = serve_leases(rt, alloc, dispatch, seats, posts, running, stints, blank);
-    let Served {
-        dispatch,
-        stints,
-        short,
-        threadless,
-    } = served;
-    settle(dispatch, stints, plan, back, short, threadless)
+    settle(served, plan, back)
 }
 
 /// Makes room for what comes back, and runs the dispatch.
@@ -456,6 +497,7 @@ fn run_named<L: Opened + Send + Sync, T: Transport, R: Threads + Wait + Sync>(
     requires begun { L.opening ≡ dispatch }
     requires opened { plan.opened ≡ length dispatch.history }
     requires choices { AreUnknown (length plan.places.items) plan.tables.choices.items }
+    requires sized { length plan.tables.choices.items ≡ drvs_in dispatch.inputs }
     ensures why { IfErr result (λ r. r.why ≡ RunError.Memory) }
     ensures dispatch { IfErr result (λ r. r.dispatch ≡ dispatch) }
     ensures workers { IfErr result (λ r. r.workers ≡ seats) }
@@ -469,6 +511,9 @@ fn run_named<L: Opened + Send + Sync, T: Transport, R: Threads + Wait + Sync>(
     ensures thread { IfOk result (λ e. e.fault ≡ Some RunFault.Thread → list_any is_stop e.dispatch.history ≡ true) }
     ensures memory { IfOk result (λ e. e.fault ≡ Some RunFault.Memory → list_any is_stop e.dispatch.history ≡ true) }
     ensures calls { IfOk result (λ e. Agrees e.fault → AreServedIn T.state e.dispatch.history seats.items e.workers.items e.receipts.items) }
+    ensures judged { IfOk result (λ e. Agrees e.fault → AreAllWrong e.dispatch.inputs e.dispatch.history e.receipts.items) }
+    ensures misreports { IfOk result (λ e. AreMisreports e.dispatch.inputs e.dispatch.history e.evidence.misreports) }
+    ensures fault { IfOk result (λ e. IsFaultOf dispatch e.dispatch plan.places.items e.receipts.items e.evidence e.fault) }
 {
     let Ok(room) = make_room::<L, T>(alloc, seats.len()) else {
         drop(posts);
@@ -500,6 +545,9 @@ pub fn run_with<T: Transport, R: Threads + Wait + Sync>(
     ensures thread { IfOk result (λ e. e.fault ≡ Some RunFault.Thread → list_any is_stop e.dispatch.history ≡ true) }
     ensures memory { IfOk result (λ e. e.fault ≡ Some RunFault.Memory → list_any is_stop e.dispatch.history ≡ true) }
     ensures calls { IfOk result (λ e. Agrees e.fault → AreServedIn T.state e.dispatch.history workers.items e.workers.items e.receipts.items) }
+    ensures judged { IfOk result (λ e. Agrees e.fault → AreAllWrong e.dispatch.inputs e.dispatch.history e.receipts.items) }
+    ensures misreports { IfOk result (λ e. AreMisreports e.dispatch.inputs e.dispatch.history e.evidence.misreports) }
+    ensures fault { IfOk result (λ e. IsFaultOf dispatch e.dispatch (places_served workers.items) e.receipts.items e.evidence e.fault) }
 {
     let alloc = *workers.allocator();
     match prepare(alloc, &dispatch, workers.as_slice()) {
@@ -520,11 +568,13 @@ pub fn run_with<T: Transport, R: Threads + Wait + Sync>(
 /// `TooManySlots` (2) where there are more than 1,024, and with `Memory` (3) where an allocation is
 /// refused before the first thread starts. What was handed in comes back then.
 ///
-/// It may end with a fault, which [`RunFault`] lists. After `Thread` (1) and `Memory` (2) a stop is in the
-/// history; as without a fault, each worker's calls are those of its receipts, and the receipts are the
-/// entries that workers made. `Receipts` (3) says that this wasn't seen to be so. However it ends, the workers
-/// that come back are on the places of those that were handed in, in their order, each with a list of
-/// receipts; each choice since the opening is the pump's step of its place in the history, and no machine was
+/// It may end with a fault, which [`RunFault`] lists with its cause: the fault is the one whose cause stands, and
+/// there is none where none does. After `Thread` (1) and `Memory` (2) a stop is in the history; as without a
+/// fault, each worker's calls are those of its receipts, the receipts are the entries that workers made, and a
+/// build failed for its references only where those that it reported aren't those that it may have, by what
+/// stands before that entry. `Receipts` (3) says that this isn't so, or that the run isn't over. However it ends,
+/// the workers that come back are on the places of those that were handed in, in their order, each with a list
+/// of receipts; each choice since the opening is the pump's step of its place in the history, and no machine was
 /// drained or enabled. No lease is to be live at the start: one that is may end in `Receipts`.
 pub fn run<R: Threads + Wait + Sync>(
     rt: &R,
@@ -546,6 +596,9 @@ pub fn run<R: Threads + Wait + Sync>(
     ensures thread { IfOk result (λ e. e.fault ≡ Some RunFault.Thread → list_any is_stop e.dispatch.history ≡ true) }
     ensures memory { IfOk result (λ e. e.fault ≡ Some RunFault.Memory → list_any is_stop e.dispatch.history ≡ true) }
     ensures calls { IfOk result (λ e. Agrees e.fault → AreServedIn state e.dispatch.history workers.items e.workers.items e.receipts.items) }
+    ensures judged { IfOk result (λ e. Agrees e.fault → AreAllWrong e.dispatch.inputs e.dispatch.history e.receipts.items) }
+    ensures misreports { IfOk result (λ e. AreMisreports e.dispatch.inputs e.dispatch.history e.evidence.misreports) }
+    ensures fault { IfOk result (λ e. IsFaultOf dispatch e.dispatch (places_served workers.items) e.receipts.items e.evidence e.fault) }
 {
     run_with(rt, dispatch, workers)
 }

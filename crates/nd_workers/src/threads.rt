@@ -1,6 +1,6 @@
 //! The threads of a run: one for each worker, started and joined in one scope.
 
-ghost use Rattle.std.specs.Prelude.{◌≡◌, ◌+◌, ◌<◌, ◌≤◌, [], ℕ, List, length, vec_len, vec_capacity, sum_by, MatchResult};
+ghost use Rattle.std.specs.Prelude.{◌≡◌, ◌+◌, ◌<◌, ◌≤◌, [], ℕ, List, length, vec_len, vec_capacity, sum_by, is_ok, MatchResult};
 ghost use Rattle.std.specs.List.{AllZip};
 ghost use Rattle.nd_workers.specs.AtWork.{IsAtWork, HaveEnded};
 ghost use Rattle.nd_workers.specs.Served.{seat_of, HasServed, HaveServed, receipts_in};
@@ -34,12 +34,13 @@ impl<L: Opened, T: Transport> Promise<Done<L, T>> for Serves<T> {
 /// The thread of a worker, or what the worker handed back where it has none.
 pub(crate) type Running<L, T> = Result<PromisedHandle<Done<L, T>, Serves<T>>, Done<L, T>>;
 
-/// A worker's whole work.
+/// A worker's whole work, and whether it had a thread for it.
 #[derive(Drop)]
 pub(crate) struct Stint<T> {
     pub(crate) seat: Seat<T>,
     pub(crate) notes: Notes,
     pub(crate) end: End,
+    pub(crate) threaded: bool,
 }
 
 /// Starts a worker's thread, `started` others having theirs. Where it can't be started the run is
@@ -130,18 +131,28 @@ fn start_all<'s, E, L: Opened + Send + Sync + 's, T: Transport + 's, R: Wait + S
     }
 }
 
-/// What a worker handed back, with its share given to `all`.
-fn take_in<L: Opened, T: Transport>(done: Done<L, T>, all: &mut Share<L>) -> Stint<T>
+/// What a worker handed back that had a thread, or hadn't, with its share given to `all`.
+fn take_in<L: Opened, T: Transport>(
+    done: Done<L, T>,
+    threaded: bool,
+    all: &mut Share<L>,
+) -> Stint<T>
     ensures parts { all.new.parts ≡ all.old.parts + 1 }
     ensures amount { all.new.amount ≡ all.old.amount + length result.notes.receipts }
     ensures seat { result.seat ≡ done.seat }
     ensures notes { result.notes ≡ done.hand.notes }
     ensures end { result.end ≡ done.end }
+    ensures threaded { result.threaded ≡ threaded }
 {
     let Done { seat, hand, end } = done;
     let Hand { share, notes } = hand;
     all.merge(share);
-    Stint { seat, notes, end }
+    Stint {
+        seat,
+        notes,
+        end,
+        threaded,
+    }
 }
 
 /// Joins a worker's thread, if it has one.
@@ -152,11 +163,12 @@ fn join<L: Opened, T: Transport, R: Threads>(
 ) -> Stint<T>
     ensures parts { all.new.parts ≡ all.old.parts + 1 }
     ensures amount { all.new.amount ≡ all.old.amount + length result.notes.receipts }
+    ensures threaded { result.threaded ≡ is_ok running }
     ensures served { (w : _) → IsAtWork T.state w running → HasServed T.state (seat_of T.state w) result }
 {
     match running {
-        Ok(handle) => take_in(handle.join(rt), all),
-        Err(done) => take_in(done, all),
+        Ok(handle) => take_in(handle.join(rt), true, all),
+        Err(done) => take_in(done, false, all),
     }
 }
 

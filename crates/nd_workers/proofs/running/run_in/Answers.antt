@@ -1,38 +1,72 @@
-use Rattle.std.proofs.Common.{◌+◌, sym, subst, ap, ◌∙◌}
+use Rattle.std.proofs.Common.{◌≡◌, ◌+◌, ℕ, sym, subst, ap, ◌∙◌, length}
 use Rattle.nd_ledger.specs.Worlds.{World}
+use Rattle.nd_receipts.specs.Judged.{AreMisreports}
 use Rattle.nd_receipts.specs.Made.{made}
 use Rattle.nd_workers.specs.declared.seat.Seat.{Seat}
-use Rattle.nd_workers.specs.Runs.{IsServedIn}
-use Rattle.nd_workers.specs.Steps.{RunsOn}
+use Rattle.nd_workers.specs.Faults.{IsFaultFrom}
+use Rattle.nd_workers.specs.Runs.{IsServedIn, AreReceiptedFrom}
+use Rattle.nd_workers.specs.Steps.{RunsOn, StopsAreTold}
 use Rattle.nd_workers.specs.Served.{Seated, seat_of, places_served, IsSound}
 use Rattle.nd_workers.proofs.Compared.{served_in, is_over}
+use Rattle.nd_workers.proofs.Faulted.{drvs_kept, alike_of, quiet_of, thread_of, memory_of, sound_all, wrong_rows}
 use Rattle.nd_workers.proofs.Stints.{places_kept}
 use Rattle.nd_workers.proofs.Zips.{zip_known_via}
 use Rattle.nd_workers.proofs.running.run_in.Goals as goal
 
+pub settle-requires-clause-sized : goal.settle-requires-clause-sized
+settle-requires-clause-sized g c = λ κs below. drvs_kept c.args.dispatch c.serve_leases-served.result.dispatch _ c.serve_leases-served.ensures.upheld.runs c.requires.sized
+
 pub returns-clause-goes_on : goal.returns-clause-goes_on
 returns-clause-goes_on g c = λ agrees.
     let P : World → Type 0 = λ w. RunsOn c.args.dispatch w in
-    is_over c.args.dispatch c.settle.result.dispatch (subst P (sym c.settle.ensures.dispatch) c.serve_leases-served.ensures.runs) (c.settle.ensures.finished agrees)
+    is_over c.args.dispatch c.settle.result.dispatch (subst P (sym c.settle.ensures.dispatch) c.serve_leases-served.ensures.upheld.runs) (alike_of _ _ _ _ _ _ c.settle.ensures.fault agrees).finished
 
 pub returns-clause-receipted : goal.returns-clause-receipted
-returns-clause-receipted g c = rw (← c.requires.opened) c.settle.ensures.receipted
+returns-clause-receipted g c = λ agrees.
+    let P : ℕ → Type 0 = λ n. AreReceiptedFrom n c.settle.result.dispatch.history c.args.plan.places.items c.settle.result.receipts.items in
+    subst P c.requires.opened (alike_of _ _ _ _ _ _ c.settle.ensures.fault agrees).receipted
+
+pub returns-clause-fault : goal.returns-clause-fault
+returns-clause-fault g c =
+    let P : ℕ → Type 0 = λ n. IsFaultFrom n c.settle.result.dispatch c.args.plan.places.items c.settle.result.receipts.items c.settle.result.evidence c.settle.result.fault in
+    subst P c.requires.opened c.settle.ensures.fault
 
 pub returns-clause-quiet : goal.returns-clause-quiet
-returns-clause-quiet g c = rw (← c.requires.opened) c.settle.ensures.quiet
+returns-clause-quiet g c = λ none. quiet_of _ _ _ _ _ _ (returns-clause-fault g c) none
+
+pub returns-clause-thread : goal.returns-clause-thread
+returns-clause-thread g c = λ thread. thread_of _ _ _ _ _ _ c.settle.ensures.fault thread
+
+pub returns-clause-memory : goal.returns-clause-memory
+returns-clause-memory g c = λ memory.
+    let P : World → Type 0 = λ w. StopsAreTold c.args.dispatch w in
+    memory_of c.args.dispatch c.settle.result.dispatch _ _ _ _ (returns-clause-fault g c) (subst P (sym c.settle.ensures.dispatch) c.serve_leases-served.ensures.upheld.told) memory
+
+pub returns-clause-misreports : goal.returns-clause-misreports
+returns-clause-misreports g c =
+    let P : World → Type 0 = λ w. AreMisreports w.inputs w.history c.settle.result.evidence.misreports in
+    subst P (sym c.settle.ensures.dispatch) (rw c.settle.ensures.misreports c.serve_leases-served.ensures.upheld.judged)
+
+pub returns-clause-judged : goal.returns-clause-judged
+returns-clause-judged g c = λ agrees.
+    let alike = alike_of _ _ _ _ _ _ c.settle.ensures.fault agrees in
+    wrong_rows _ _ _ _ _ (returns-clause-misreports g c) alike.noted.each alike.judged.each
 
 pub returns-clause-calls : goal.returns-clause-calls
 returns-clause-calls g c = λ agrees.
     let of : Seat g.row.T.Denot → Seated = seat_of g.T.Transport.state in
-    zip_known_via {S = IsSound c.settle.result.dispatch.history} _ _ _ c.serve_leases-served.ensures.each (c.settle.ensures.sound agrees) c.settle.ensures.each
-    (λ w y z p s q. subst (λ (x : Seat g.row.T.Denot). IsServedIn c.settle.result.dispatch.history (of w) (of x) z.1.items) (sym q.0) (served_in c.settle.result.dispatch.history (of w) (of y.seat) y.end y.notes z.1.items s.0 s.1 p q.1))
+    let alike = alike_of _ _ _ _ _ _ c.settle.ensures.fault agrees in
+    let history = c.settle.result.dispatch.history in
+    let sound = sound_all history _ _ _ _ c.settle.ensures.each c.settle.ensures.beside (sym c.settle.ensures.refused ∙ alike.willing) alike.noted.each in
+    zip_known_via {S = IsSound history} _ _ _ c.serve_leases-served.ensures.each sound c.settle.ensures.each
+    (λ w y z p s q. subst (λ (x : Seat g.row.T.Denot). IsServedIn history (of w) (of x) z.1.items) (sym q.0) (served_in history (of w) (of y.seat) y.end y.notes z.1.items s.0 s.1 p q.1))
 
 pub returns-clause-total : goal.returns-clause-total
 returns-clause-total g c =
     ap (λ (w : World). made w.history) c.settle.ensures.dispatch ∙ c.serve_leases-served.ensures.total ∙ ap (λ n. made c.args.dispatch.history + n) (sym c.settle.ensures.total)
 
 pub returns-clause-runs : goal.returns-clause-runs
-returns-clause-runs g c = rw c.settle.ensures.dispatch c.serve_leases-served.ensures.runs
+returns-clause-runs g c = rw c.settle.ensures.dispatch c.serve_leases-served.ensures.upheld.runs
 
 pub returns-clause-places : goal.returns-clause-places
 returns-clause-places g c = ap places_served c.settle.ensures.workers ∙ places_kept g.T.Transport.state _ _ c.serve_leases-served.ensures.each

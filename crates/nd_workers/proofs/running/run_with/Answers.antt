@@ -12,6 +12,12 @@ returns-in-Ok-clause-receipted g c =
     let same : c.in-Ok.prepared.1.places.items ≡ map place c.args.workers.items = c.in-Ok.ensures.places ∙ ap (map place) c.as_slice.ensures.value in
     rw (← same) c.run_named.ensures.receipted
 
+pub returns-in-Ok-clause-fault : goal.returns-in-Ok-clause-fault
+returns-in-Ok-clause-fault g c =
+    let place : Seat g.row.T.Denot → ℕ × ℕ = λ w. (w.machine, w.slot) in
+    let same : c.in-Ok.prepared.1.places.items ≡ map place c.args.workers.items = c.in-Ok.ensures.places ∙ ap (map place) c.as_slice.ensures.value in
+    rw (← same) c.run_named.ensures.fault
+
 pub returns-in-Err-clause-refused : goal.returns-in-Err-clause-refused
 returns-in-Err-clause-refused g c =
     let known : IsRunRefused c.args.dispatch.inputs (places_served c.args.workers.items) c.in-Err.why =

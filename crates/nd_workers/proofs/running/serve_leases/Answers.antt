@@ -1,7 +1,8 @@
-use Rattle.std.proofs.Common.{sym, ap, ◌∙◌, subst, arith}
+use Rattle.std.proofs.Common.{sym, ap, ◌∙◌, subst, arith, rules}
 use Rattle.nd_ledger.specs.Worlds.{World}
 use Rattle.nd_receipts.specs.Made.{made}
-use Rattle.nd_workers.specs.Steps.{RunsOn}
+use Rattle.nd_workers.specs.Steps.{IsUpheld}
+use Rattle.nd_workers.proofs.Upheld.{upheld_first}
 use Rattle.nd_workers.proofs.running.serve_leases.Goals as goal
 
 pub close-dispatch-requires : goal.close-dispatch-requires
@@ -16,7 +17,13 @@ returns-clause-total g c =
     let added = c.add.ensures.amount in
     omega arith
 
-pub returns-clause-runs : goal.returns-clause-runs
-returns-clause-runs g c =
-    let P : World → Type 0 = λ w. RunsOn w c.close-dispatch.result.0 in
-    subst P c.requires.opening c.close-dispatch.ensures.runs
+pub returns-clause-upheld : goal.returns-clause-upheld
+returns-clause-upheld g c =
+    let P : World → Type 0 = λ w. IsUpheld w c.close-dispatch.result.0 c.close-dispatch.result.1 in
+    subst P c.requires.opening c.close-dispatch.ensures.upheld
+
+pub invariant_of-desk : goal.invariant_of-desk
+invariant_of-desk g c = record {
+  counted = search rules;
+  upheld = upheld_first g.L.Opened.opening c.args.dispatch c.new.result c.requires.opening c.new.ensures;
+}

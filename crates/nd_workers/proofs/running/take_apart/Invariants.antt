@@ -13,3 +13,5 @@ invariant-parting g l =
     × AllZip (λ y x. (x.0 ≡ y.seat) × (x.1.items ≡ y.notes.receipts)) l.yielded (zip l.workers.items l.receipts.items)
     × (l.workers.items ≡ map (λ y. y.seat) l.yielded)
     × (vec_len l.receipts ≡ length l.yielded)
+    × (vec_len l.copies + into_iter_len l.stint-iterator ≤ vec_capacity l.copies)
+    × AllZip (λ y x. x.items ≡ y.notes.copies) l.yielded l.copies.items
