@@ -4,12 +4,12 @@ use Rattle.std.specs.Prelude.{◌⊎◌}
 use Rattle.std.specs.Io.KnownBytes.{Appends, Consumes}
 use Rattle.nd_devices.specs.Written.{WritesPart}
 use Rattle.nd_transports.specs.declared.kinds.Answer.{Answer}
-use Rattle.nd_transports.specs.declared.kinds.Answer.TheVariants.{Lost}
+use Rattle.nd_transports.specs.declared.kinds.Answer.TheVariants.{Lost, Memory}
 use Rattle.nd_agents.specs.declared.hearing.Unheard.{Unheard}
-use Rattle.nd_agents.specs.declared.hearing.Unheard.TheVariants.{NoLine, Refused, Memory}
-use Rattle.nd_agents.specs.AnswerTexts.{word_line, IsAnswerFor}
+use Rattle.nd_agents.specs.declared.hearing.Unheard.TheVariants.{NoLine, Refused, Memory as Short}
+use Rattle.nd_agents.specs.AnswerTexts.{word_line, IsAnswerFor, IsListing}
 use Rattle.nd_agents.specs.Heard.{IsNeither, ReadsLine, IsUnheard}
-use Rattle.nd_agents.specs.Wires.{Wired, BreaksOff, HasNoAnswer, IsAsked, IsBuildAsked}
+use Rattle.nd_agents.specs.Wires.{Wired, BreaksOff, IsAsked, IsBuildAsked}
 
 module _ {R W : Type 0} (remaining : R → Option (List ℕ)) (contents : W → Option (List ℕ)) (old : Wired R W) (call : List ℕ) where
   -- ---- the agent breaks off
@@ -42,10 +42,12 @@ module _ {R W : Type 0} (remaining : R → Option (List ℕ)) (contents : W → 
 
   pub asked_heard : (new : Wired R W) (answered : Bool) → old.is_gone ≡ false → new.is_gone ≡ false
       → Appends (contents old.calls.device) (contents new.calls.device) call
-      → Consumes (remaining old.answers.device) (remaining new.answers.device) (word_line answered) → IsAsked remaining contents old new call answered
-  asked_heard new answered here there written read = record {
+      → Consumes (remaining old.answers.device) (remaining new.answers.device) (word_line answered)
+      → new.calls.is_marked ≡ old.calls.is_marked → new.answers.is_marked ≡ old.answers.is_marked
+      → IsAsked remaining contents old new call answered
+  asked_heard new answered here there written read calls answers = record {
     gone = λ was. absurd (true≢false (sym was ∙ here));
-    here = λ _. inl (record { written = written; read = read; here = there });
+    here = λ _. inl (record { written = written; read = read; granted = record { calls = calls; answers = answers }; here = there });
   }
 
   pub asked_unheard : (new : Wired R W) (answered : Bool) → old.is_gone ≡ false → new.is_gone ≡ true → answered ≡ false
@@ -66,20 +68,31 @@ module _ {R W : Type 0} (remaining : R → Option (List ℕ)) (contents : W → 
         → WritesPart (contents old.calls.device) (contents new.calls.device) call → new.calls.is_marked ≡ true → IsBuildAsked remaining contents outputs old new call answer
     built_unsent new answer here gone lost part mark = record {
       gone = λ was. absurd (true≢false (sym was ∙ here));
-      here = λ _. inr (inr (record { lost = lost; broken = unsent new part mark gone; cause = inl mark }));
+      here = λ _. inr (inr (inl (record { lost = lost; broken = unsent new part mark gone; cause = inl mark })));
     }
 
-    no_line : (new : Wired R W) (why : Unheard) → IsUnheard remaining old.answers new.answers why → HasNoAnswer remaining outputs old new
-    no_line new NoLine unheard = inr (inr (inl unheard.cause))
-    no_line new Refused unheard = inr (inl unheard.cause)
-    no_line new Memory unheard = inr (inr (inr (inr unheard.cause)))
-
-    pub built_unheard : (new : Wired R W) (answer : Answer) (why : Unheard) → old.is_gone ≡ false → new.is_gone ≡ true → answer ≡ Lost
+    pub built_unlined : (new : Wired R W) (answer : Answer) → old.is_gone ≡ false → new.is_gone ≡ true → answer ≡ Lost
         → Appends (contents old.calls.device) (contents new.calls.device) call
-        → IsUnheard remaining old.answers new.answers why → IsBuildAsked remaining contents outputs old new call answer
-    built_unheard new answer why here gone lost written cause = record {
+        → IsUnheard remaining old.answers new.answers NoLine → IsBuildAsked remaining contents outputs old new call answer
+    built_unlined new answer here gone lost written unheard = record {
       gone = λ was. absurd (true≢false (sym was ∙ here));
-      here = λ _. inr (inr (record { lost = lost; broken = sent new written gone; cause = no_line new why cause }));
+      here = λ _. inr (inr (inl (record { lost = lost; broken = sent new written gone; cause = inr (inr (inl unheard.cause)) })));
+    }
+
+    pub built_unread : (new : Wired R W) (answer : Answer) → old.is_gone ≡ false → new.is_gone ≡ true → answer ≡ Lost
+        → Appends (contents old.calls.device) (contents new.calls.device) call
+        → IsUnheard remaining old.answers new.answers Refused → IsBuildAsked remaining contents outputs old new call answer
+    built_unread new answer here gone lost written unheard = record {
+      gone = λ was. absurd (true≢false (sym was ∙ here));
+      here = λ _. inr (inr (inl (record { lost = lost; broken = sent new written gone; cause = inr (inl unheard.cause) })));
+    }
+
+    pub built_short : (new : Wired R W) (answer : Answer) → old.is_gone ≡ false → new.is_gone ≡ true → answer ≡ Memory
+        → Appends (contents old.calls.device) (contents new.calls.device) call
+        → IsUnheard remaining old.answers new.answers Short → new.calls.is_marked ≡ old.calls.is_marked → IsBuildAsked remaining contents outputs old new call answer
+    built_short new answer here gone memory written unheard calls = record {
+      gone = λ was. absurd (true≢false (sym was ∙ here));
+      here = λ _. inr (inr (inr (record { memory = memory; written = written; read = unheard.cause.opening; granted = record { calls = calls; answers = unheard.cause.unmarked }; gone = gone })));
     }
 
     pub built_meaningless : (new : Wired R W) (answer : Answer) (line : List ℕ) → old.is_gone ≡ false → new.is_gone ≡ true → answer ≡ Lost
@@ -88,25 +101,29 @@ module _ {R W : Type 0} (remaining : R → Option (List ℕ)) (contents : W → 
         → IsBuildAsked remaining contents outputs old new call answer
     built_meaningless new answer line here gone lost written read never = record {
       gone = λ was. absurd (true≢false (sym was ∙ here));
-      here = λ _. inr (inr (record { lost = lost; broken = sent new written gone; cause = inr (inr (inr (inl (record { line = line; read = read; never = never })))) }));
+      here = λ _. inr (inr (inl (record { lost = lost; broken = sent new written gone; cause = inr (inr (inr (record { line = line; read = read; never = never }))) })));
     }
 
     pub built_told : (new : Wired R W) (answer : Answer) (line : List ℕ) → old.is_gone ≡ false → new.is_gone ≡ false
         → Appends (contents old.calls.device) (contents new.calls.device) call
-        → ReadsLine (remaining old.answers.device) (remaining new.answers.device) line → IsAnswerFor outputs line answer → IsBuildAsked remaining contents outputs old new call answer
-    built_told new answer line here there written read says = record {
+        → ReadsLine (remaining old.answers.device) (remaining new.answers.device) line → IsAnswerFor outputs line answer
+        → new.calls.is_marked ≡ old.calls.is_marked → new.answers.is_marked ≡ old.answers.is_marked
+        → IsBuildAsked remaining contents outputs old new call answer
+    built_told new answer line here there written read says calls answers = record {
       gone = λ was. absurd (true≢false (sym was ∙ here));
-      here = λ _. inl (record { line = line; plain = read.plain; within = read.within; says = says; exchanged = record { written = written; read = read.consumed; here = there } });
+      here = λ _. inl (record { line = line; plain = read.plain; within = read.within; says = says; exchanged = record { written = written; read = read.consumed; granted = record { calls = calls; answers = answers }; here = there } });
     }
 
-    pub built_forgotten : (new : Wired R W) (answer : Answer) (line : List ℕ) → old.is_gone ≡ false → new.is_gone ≡ false → answer ≡ Lost
+    pub built_forgotten : (new : Wired R W) (answer : Answer) (line : List ℕ) → old.is_gone ≡ false → new.is_gone ≡ false → answer ≡ Memory
         → Appends (contents old.calls.device) (contents new.calls.device) call
-        → ReadsLine (remaining old.answers.device) (remaining new.answers.device) line → IsBuildAsked remaining contents outputs old new call answer
-    built_forgotten new answer line here there lost written read = record {
+        → ReadsLine (remaining old.answers.device) (remaining new.answers.device) line → IsListing line
+        → new.calls.is_marked ≡ old.calls.is_marked → new.answers.is_marked ≡ old.answers.is_marked
+        → IsBuildAsked remaining contents outputs old new call answer
+    built_forgotten new answer line here there memory written read listing calls answers = record {
       gone = λ was. absurd (true≢false (sym was ∙ here));
-      here = λ _. inr (inl (record { line = line; plain = read.plain; within = read.within; lost = lost; exchanged = record { written = written; read = read.consumed; here = there } }));
+      here = λ _. inr (inl (record { line = line; plain = read.plain; within = read.within; listing = listing; memory = memory; exchanged = record { written = written; read = read.consumed; granted = record { calls = calls; answers = answers }; here = there } }));
     }
 
 pub ruleset asks = (asked_gone, asked_unsent, asked_heard, asked_unheard)
 
-pub ruleset builds = (built_gone, built_unsent, built_unheard, built_meaningless, built_told, built_forgotten)
+pub ruleset builds = (built_gone, built_unsent, built_unlined, built_unread, built_short, built_meaningless, built_told, built_forgotten)

@@ -5,10 +5,11 @@ use Rattle.std.proofs.Math.Seq.{drop-cons}
 use Rattle.std.proofs.lemmas.List.{take_more}
 use Rattle.std.specs.Io.KnownBytes.{Consumes, IsAtEnd}
 use Rattle.std.proofs.lemmas.List.Elements.{All-head, All-tail, All-push}
+use Rattle.nd_devices.specs.Watched.{Watched}
 use Rattle.nd_agents.specs.CallTexts.{line_with}
-use Rattle.nd_agents.specs.Heard.{NeverBegins, IsPlain, longest, HasNoLine, ReadsOpening}
+use Rattle.nd_agents.specs.Heard.{NeverBegins, IsPlain, longest, HasNoLine, IsShort}
 
-some_is : (x y : List ℕ) → Some x ≡ Some y → x ≡ y
+pub some_is : (x y : List ℕ) → Some x ≡ Some y → x ≡ y
 some_is x y e = cc
 
 -- nothing begins what is at its end
@@ -54,10 +55,10 @@ onward_more mid new bytes i b within same read none =
 
 -- ---- a line that never ends
 
-tail_same : (b c : ℕ) (xs ys : List ℕ) → b ∷ xs ≡ c ∷ ys → xs ≡ ys
+pub tail_same : (b c : ℕ) (xs ys : List ℕ) → b ∷ xs ≡ c ∷ ys → xs ≡ ys
 tail_same b c xs ys e = cc
 
-head_same : (b c : ℕ) (xs ys : List ℕ) → b ∷ xs ≡ c ∷ ys → b ≡ c
+pub head_same : (b c : ℕ) (xs ys : List ℕ) → b ∷ xs ≡ c ∷ ys → b ≡ c
 head_same b c xs ys e = cc
 
 below : (a b c : ℕ) → a ≤ b → b < c → a < c
@@ -74,7 +75,7 @@ newline_in : (plain line more : List ℕ) → IsPlain plain → plain ≡ line +
 newline_in plain line more is e =
     newline_within plain [] line more is (omega (arith, ap length e, length-append line (10 ∷ more))) (append-nil plain ∙ e)
 
-split_line : (line more : List ℕ) → line_with line ++ more ≡ line ++ 10 ∷ more
+pub split_line : (line more : List ℕ) → line_with line ++ more ≡ line ++ 10 ∷ more
 split_line line more = append_assoc line (10 ∷ []) more
 
 pub ended_unended : (old new : Option (List ℕ)) (read : List ℕ) → Consumes old new read → IsPlain read → IsAtEnd new → HasNoLine old
@@ -94,11 +95,16 @@ long_unended (Some xs) (Some ys) read took plain long = record {
       newline_within read ys line more plain (below (length line) longest (length read) within long) (sym took ∙ some_is xs (line_with line ++ more) e ∙ split_line line more);
 }
 
-pub opening_more : (old mid new : Option (List ℕ)) (read : List ℕ) (b : ℕ) → Consumes old mid read → IsPlain read → Consumes mid new (b ∷ []) → (b ≡ 10 → ⊥) → ReadsOpening old new
-opening_more old mid new read b took plain more other = record {
-  opening = read ++ b ∷ [];
-  consumed = Consumes-trans old mid new read (b ∷ []) took more;
-  plain = All-push (λ b. b ≢ 10) read b plain other;
+pub opening_more : {R : Type 0} (remaining : R → Option (List ℕ)) (old new : Watched R) (mid : Option (List ℕ)) (read : List ℕ) (b : ℕ) → Consumes (remaining old.device) mid read → IsPlain read
+    → Consumes mid (remaining new.device) (b ∷ []) → (b ≡ 10 → ⊥) → new.is_marked ≡ old.is_marked → IsShort remaining old new
+opening_more remaining old new mid read b took plain more other unmarked = record {
+  opening = record {
+    opening = read ++ b ∷ [];
+    begun = omega (arith, length-append read (b ∷ []));
+    consumed = Consumes-trans (remaining old.device) mid (remaining new.device) read (b ∷ []) took more;
+    plain = All-push (λ b. b ≢ 10) read b plain other;
+  };
+  unmarked = unmarked;
 }
 
 pub ruleset unended = (ended_unended, long_unended, opening_more)

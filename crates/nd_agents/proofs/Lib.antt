@@ -3,3 +3,4 @@ pub mod Once
 pub mod Asking
 pub mod Hearings
 pub mod Lives
+pub mod Rightly

@@ -4,11 +4,11 @@ use Rattle.std.specs.Prelude.{◌⊎◌}
 use Rattle.std.specs.Io.KnownBytes.{Appends, Consumes}
 use Rattle.std.proofs.KnownBytes.{Appends-nil, Consumes-nil, Appends-trans, Consumes-trans}
 use Rattle.std.specs.List.{All, AllZip, flat_map}
-use Rattle.std.proofs.lemmas.List.Elements.{All-nil, All-cons, All-push}
+use Rattle.std.proofs.lemmas.List.Elements.{All-nil, All-push}
 use Rattle.std.proofs.lemmas.List.Concat.{flat_map-append}
 use Rattle.nd_devices.specs.Written.{WritesPart}
 use Rattle.nd_transports.specs.declared.kinds.Answer.{Answer}
-use Rattle.nd_transports.specs.declared.kinds.Answer.TheVariants.{Lost}
+use Rattle.nd_transports.specs.declared.kinds.Answer.TheVariants.{Lost, Memory}
 use Rattle.nd_transports.specs.declared.kinds.Call.{Call}
 use Rattle.nd_transports.specs.declared.kinds.Call.TheVariants.{Connect, Copy, Build}
 use Rattle.nd_transports.specs.declared.kinds.Phase.{Phase}
@@ -16,9 +16,9 @@ use Rattle.nd_transports.specs.declared.kinds.Phase.TheVariants.{Idle, Prepared,
 use Rattle.nd_transports.specs.Calls.{State, connected, copied, built}
 use Rattle.nd_agents.specs.CallTexts.{line_with, connect_line, copy_line, build_line}
 use Rattle.nd_agents.specs.AnswerTexts.{word, IsAnswerFor}
-use Rattle.nd_agents.specs.Wires.{Wired, wired, Exchanges, BreaksOff, IsAsked, IsBuildAsked}
+use Rattle.nd_agents.specs.Wires.{Wired, wired, Exchanges, BreaksOff, IsCutShort, IsAsked, IsBuildAsked}
 use Rattle.nd_agents.specs.Agents.{Agency, fresh}
-use Rattle.nd_agents.specs.Spoken.{Naming, call_line, call_text, answer_text, IsAnswered, IsDenied, AreExchanged, AreBrokenOff, IsSpoken, IsNamed, Lives, NewLives, PrepareLives, RefusedLives, ConnectLives, CopyLives, BuildLives, LifeIsWritten}
+use Rattle.nd_agents.specs.Spoken.{Naming, call_line, call_text, answer_text, IsAnswered, IsDenied, IsUnanswered, AreExchanged, AreBrokenOff, IsSpoken, IsNamed, Lives, NewLives, PrepareLives, RefusedLives, ConnectLives, CopyLives, BuildLives, LifeIsWritten}
 
 -- ---- one more
 
@@ -40,7 +40,7 @@ module _ {R W : Type 0} (n : Naming) (remaining : R → Option (List ℕ)) (cont
   record Speaks (old new : Wired R W) (c : Call) : Type 0 where
     pub gone : old.is_gone ≡ true → IsDenied c × (new ≡ old)
     pub here : old.is_gone ≡ false
-        → ((line : List ℕ) × Exchanges remaining contents old new (call_line n c) (line_with line) × IsAnswered n c line) ⊎ (BreaksOff contents old new (call_line n c) × IsDenied c)
+        → ((line : List ℕ) × Exchanges remaining contents old new (call_line n c) (line_with line) × IsAnswered n c line) ⊎ (BreaksOff contents old new (call_line n c) × IsUnanswered c)
 
   exchanged_more : (start old new : Wired R W) (calls : List Call) (c : Call) (line : List ℕ) → AreExchanged n remaining contents start old calls
       → Exchanges remaining contents old new (call_line n c) (line_with line) → IsAnswered n c line → AreExchanged n remaining contents start new (calls ++ c ∷ [])
@@ -49,11 +49,12 @@ module _ {R W : Type 0} (n : Naming) (remaining : R → Option (List ℕ)) (cont
     each = zip_push (IsAnswered n) calls are.lines c line are.each answered;
     written = subst (Appends _ _) (sym (flat_push (call_line n) calls c)) (Appends-trans _ _ _ (call_text n calls) (call_line n c) are.written more.written);
     read = subst (Consumes _ _) (sym (flat_push line_with are.lines line)) (Consumes-trans _ _ _ (answer_text are.lines) (line_with line) are.read more.read);
+    granted = record { calls = more.granted.calls ∙ are.granted.calls; answers = more.granted.answers ∙ are.granted.answers };
   }
 
   broken_now : (start old new : Wired R W) (calls : List Call) (c : Call) → AreExchanged n remaining contents start old calls
-      → BreaksOff contents old new (call_line n c) → IsDenied c → AreBrokenOff n remaining contents start new (calls ++ c ∷ [])
-  broken_now start old new calls c are broken denied = record {
+      → BreaksOff contents old new (call_line n c) → IsUnanswered c → AreBrokenOff n remaining contents start new (calls ++ c ∷ [])
+  broken_now start old new calls c are broken unanswered = record {
     before = calls;
     last = c;
     since = [];
@@ -67,7 +68,8 @@ module _ {R W : Type 0} (n : Naming) (remaining : R → Option (List ℕ)) (cont
     written = Appends-trans _ _ _ (call_text n calls) broken.part are.written broken.written;
     left = remaining old.answers.device;
     read = are.read;
-    denied = All-cons IsDenied c [] denied (All-nil IsDenied);
+    unanswered = unanswered;
+    denied = All-nil IsDenied;
   }
 
   broken_since : (start now : Wired R W) (calls : List Call) (c : Call) → AreBrokenOff n remaining contents start now calls → IsDenied c
@@ -86,7 +88,8 @@ module _ {R W : Type 0} (n : Naming) (remaining : R → Option (List ℕ)) (cont
     written = are.written;
     left = are.left;
     read = are.read;
-    denied = All-push IsDenied (are.last ∷ are.since) c are.denied denied;
+    unanswered = are.unanswered;
+    denied = All-push IsDenied are.since c are.denied denied;
   }
 
   exchanged_here : (start now : Wired R W) (calls : List Call) → now.is_gone ≡ false → AreExchanged n remaining contents start now calls → IsSpoken n remaining contents start now calls
@@ -113,27 +116,47 @@ module _ {R W : Type 0} (n : Naming) (remaining : R → Option (List ℕ)) (cont
 
   -- ---- the calls of an agent
 
+  denied_unanswered : (c : Call) → IsDenied c → IsUnanswered c
+  denied_unanswered (Connect answered) denied = denied
+  denied_unanswered (Copy paths done) denied = denied
+  denied_unanswered (Build drv answer) denied = inl denied
+
   asked_speaks : (old new : Wired R W) (c : Call) (call : List ℕ) (answered : Bool) → call_line n c ≡ call → IsAnswered n c (word answered) → (answered ≡ false → IsDenied c)
       → IsAsked remaining contents old new call answered → Speaks old new c
   asked_speaks old new c call answered same says denies asked = record {
     gone = λ gone. let after = asked.gone gone in (denies after.0, after.1);
     here = λ there. elim (asked.here there) [
       | inl exchanged ↦ inl (word answered, subst (λ (l : List ℕ). Exchanges remaining contents old new l (line_with (word answered))) (sym same) exchanged, says)
-      | inr unworded ↦ inr (subst (λ (l : List ℕ). BreaksOff contents old new l) (sym same) unworded.broken, denies unworded.no)
+      | inr unworded ↦ inr (subst (λ (l : List ℕ). BreaksOff contents old new l) (sym same) unworded.broken, denied_unanswered c (denies unworded.no))
     ];
+  }
+
+  -- the line of a call was written whole, and there was no memory for that of its answer
+  breaks_short : (old new : Wired R W) (call : List ℕ) (answer : Answer) → IsCutShort remaining contents old new call answer → BreaksOff contents old new call
+  breaks_short old new call answer short = record {
+    part = call;
+    rest = [];
+    split = sym (append-nil call);
+    written = short.written;
+    whole = λ _. refl;
+    gone = short.gone;
   }
 
   build_speaks : (old new : Wired R W) (drv outputs : ℕ) (call : List ℕ) (answer : Answer) → call ≡ build_line (n.path drv) (n.outputs drv) → outputs ≡ length (n.outputs drv)
       → IsBuildAsked remaining contents outputs old new call answer → Speaks old new (Build drv answer)
   build_speaks old new drv outputs call answer same number asked =
       let Exchanged : List ℕ → List ℕ → Type 0 = λ line l. Exchanges remaining contents old new l (line_with line) in
+      let Breaks : List ℕ → Type 0 = λ l. BreaksOff contents old new l in
       record {
         gone = λ gone. asked.gone gone;
         here = λ there. elim (asked.here there) [
-          | inl told ↦ inl (told.line, subst (Exchanged told.line) same told.exchanged, inl (subst (λ (k : ℕ). IsAnswerFor k told.line answer) number told.says))
+          | inl told ↦ inl (told.line, subst (Exchanged told.line) same told.exchanged, record { plain = told.plain; either = inl (subst (λ (k : ℕ). IsAnswerFor k told.line answer) number told.says) })
           | inr other ↦ elim other [
-            | inl forgotten ↦ inl (forgotten.line, subst (Exchanged forgotten.line) same forgotten.exchanged, inr forgotten.lost)
-            | inr broken ↦ inr (subst (λ (l : List ℕ). BreaksOff contents old new l) same broken.broken, broken.lost)
+            | inl forgotten ↦ inl (forgotten.line, subst (Exchanged forgotten.line) same forgotten.exchanged, record { plain = forgotten.plain; either = inr (forgotten.listing, forgotten.memory) })
+            | inr unread ↦ elim unread [
+              | inl broken ↦ inr (subst Breaks same broken.broken, inl broken.lost)
+              | inr short ↦ inr (subst Breaks same (breaks_short old new call answer short), inr short.memory)
+            ]
           ]
         ];
       }
@@ -162,7 +185,7 @@ busy p q is not idle = not (sym is ∙ idle)
 pub new_lives : {R W : Type 0} (remaining : R → Option (List ℕ)) (contents : W → Option (List ℕ)) → NewLives remaining contents
 new_lives remaining contents n answers calls = record {
   spoken = exchanged_here n remaining contents (wired answers calls) (wired answers calls) [] refl
-      (record { lines = []; each = tt; written = Appends-nil (contents calls); read = Consumes-nil (remaining answers) });
+      (record { lines = []; each = tt; written = Appends-nil (contents calls); read = Consumes-nil (remaining answers); granted = record { calls = refl; answers = refl } });
   named = λ busy. absurd (busy refl);
 }
 

@@ -68,7 +68,7 @@ answer_once line a b h k =
     ended_once k.verb k.others a b (subst (λ (e : Ending). IsEnding e k.others a) ending (subst (λ (ws : List (List ℕ)). IsEnding h.verb ws a) rest h.said)) k.said
 
 -- .. so it answers a build of so many outputs in one way at most
-for_once : (outputs : ℕ) (line : List ℕ) (a b : Answer) → IsAnswerFor outputs line a → IsAnswerFor outputs line b → a ≡ b
+pub for_once : (outputs : ℕ) (line : List ℕ) (a b : Answer) → IsAnswerFor outputs line a → IsAnswerFor outputs line b → a ≡ b
 for_once outputs line a b h k = answer_once line a b h.says k.says
 
 -- what it says has another number of lists, so it is no answer

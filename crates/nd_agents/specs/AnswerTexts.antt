@@ -1,15 +1,16 @@
 -- What an agent's answers say. A connect and a copy are answered yes or no; a build by how it ended, where the references stand in
 -- the form that scripts and stand texts have for them. The form is this project's own.
 -- Public clauses cite this.
-use Rattle.std.specs.Prelude.{◌≡◌, ◌⊎◌, ℕ, Bool, true, false, List, [], length, codes, if◌then◌else◌, Option, None, Some, Result, MatchResult}
+use Rattle.std.specs.Prelude.{◌≡◌, ◌⊎◌, ℕ, Bool, true, false, List, [], ◌∷◌, length, codes, if◌then◌else◌, Option, None, Some, Result, MatchResult}
 use Rattle.nd_bytes.specs.Compared.{bytes_eq}
+use Rattle.nd_closure.specs.Info.{words_of}
 use Rattle.nd_script.specs.declared.line_error.LineError.{LineError}
 use Rattle.nd_script.specs.declared.line_error.LineError.TheVariants.{Memory}
 use Rattle.nd_script.specs.Words.{AreLists}
 use Rattle.nd_script.specs.Calls.{IsCallWith}
 use Rattle.nd_script.specs.Lines.{IsLineOf}
 use Rattle.nd_transports.specs.declared.kinds.Answer.{Answer}
-use Rattle.nd_transports.specs.declared.kinds.Answer.TheVariants.{Built as WasBuilt, Status as HadStatus, Lost as WasLost}
+use Rattle.nd_transports.specs.declared.kinds.Answer.TheVariants.{Built as WasBuilt, Status as HadStatus, Lost as WasLost, Memory as FoundNoMemory}
 use Rattle.nd_agents.specs.declared.ending.Ending.{Ending}
 use Rattle.nd_agents.specs.declared.ending.Ending.TheVariants.{Built, Failed, Lost}
 use Rattle.nd_agents.specs.CallTexts.{line_with}
@@ -55,11 +56,19 @@ abbrev pub HasLists : ℕ → Answer → Type 0
 HasLists outputs (WasBuilt refs) = length refs ≡ outputs
 HasLists outputs (HadStatus code) = Unit {0}
 HasLists outputs WasLost = Unit {0}
+HasLists outputs FoundNoMemory = Unit {0}
 
 -- the line, without its newline, answers a build of so many outputs: with another number of lists it is no answer
 pub record IsAnswerFor (outputs : ℕ) (line : List ℕ) (answer : Answer) : Type 0 where
   pub says : IsAnswer line answer
   pub lists : HasLists outputs answer
+
+-- the line tells a build that ended with its outputs: what stands behind its first word is all that memory is wanted for
+pub record IsListing (line : List ℕ) : Type 0 where
+  pub first : List ℕ
+  pub others : List (List ℕ)
+  pub words : words_of line ≡ first ∷ others
+  pub names : ending_of first ≡ Some Built
 
 -- the answer is so, unless memory runs out
 abbrev pub OkUnlessMemory : {A : Type 0} → Result A LineError → (A → Type 0) → Type 0

@@ -1,6 +1,6 @@
 -- What is read of an agent's answers.
 -- Private clauses cite this, and `IsNeither`, `HasNoLine` and `ReadsOpening` public ones.
-use Rattle.std.specs.Prelude.{◌≡◌, ◌≢◌, ℕ, ◌+◌, ◌≤◌, true, false, List, ◌++◌, length, Option, Some}
+use Rattle.std.specs.Prelude.{◌≡◌, ◌≢◌, ℕ, ◌+◌, ◌≤◌, ◌<◌, true, false, List, ◌++◌, length, Option, Some}
 use Rattle.std.specs.List.{All}
 use Rattle.std.specs.Io.KnownBytes.{Consumes, IsAtEnd}
 use Rattle.nd_devices.specs.Watched.{Watched}
@@ -43,17 +43,23 @@ pub record ReadsLine (old new : Option (List ℕ)) (line : List ℕ) : Type 0 wh
 pub record HasNoLine (known : Option (List ℕ)) : Type 0 where
   pub never : (line more : List ℕ) → IsPlain line → length line ≤ longest → known ≡ Some (line_with line ++ more) → ⊥
 
--- so much was read of a line, and its newline wasn't
+-- one byte or more was read of a line, and its newline wasn't
 pub record ReadsOpening (old new : Option (List ℕ)) : Type 0 where
   pub opening : List ℕ
+  pub begun : 0 < length opening
   pub consumed : Consumes old new opening
   pub plain : IsPlain opening
+
+-- there was no memory for a line of which this was read, and the reader didn't refuse
+pub record IsShort {R : Type 0} (remaining : R → Option (List ℕ)) (old new : Watched R) : Type 0 where
+  pub opening : ReadsOpening (remaining old.device) (remaining new.device)
+  pub unmarked : new.is_marked ≡ old.is_marked
 
 -- why no line came: there is none, the reader refused and is marked, or there was no memory for the line
 abbrev pub IsCause : {R : Type 0} → (R → Option (List ℕ)) → Watched R → Watched R → Unheard → Type 0
 IsCause remaining old new NoLine = HasNoLine (remaining old.device)
 IsCause remaining old new DeviceRefused = new.is_marked ≡ true
-IsCause remaining old new Memory = ReadsOpening (remaining old.device) (remaining new.device)
+IsCause remaining old new Memory = IsShort remaining old new
 
 pub record IsUnheard {R : Type 0} (remaining : R → Option (List ℕ)) (old new : Watched R) (why : Unheard) : Type 0 where
   pub cause : IsCause remaining old new why

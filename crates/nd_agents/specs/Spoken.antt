@@ -4,15 +4,17 @@ use Rattle.std.specs.Prelude.{◌≡◌, ◌⊎◌, ℕ, Bool, true, false, List
 use Rattle.std.specs.Io.KnownBytes.{Appends, Consumes}
 use Rattle.std.specs.List.{All, AllZip, flat_map}
 use Rattle.nd_devices.specs.Written.{WritesPart}
-use Rattle.nd_transports.specs.declared.kinds.Answer.TheVariants.{Lost}
+use Rattle.nd_transports.specs.declared.kinds.Answer.{Answer}
+use Rattle.nd_transports.specs.declared.kinds.Answer.TheVariants.{Lost, Memory}
 use Rattle.nd_transports.specs.declared.kinds.Call.{Call}
 use Rattle.nd_transports.specs.declared.kinds.Call.TheVariants.{Connect, Copy, Build}
 use Rattle.nd_transports.specs.declared.kinds.Ended.{Ended}
 use Rattle.nd_transports.specs.declared.kinds.Phase.TheVariants.{Idle, Prepared, Connected as HasConnected, Copied as HasCopied}
 use Rattle.nd_transports.specs.Calls.{IsIdleAgain, connected, copied}
 use Rattle.nd_agents.specs.CallTexts.{line_with, connect_line, copy_line, build_line}
-use Rattle.nd_agents.specs.AnswerTexts.{word, IsAnswerFor}
-use Rattle.nd_agents.specs.Wires.{Wired, wired, IsAsked}
+use Rattle.nd_agents.specs.AnswerTexts.{word, IsAnswerFor, IsListing}
+use Rattle.nd_agents.specs.Heard.{IsPlain}
+use Rattle.nd_agents.specs.Wires.{Wired, wired, AreGranted, IsAsked}
 use Rattle.nd_agents.specs.Agents.{Agency, fresh, readied, AgentBuilds}
 
 -- what derivations are called, by their numbers: their paths, and those of their outputs by name
@@ -34,11 +36,16 @@ call_text n calls = flat_map (call_line n) calls
 abbrev pub answer_text : List (List ℕ) → List ℕ
 answer_text lines = flat_map line_with lines
 
--- A call is recorded as this line, without its newline, answers it. A build is lost too where no memory was found for what the line says.
+-- a build of so many outputs is recorded as this line, without its newline, answers it; or there was no memory for what it says
+pub record IsBuildAnswered (outputs : ℕ) (line : List ℕ) (answer : Answer) : Type 0 where
+  pub plain : IsPlain line
+  pub either : IsAnswerFor outputs line answer ⊎ (IsListing line × (answer ≡ Memory))
+
+-- a call is recorded as this line, without its newline, answers it
 abbrev pub IsAnswered : Naming → Call → List ℕ → Type 0
 IsAnswered n (Connect answered) line = line ≡ word answered
 IsAnswered n (Copy paths done) line = line ≡ word done
-IsAnswered n (Build drv answer) line = IsAnswerFor (length (n.outputs drv)) line answer ⊎ (answer ≡ Lost)
+IsAnswered n (Build drv answer) line = IsBuildAnswered (length (n.outputs drv)) line answer
 
 -- a call is recorded as answered no, or its build as lost
 abbrev pub IsDenied : Call → Type 0
@@ -46,15 +53,23 @@ IsDenied (Connect answered) = answered ≡ false
 IsDenied (Copy paths done) = done ≡ false
 IsDenied (Build drv answer) = answer ≡ Lost
 
--- each of these calls was written whole, and a line read that answers it
+-- .. or there was no memory for the line of its answer
+abbrev pub IsUnanswered : Call → Type 0
+IsUnanswered (Connect answered) = answered ≡ false
+IsUnanswered (Copy paths done) = done ≡ false
+IsUnanswered (Build drv answer) = (answer ≡ Lost) ⊎ (answer ≡ Memory)
+
+-- each of these calls was written whole, and a line read that answers it, and no device refused
 pub record AreExchanged {R W : Type 0} (n : Naming) (remaining : R → Option (List ℕ)) (contents : W → Option (List ℕ)) (start now : Wired R W) (calls : List Call) : Type 0 where
   pub lines : List (List ℕ)
   pub each : AllZip (IsAnswered n) calls lines
   pub written : Appends (contents start.calls.device) (contents now.calls.device) (call_text n calls)
   pub read : Consumes (remaining start.answers.device) (remaining now.answers.device) (answer_text lines)
+  pub granted : AreGranted start now
 
 -- The agent broke off in one of these calls. Each before it was written whole and answered by a line. Of its own line a part was written,
--- from its beginning, and all of it where no write was refused; of those since then nothing was. It and they are answered no, or lost.
+-- from its beginning, and all of it where no write was refused; of those since then nothing was. It and they are answered no, or lost,
+-- but that there may have been no memory for the line of its answer.
 pub record AreBrokenOff {R W : Type 0} (n : Naming) (remaining : R → Option (List ℕ)) (contents : W → Option (List ℕ)) (start now : Wired R W) (calls : List Call) : Type 0 where
   pub before : List Call
   pub last : Call
@@ -70,7 +85,8 @@ pub record AreBrokenOff {R W : Type 0} (n : Naming) (remaining : R → Option (L
   -- what the reader had left when it broke off
   pub left : Option (List ℕ)
   pub read : Consumes (remaining start.answers.device) left (answer_text lines)
-  pub denied : All IsDenied (last ∷ since)
+  pub unanswered : IsUnanswered last
+  pub denied : All IsDenied since
 
 -- what was spoken from the beginning on, by whether the agent is gone
 pub record IsSpoken {R W : Type 0} (n : Naming) (remaining : R → Option (List ℕ)) (contents : W → Option (List ℕ)) (start now : Wired R W) (calls : List Call) : Type 0 where

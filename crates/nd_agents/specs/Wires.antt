@@ -4,9 +4,9 @@ use Rattle.std.specs.Prelude.{◌≡◌, ◌≤◌, ◌⊎◌, ℕ, Bool, true, 
 use Rattle.std.specs.Io.KnownBytes.{Appends, Consumes}
 use Rattle.nd_devices.specs.Watched.{Watched}
 use Rattle.nd_transports.specs.declared.kinds.Answer.{Answer}
-use Rattle.nd_transports.specs.declared.kinds.Answer.TheVariants.{Lost}
+use Rattle.nd_transports.specs.declared.kinds.Answer.TheVariants.{Lost, Memory}
 use Rattle.nd_agents.specs.CallTexts.{line_with}
-use Rattle.nd_agents.specs.AnswerTexts.{word_line, IsAnswerFor}
+use Rattle.nd_agents.specs.AnswerTexts.{word_line, IsAnswerFor, IsListing}
 use Rattle.nd_agents.specs.Heard.{IsNeither, IsPlain, longest, ReadsLine, HasNoLine, ReadsOpening}
 
 -- the way to an agent: the reader of its answers, the writer of its calls, and whether it is gone
@@ -23,10 +23,16 @@ wired answers calls = record {
   is_gone = false;
 }
 
--- the line of the call was written whole, and then this line read; the agent is there
+-- neither device refused meanwhile
+pub record AreGranted {R W : Type 0} (old new : Wired R W) : Type 0 where
+  pub calls : new.calls.is_marked ≡ old.calls.is_marked
+  pub answers : new.answers.is_marked ≡ old.answers.is_marked
+
+-- the line of the call was written whole, and then this line read, and neither device refused; the agent is there
 pub record Exchanges {R W : Type 0} (remaining : R → Option (List ℕ)) (contents : W → Option (List ℕ)) (old new : Wired R W) (call answer : List ℕ) : Type 0 where
   pub written : Appends (contents old.calls.device) (contents new.calls.device) call
   pub read : Consumes (remaining old.answers.device) (remaining new.answers.device) answer
+  pub granted : AreGranted old new
   pub here : new.is_gone ≡ false
 
 -- Of the line of the call a part was written, from its beginning, and all of it where no write was refused; the agent is gone.
@@ -62,13 +68,14 @@ pub record IsToldBy {R W : Type 0} (remaining : R → Option (List ℕ)) (conten
   pub says : IsAnswerFor outputs line answer
   pub exchanged : Exchanges remaining contents old new call (line_with line)
 
--- the build is lost beside a line that was read, which is within the limit, and the agent is there (as where there is no memory for
--- what the line says)
+-- there was no memory for what the line says that was read, which is within the limit and begins as that of a build that ended with its
+-- outputs; the agent is there
 pub record IsForgotten {R W : Type 0} (remaining : R → Option (List ℕ)) (contents : W → Option (List ℕ)) (old new : Wired R W) (call : List ℕ) (answer : Answer) : Type 0 where
   pub line : List ℕ
   pub plain : IsPlain line
   pub within : length line ≤ longest
-  pub lost : answer ≡ Lost
+  pub listing : IsListing line
+  pub memory : answer ≡ Memory
   pub exchanged : Exchanges remaining contents old new call (line_with line)
 
 -- the line that was read is no answer to a build of so many outputs
@@ -78,14 +85,13 @@ pub record IsNoAnswer (outputs : ℕ) (old new : Option (List ℕ)) : Type 0 whe
   pub never : (answer : Answer) → IsAnswerFor outputs line answer → ⊥
 
 -- Why a build is lost with its agent: a write was refused; or a read; or what the reader had left begins with no line within the
--- limit; or the line that was read is no answer; or there was no memory for the line.
+-- limit; or the line that was read is no answer.
 abbrev pub HasNoAnswer : {R W : Type 0} → (R → Option (List ℕ)) → ℕ → Wired R W → Wired R W → Type 0
 HasNoAnswer remaining outputs old new =
     (new.calls.is_marked ≡ true)
     ⊎ (new.answers.is_marked ≡ true)
     ⊎ HasNoLine (remaining old.answers.device)
     ⊎ IsNoAnswer outputs (remaining old.answers.device) (remaining new.answers.device)
-    ⊎ ReadsOpening (remaining old.answers.device) (remaining new.answers.device)
 
 -- the build is lost since the agent broke off
 pub record IsBroken {R W : Type 0} (remaining : R → Option (List ℕ)) (contents : W → Option (List ℕ)) (outputs : ℕ) (old new : Wired R W) (call : List ℕ) (answer : Answer) : Type 0 where
@@ -93,9 +99,20 @@ pub record IsBroken {R W : Type 0} (remaining : R → Option (List ℕ)) (conten
   pub broken : BreaksOff contents old new call
   pub cause : HasNoAnswer remaining outputs old new
 
+-- There was no memory for the line: of it a beginning was read, and neither device refused; the agent is gone, since the rest would be taken for the answer to
+-- the next call.
+pub record IsCutShort {R W : Type 0} (remaining : R → Option (List ℕ)) (contents : W → Option (List ℕ)) (old new : Wired R W) (call : List ℕ) (answer : Answer) : Type 0 where
+  pub memory : answer ≡ Memory
+  pub written : Appends (contents old.calls.device) (contents new.calls.device) call
+  pub read : ReadsOpening (remaining old.answers.device) (remaining new.answers.device)
+  pub granted : AreGranted old new
+  pub gone : new.is_gone ≡ true
+
 -- What the call of a build of so many outputs comes to. An agent that is gone isn't called, and the build is lost. Else the answer is
--- what the line that was read says; or the build is lost, and there was no memory for what the line says, or the agent is gone.
+-- what the line that was read says; or there was no memory for what it says; or the build is lost for one of the causes of that, and
+-- the agent is gone; or there was no memory for the line, and the agent is gone.
 pub record IsBuildAsked {R W : Type 0} (remaining : R → Option (List ℕ)) (contents : W → Option (List ℕ)) (outputs : ℕ) (old new : Wired R W) (call : List ℕ) (answer : Answer) : Type 0 where
   pub gone : old.is_gone ≡ true → (answer ≡ Lost) × (new ≡ old)
   pub here : old.is_gone ≡ false
       → IsToldBy remaining contents outputs old new call answer ⊎ IsForgotten remaining contents old new call answer ⊎ IsBroken remaining contents outputs old new call answer
+          ⊎ IsCutShort remaining contents old new call answer

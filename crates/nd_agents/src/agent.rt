@@ -26,9 +26,14 @@ use std::marker::Model;
 ///
 /// Where a device refuses, where an answer is none of these or has more than 16,777,216 bytes, where a build
 /// is answered with another number of lists than it has outputs, and at the end of the answers, the call is
-/// answered no, and a build is lost; the agent counts as gone then. Of an agent
-/// that is gone each later connect is answered no, with nothing written or read. A build whose answer finds no
-/// memory is lost; where the line couldn't be read to its end for that, the agent is gone too.
+/// answered no, and a build is lost; the agent counts as gone then. Of an agent that is gone each later
+/// connect is answered no and each later build is lost, with nothing written or read.
+///
+/// A build for whose answer there is no memory ends as `Memory`, and never as lost. Where the line was read to
+/// its end (it begins with `built` then) the agent is there, and the next line answers the next call; where
+/// there was no memory for the line itself the agent is gone, since what is left of the line would be taken for
+/// the answer to the next call. So a line that is an answer comes to that answer or to `Memory`, and one that is
+/// none to a lost build or to `Memory` ([`laws`](crate::laws)).
 ///
 /// The lines of a job's calls are made when it is prepared, so that its copy takes no memory. The form is
 /// this project's own.

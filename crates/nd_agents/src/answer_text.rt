@@ -1,11 +1,11 @@
 //! Reading the answer to a build.
 
-ghost use Rattle.std.specs.Prelude.{◌≡◌, ◌++◌, List, Some, None, true, false, codes, IfOk, IfErr};
+ghost use Rattle.std.specs.Prelude.{◌≡◌, ◌++◌, List, Some, None, Err, true, false, codes, IfOk, IfErr};
 ghost use Rattle.nd_closure.specs.Info.{words_of};
 ghost use Rattle.nd_script.specs.Words.{words_left, AreLists};
 ghost use Rattle.nd_script.specs.Faults.{RulesOut};
 ghost use Rattle.nd_transports.specs.declared.kinds.Answer.{Answer};
-ghost use Rattle.nd_agents.specs.AnswerTexts.{IsAnswer, IsAnswerFor, HasLists, IsEnding, IsBuilt, OkUnlessMemory};
+ghost use Rattle.nd_agents.specs.AnswerTexts.{IsAnswer, IsAnswerFor, HasLists, IsEnding, IsBuilt, IsListing, OkUnlessMemory};
 ghost use Rattle.nd_agents.specs.Relayed.{refs_in};
 
 use crate::ending::{Ending, ending_named};
@@ -25,10 +25,12 @@ use std::alloc::{AllocError, Global};
 /// they are made sets. `built` alone reports no list at all. The form is this project's own; lists have the
 /// form that they have in a script ([`nd_script::parse_script`]).
 ///
-/// `Bad`: the line is none of these, or has another number of lists. `Memory`: an allocation was refused.
+/// `Bad`: the line is none of these, or has another number of lists. `Memory`: an allocation was refused; the
+/// line begins with `built`, and for no other one memory is wanted.
 pub fn read_answer(alloc: Global, line: &[u8], outputs: usize) -> Result<Answer, LineError>
     ensures found { IfOk result (IsAnswerFor outputs line.now) }
     ensures refused { IfErr result (RulesOut (IsAnswerFor outputs line.now)) }
+    ensures short { result ≡ Err LineError.Memory → IsListing line.now }
     ensures exactly { (answer : Answer) → IsAnswerFor outputs line.now answer → OkUnlessMemory result (λ read. read ≡ answer) }
 {
     match line_answer(alloc, line) {
@@ -51,6 +53,7 @@ fn has_lists(answer: &Answer, outputs: usize) -> bool
         Answer::Built(refs) => refs.lists().len() == outputs,
         Answer::Status(_) => true,
         Answer::Lost => true,
+        Answer::Memory => true,
     }
 }
 
@@ -58,6 +61,7 @@ fn has_lists(answer: &Answer, outputs: usize) -> bool
 fn line_answer(alloc: Global, line: &[u8]) -> Result<Answer, LineError>
     ensures found { IfOk result (IsAnswer line.now) }
     ensures refused { IfErr result (RulesOut (IsAnswer line.now)) }
+    ensures short { result ≡ Err LineError.Memory → IsListing line.now }
 {
     let (first, words) = cut(line, b' ');
     let Some(ending) = ending_named(first) else {
@@ -71,6 +75,7 @@ fn line_answer(alloc: Global, line: &[u8]) -> Result<Answer, LineError>
 fn ended(alloc: Global, ending: Ending, words: Option<&[u8]>) -> Result<Answer, LineError>
     ensures found { IfOk result (IsEnding ending (words_left words.entry)) }
     ensures refused { IfErr result (RulesOut (IsEnding ending (words_left words.entry))) }
+    ensures short { result ≡ Err LineError.Memory → ending ≡ Ending.Built }
 {
     match ending {
         Ending::Built => built(alloc, words),

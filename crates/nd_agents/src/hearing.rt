@@ -36,6 +36,7 @@ pub enum Unheard {
 fn take_byte<R: Read>(answers: &mut Told<R>) -> Result<u8, Silence>
     ensures taken { IfOk result (λ b. Consumes (R.remaining answers.old.device) (R.remaining answers.new.device) (b ∷ [])) }
     ensures silent { IfErr result (IsSilent R.remaining answers.old answers.new) }
+    ensures mark { IfOk result (λ b. answers.new.is_marked ≡ answers.old.is_marked) }
 {
     let mut room = [0; 1];
     match answers.take(&mut room) {
@@ -49,6 +50,7 @@ fn take_byte<R: Read>(answers: &mut Told<R>) -> Result<u8, Silence>
 fn follow<R: Read>(answers: &mut Told<R>, bytes: &[u8]) -> bool
     ensures yes { result ≡ true → Consumes (R.remaining answers.old.device) (R.remaining answers.new.device) bytes.now }
     ensures no { result ≡ false → (answers.new.is_marked ≡ true) ⊎ NeverBegins (R.remaining answers.old.device) bytes.now }
+    ensures mark { result ≡ true → answers.new.is_marked ≡ answers.old.is_marked }
 {
     for byte in bytes {
         match take_byte(answers) {
@@ -69,6 +71,7 @@ fn follow<R: Read>(answers: &mut Told<R>, bytes: &[u8]) -> bool
 pub(crate) fn hear_word<R: Read>(answers: &mut Told<R>) -> Option<bool>
     ensures heard { IfSome result (λ yes. Consumes (R.remaining answers.old.device) (R.remaining answers.new.device) (word_line yes)) }
     ensures neither { result ≡ None → (answers.new.is_marked ≡ true) ⊎ IsNeither (R.remaining answers.old.device) }
+    ensures mark { IfSome result (λ yes. answers.new.is_marked ≡ answers.old.is_marked) }
 {
     let first = match take_byte(answers) {
         Ok(first) => first,
@@ -97,6 +100,7 @@ pub(crate) fn hear_word<R: Read>(answers: &mut Told<R>) -> Option<bool>
 pub(crate) fn hear_line<R: Read>(alloc: Global, answers: &mut Told<R>) -> Result<Vec<u8>, Unheard>
     ensures heard { IfOk result (λ line. ReadsLine (R.remaining answers.old.device) (R.remaining answers.new.device) line.items) }
     ensures unheard { IfErr result (IsUnheard R.remaining answers.old answers.new) }
+    ensures mark { IfOk result (λ line. answers.new.is_marked ≡ answers.old.is_marked) }
 {
     let mut line = Vec::new(alloc);
     while line.len() <= LONGEST {

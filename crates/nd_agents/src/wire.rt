@@ -6,7 +6,7 @@ ghost use Rattle.nd_devices.specs.Written.{WritesPart};
 ghost use Rattle.nd_agents.specs.Wires.{wired, IsAsked, IsBuildAsked};
 
 use crate::answer_text::read_answer;
-use crate::hearing::{hear_line, hear_word};
+use crate::hearing::{Unheard, hear_line, hear_word};
 use nd_devices::{Fault, Told};
 use nd_script::LineError;
 use nd_transports::Answer;
@@ -91,7 +91,9 @@ impl<R: Read, W: Write> Wire<R, W> {
         }
     }
 
-    /// Calls for a build of so many outputs with this line, and answers what the line that is read says.
+    /// Calls for a build of so many outputs with this line, and answers what the line that is read says, or that
+    /// there was no memory for it. Where there was none for the line itself the agent is gone: the rest of the
+    /// line would be taken for the answer to the next call.
     #[tactic(auto, using(crate::proofs::Asking::builds))]
     pub(crate) fn ask_build(&mut self, alloc: Global, call: &[u8], outputs: usize) -> Answer
         ensures { IsBuildAsked R.remaining W.contents outputs self.old self.new call.now result }
@@ -108,9 +110,17 @@ impl<R: Read, W: Write> Wire<R, W> {
         }
         let line = match hear_line(alloc, &mut self.answers) {
             Ok(line) => line,
-            Err(_) => {
+            Err(Unheard::NoLine) => {
                 self.gone = true;
                 return Answer::Lost;
+            }
+            Err(Unheard::Refused) => {
+                self.gone = true;
+                return Answer::Lost;
+            }
+            Err(Unheard::Memory) => {
+                self.gone = true;
+                return Answer::Memory;
             }
         };
         match read_answer(alloc, line.as_slice(), outputs) {
@@ -119,7 +129,7 @@ impl<R: Read, W: Write> Wire<R, W> {
                 self.gone = true;
                 Answer::Lost
             }
-            Err(LineError::Memory) => Answer::Lost,
+            Err(LineError::Memory) => Answer::Memory,
         }
     }
 }

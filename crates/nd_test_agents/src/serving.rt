@@ -189,6 +189,95 @@ fn other_answers(rt: HostRuntime) -> Result<(), Fail> {
     Ok(())
 }
 
+/// What an agent answers to leases one after another, in each form.
+const TURNS: &[u8] = b"\
+    no\n\
+    yes\nno\n\
+    yes\nyes\nfailed 0\n\
+    yes\nyes\nlost\n\
+    yes\nyes\nbuilt o /nix/store/pppppppppppppppppppppppppppppppp-s1 o\n\
+    yes\nyes\nfailed 255\n\
+    yes\nyes\nbuilt o o\n";
+
+/// How those leases go.
+const TURNED: [Went; 7] = [
+    Went::Refused(1),
+    Went::Refused(2),
+    Went::Status(0),
+    Went::Lost,
+    Went::Built(2, 1),
+    Went::Status(255),
+    Went::Built(2, 0),
+];
+
+/// Whether leases through one agent with these answers go so, one after another, and it is gone then or not.
+fn turns(alloc: Global, answers: &[u8], turned: &[Went], gone: bool) -> bool {
+    let Some(job) = job(alloc) else {
+        return false;
+    };
+    let calls = CountedWriter::new(alloc, 4096, usize::MAX, false);
+    let reader = CountedReader::new(answers, 7, usize::MAX);
+    let mut agent = Agent::new(alloc, reader, calls);
+    let mut are_so = true;
+    for went in turned {
+        are_so = are_so && served(&job, &mut agent) == *went;
+    }
+    are_so && agent.is_gone() == gone
+}
+
+/// Each line answers the call at its place, and no later one.
+#[test]
+fn lines_in_turn(rt: HostRuntime) -> Result<(), Fail> {
+    let alloc = rt.alloc();
+    assert!(rt; turns(alloc, TURNS, &TURNED, false));
+    let two = b"yes\nyes\nfailed 3\nfailed 4\nyes\nyes\nfailed 5\n";
+    let after = [Went::Status(3), Went::Refused(1), Went::Refused(1)];
+    assert!(rt; turns(alloc, two, &after, true));
+    let half = b"yes\nyes\nlost\nyes\nyes\nfailed 3";
+    let lost = [Went::Lost, Went::Lost, Went::Refused(1)];
+    assert!(rt; turns(alloc, half, &lost, true));
+    Ok(())
+}
+
+/// What is no answer to a build is a lost build, and the agent is gone.
+#[test]
+fn no_answers(rt: HostRuntime) -> Result<(), Fail> {
+    let alloc = rt.alloc();
+    let lost = [Went::Lost, Went::Refused(1)];
+    let lines = [
+        b"yes\nyes\n\n".as_slice(),
+        b"yes\nyes\nyes\n",
+        b"yes\nyes\nbuild o o\n",
+        b"yes\nyes\nfailed 256\n",
+        b"yes\nyes\nfailed 03\n",
+        b"yes\nyes\nfailed 3 3\n",
+        b"yes\nyes\nbuilt o\n",
+        b"yes\nyes\nbuilt o o o\n",
+        b"yes\nyes\nbuilt o s1 o\n",
+        b"yes\nyes\nbuilt o o",
+        b"yes\nyes\n",
+    ];
+    for line in lines {
+        assert!(rt; turns(alloc, line, &lost, true));
+    }
+    Ok(())
+}
+
+/// Where memory is refused a lease isn't lost for that. Each allocation is refused in turn by
+/// `rt try --test --fail-alloc N`.
+#[test]
+fn memory_is_told_as_memory(rt: HostRuntime) -> Result<(), Fail> {
+    let alloc = rt.alloc();
+    let built = match answered(alloc, ANSWERS, usize::MAX) {
+        Some((Went::Built(lists, paths), gone)) => lists == 2 && paths == 1 && !gone,
+        Some((Went::Memory, _)) => true,
+        Some(_) => false,
+        None => true,
+    };
+    assert!(rt; built);
+    Ok(())
+}
+
 /// Another number of lists than the derivation has outputs is no answer.
 #[test]
 fn other_numbers_of_lists(rt: HostRuntime) -> Result<(), Fail> {

@@ -2,7 +2,7 @@ use Rattle.std.proofs.Common.{ℕ, List, refl, sym, subst}
 use Rattle.nd_transports.specs.declared.kinds.Answer.{Answer}
 use Rattle.nd_agents.specs.AnswerTexts.{IsAnswerFor}
 use Rattle.nd_agents.specs.Heard.{ReadsLine}
-use Rattle.nd_agents.proofs.Asking.{built_unheard, built_meaningless}
+use Rattle.nd_agents.proofs.Asking.{built_meaningless}
 use Rattle.nd_agents.proofs.wire.Wire.ask_build.Goals as goal
 
 pub returns-in-Err-Bad : goal.returns-in-Err-Bad
@@ -13,9 +13,3 @@ returns-in-Err-Bad g c =
     rw (← c.self.view_is)
     (built_meaningless g.R.Read.remaining g.W.Write.contents _ c.args.call.now c.args.outputs _ _ c.as_slice.result.now c.if-self.false refl refl
     c.in-Ok.ensures.written read never)
-
-pub returns-in-Err-hear_line : goal.returns-in-Err-hear_line
-returns-in-Err-hear_line g c =
-    rw (← c.self.view_is)
-    (built_unheard g.R.Read.remaining g.W.Write.contents _ c.args.call.now c.args.outputs _ _ c.in-Err-hear_line.field-0 c.if-self.false refl refl
-    c.in-Ok.ensures.written c.in-Err-hear_line.ensures.unheard)
