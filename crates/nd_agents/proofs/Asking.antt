@@ -5,7 +5,6 @@ use Rattle.std.specs.Io.KnownBytes.{Appends, Consumes}
 use Rattle.nd_devices.specs.Written.{WritesPart}
 use Rattle.nd_transports.specs.declared.kinds.Answer.{Answer}
 use Rattle.nd_transports.specs.declared.kinds.Answer.TheVariants.{Lost, Memory}
-use Rattle.nd_agents.specs.declared.hearing.Unheard.{Unheard}
 use Rattle.nd_agents.specs.declared.hearing.Unheard.TheVariants.{NoLine, Refused, Memory as Short}
 use Rattle.nd_agents.specs.AnswerTexts.{word_line, IsAnswerFor, IsListing}
 use Rattle.nd_agents.specs.Heard.{IsNeither, ReadsLine, IsUnheard}

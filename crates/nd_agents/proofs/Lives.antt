@@ -3,21 +3,19 @@ use Rattle.std.proofs.Common.{◌≡◌, ℕ, Bool, true, false, true≢false, L
 use Rattle.std.specs.Prelude.{◌⊎◌}
 use Rattle.std.specs.Io.KnownBytes.{Appends, Consumes}
 use Rattle.std.proofs.KnownBytes.{Appends-nil, Consumes-nil, Appends-trans, Consumes-trans}
-use Rattle.std.specs.List.{All, AllZip, flat_map}
+use Rattle.std.specs.List.{AllZip, flat_map}
 use Rattle.std.proofs.lemmas.List.Elements.{All-nil, All-push}
 use Rattle.std.proofs.lemmas.List.Concat.{flat_map-append}
-use Rattle.nd_devices.specs.Written.{WritesPart}
 use Rattle.nd_transports.specs.declared.kinds.Answer.{Answer}
-use Rattle.nd_transports.specs.declared.kinds.Answer.TheVariants.{Lost, Memory}
 use Rattle.nd_transports.specs.declared.kinds.Call.{Call}
 use Rattle.nd_transports.specs.declared.kinds.Call.TheVariants.{Connect, Copy, Build}
 use Rattle.nd_transports.specs.declared.kinds.Phase.{Phase}
 use Rattle.nd_transports.specs.declared.kinds.Phase.TheVariants.{Idle, Prepared, Connected as HasConnected, Copied as HasCopied}
-use Rattle.nd_transports.specs.Calls.{State, connected, copied, built}
+use Rattle.nd_transports.specs.Calls.{State}
 use Rattle.nd_agents.specs.CallTexts.{line_with, connect_line, copy_line, build_line}
 use Rattle.nd_agents.specs.AnswerTexts.{word, IsAnswerFor}
 use Rattle.nd_agents.specs.Wires.{Wired, wired, Exchanges, BreaksOff, IsCutShort, IsAsked, IsBuildAsked}
-use Rattle.nd_agents.specs.Agents.{Agency, fresh}
+use Rattle.nd_agents.specs.Agents.{Agency}
 use Rattle.nd_agents.specs.Spoken.{Naming, call_line, call_text, answer_text, IsAnswered, IsDenied, IsUnanswered, AreExchanged, AreBrokenOff, IsSpoken, IsNamed, Lives, NewLives, PrepareLives, RefusedLives, ConnectLives, CopyLives, BuildLives, LifeIsWritten}
 
 -- ---- one more

@@ -1,6 +1,5 @@
 -- What calls come to by what the reader has left, and why lines answer in turn.
 use Rattle.std.proofs.Common.{◌≡◌, ◌≢◌, ℕ, suc, ◌≤◌, ◌<◌, Bool, true, false, true≢false, List, [], ◌∷◌, ◌++◌, Option, Some, None, refl, sym, ap, subst, ◌∙◌, arith, inl, inr, append_assoc, length, length-append}
-use Rattle.std.specs.Prelude.{◌⊎◌, codes}
 use Rattle.std.specs.Io.KnownBytes.{Consumes}
 use Rattle.std.specs.List.{All, AllZip}
 use Rattle.std.proofs.lemmas.List.Elements.{All-nil, All-cons, All-head, All-tail}
@@ -78,7 +77,7 @@ module _ {R W : Type 0} (remaining : R → Option (List ℕ)) (contents : W → 
     | inl told ↦
         let took = left_known (remaining old.answers.device) (remaining new.answers.device) (word_line answered) (word_line said ++ more) is told.read in
         let same = same_line (word said) (word answered) more took.0 (word_plain said) (word_plain answered)
-            (sym (split_line (word said) more) ∙ took.2 ∙ split_line (word answered) took.0) in
+        (sym (split_line (word said) more) ∙ took.2 ∙ split_line (word answered) took.0) in
         (same_word said answered same.0, record { here = told.here; left = took.1 ∙ ap Some (sym same.1) })
     | inr unworded ↦ absurd (has_word old new said more free is unworded.cause)
   ]
@@ -167,7 +166,7 @@ module _ {R W : Type 0} (remaining : R → Option (List ℕ)) (contents : W → 
     | inl told ↦ absurd (unlined old new text told.line is none told.plain told.within told.exchanged.read)
     | inr other ↦ elim other [
       | inl forgotten ↦ absurd (unlined old new text forgotten.line is none forgotten.plain forgotten.within forgotten.exchanged.read)
-      | inr unread ↦ elim unread [ | inl broken ↦ (broken.broken.gone, inl broken.lost) | inr short ↦ (short.gone, inr short.memory) ]
+      | inr unread ↦ elim unread [ inl broken ↦ (broken.broken.gone, inl broken.lost) | inr short ↦ (short.gone, inr short.memory) ]
     ]
   ]
 
@@ -200,7 +199,7 @@ same_lines [] (y ∷ ys) more rest n p q e = absurd (omega (arith, n))
 same_lines (x ∷ xs) [] more rest n p q e = absurd (omega (arith, n))
 same_lines (x ∷ xs) (y ∷ ys) more rest n p q e =
     let one = same_line x y (answer_text xs ++ more) (answer_text ys ++ rest) (All-head IsPlain x xs p) (All-head IsPlain y ys q)
-        (sym (text_apart x xs more) ∙ e ∙ text_apart y ys rest) in
+    (sym (text_apart x xs more) ∙ e ∙ text_apart y ys rest) in
     let others = same_lines xs ys more rest (omega (arith, n)) (All-tail IsPlain x xs p) (All-tail IsPlain y ys q) one.1 in
     let first : x ≡ y = one.0 in
     let tails : xs ≡ ys = others.0 in
@@ -229,5 +228,5 @@ lines_answer_in_turn remaining contents n answers calls a lines more lives here 
     let are = lives.spoken.here here in
     let took = left_known (remaining answers) (remaining a.wire.answers.device) (answer_text are.lines) (answer_text lines ++ more) is are.read in
     let same = same_lines lines are.lines more took.0 (number ∙ zip_length (IsAnswered n) a.state.calls are.lines are.each) plain
-        (answers_plain n a.state.calls are.lines are.each) took.2 in
+    (answers_plain n a.state.calls are.lines are.each) took.2 in
     (subst (λ (ls : List (List ℕ)). AllZip (IsAnswered n) a.state.calls ls) (sym same.0) are.each, took.1 ∙ ap Some (sym same.1))

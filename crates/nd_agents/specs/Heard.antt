@@ -1,6 +1,6 @@
 -- What is read of an agent's answers.
 -- Private clauses cite this, and `IsNeither`, `HasNoLine` and `ReadsOpening` public ones.
-use Rattle.std.specs.Prelude.{◌≡◌, ◌≢◌, ℕ, ◌+◌, ◌≤◌, ◌<◌, true, false, List, ◌++◌, length, Option, Some}
+use Rattle.std.specs.Prelude.{◌≡◌, ◌≢◌, ℕ, ◌≤◌, ◌<◌, true, false, List, ◌++◌, length, Option, Some}
 use Rattle.std.specs.List.{All}
 use Rattle.std.specs.Io.KnownBytes.{Consumes, IsAtEnd}
 use Rattle.nd_devices.specs.Watched.{Watched}

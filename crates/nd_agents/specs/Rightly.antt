@@ -5,7 +5,6 @@ use Rattle.std.specs.Prelude.{◌≡◌, ◌≤◌, ◌⊎◌, ℕ, Bool, true, 
 use Rattle.std.specs.List.{All, AllZip}
 use Rattle.nd_transports.specs.declared.kinds.Answer.{Answer}
 use Rattle.nd_transports.specs.declared.kinds.Answer.TheVariants.{Lost, Memory}
-use Rattle.nd_transports.specs.declared.kinds.Call.{Call}
 use Rattle.nd_agents.specs.CallTexts.{line_with}
 use Rattle.nd_agents.specs.AnswerTexts.{word_line, IsAnswerFor, IsListing}
 use Rattle.nd_agents.specs.Heard.{IsNeither, IsPlain, longest, HasNoLine}

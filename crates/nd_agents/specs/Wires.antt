@@ -115,4 +115,4 @@ pub record IsBuildAsked {R W : Type 0} (remaining : R → Option (List ℕ)) (co
   pub gone : old.is_gone ≡ true → (answer ≡ Lost) × (new ≡ old)
   pub here : old.is_gone ≡ false
       → IsToldBy remaining contents outputs old new call answer ⊎ IsForgotten remaining contents old new call answer ⊎ IsBroken remaining contents outputs old new call answer
-          ⊎ IsCutShort remaining contents old new call answer
+      ⊎ IsCutShort remaining contents old new call answer
