@@ -195,7 +195,9 @@ impl<L: Opened> Desk<L> {
     /// Nothing more is begun.
     fn begin_no_more(&mut self) {
         let Desk {
-            dispatch, manned, ..
+            dispatch,
+            manned,
+            ..
         } = self;
         abandon(dispatch, manned.as_slice());
     }

@@ -14,7 +14,9 @@ use crate::run_end::{Evidence, RunFault};
 use crate::threads::Stint;
 use crate::working::End;
 use nd_ledger::Dispatch;
-use nd_receipts::{Receipt, Tables, are_dealt, are_rows_judged, are_rows_noted, has_stop, is_quiet};
+use nd_receipts::{
+    Receipt, Tables, are_dealt, are_rows_judged, are_rows_noted, has_stop, is_quiet,
+};
 use nd_transports::Transport;
 
 /// Whether a worker ended so since an entry of its own was refused.

@@ -119,7 +119,16 @@ pub(crate) fn give_up<L: Opened, R: Wait>(
     requires cause { is_worker_cause why ≡ true }
     ensures ok { OnOk result (HasNoted hand.old.notes hand.new.notes Kind.Failed calls [] (Entry.Failed ticket.drv why)) }
 {
-    fail(rt, alloc, shared, hand, ticket, why, calls, PathSet::new(alloc))
+    fail(
+        rt,
+        alloc,
+        shared,
+        hand,
+        ticket,
+        why,
+        calls,
+        PathSet::new(alloc),
+    )
 }
 
 /// The entry of a start with a copy of these paths.
