@@ -7,7 +7,10 @@ use std::alloc::{AllocError, Global};
 /// Whether a list is refused so.
 fn is_refused(alloc: Global, text: &[u8], refusal: MachineError) -> bool {
     match machines_of(alloc, text) {
-        Ok(_) => false,
+        Ok(machines) => {
+            drop(machines);
+            false
+        }
         Err(why) => why == refusal,
     }
 }
@@ -15,7 +18,11 @@ fn is_refused(alloc: Global, text: &[u8], refusal: MachineError) -> bool {
 /// Whether a list is taken, as one of this many machines.
 fn is_taken(alloc: Global, text: &[u8], count: usize) -> bool {
     match machines_of(alloc, text) {
-        Ok(machines) => machines.len() == count,
+        Ok(machines) => {
+            let is_so = machines.len() == count;
+            drop(machines);
+            is_so
+        }
         Err(_) => false,
     }
 }
@@ -23,7 +30,11 @@ fn is_taken(alloc: Global, text: &[u8], count: usize) -> bool {
 /// Whether the last machine of a list has this URI.
 fn has_uri(alloc: Global, text: &[u8], uri: &[u8]) -> bool {
     match last_machine(alloc, text) {
-        Some(machine) => machine.uri() == uri,
+        Some(machine) => {
+            let is_so = machine.uri() == uri;
+            drop(machine);
+            is_so
+        }
         None => false,
     }
 }
@@ -32,13 +43,15 @@ fn has_uri(alloc: Global, text: &[u8], uri: &[u8]) -> bool {
 fn is_plain(alloc: Global, text: &[u8]) -> bool {
     match last_machine(alloc, text) {
         Some(machine) => {
-            machine.key().is_none()
+            let is_so = machine.key().is_none()
                 && machine.jobs() == 1
                 && machine.speed() == 1_000_000
                 && machine.supported().is_empty()
                 && machine.mandatory().is_empty()
                 && machine.host_key().is_none()
-                && is_listed(alloc, machine.systems(), b"x86_64-linux")
+                && is_listed(alloc, machine.systems(), b"x86_64-linux");
+            drop(machine);
+            is_so
         }
         None => false,
     }
@@ -68,11 +81,13 @@ fn builder_refusals(rt: HostRuntime) {
 fn is_second(alloc: Global, text: &[u8]) -> bool {
     match last_machine(alloc, text) {
         Some(machine) => {
-            machine.uri() == b"ssh://b".as_slice()
+            let is_so = machine.uri() == b"ssh://b".as_slice()
                 && machine.jobs() == 2
                 && machine.speed() == 500_000
                 && is_listed(alloc, machine.supported(), b"kvm")
-                && is_listed(alloc, machine.mandatory(), b"kvm")
+                && is_listed(alloc, machine.mandatory(), b"kvm");
+            drop(machine);
+            is_so
         }
         None => false,
     }
@@ -100,23 +115,23 @@ fn builder_speeds(rt: HostRuntime) {
     }
 }
 
-/// A list of this many machines.
-fn list_of(alloc: Global, count: usize) -> Result<Vec<u8>, AllocError> {
-    let mut text = Vec::new(alloc);
+/// Writes a list of this many machines.
+fn push_machines(text: &mut Vec<u8>, count: usize) -> Result<(), AllocError> {
     for _ in 0..count {
         text.extend_from_slice(b"m;")?;
     }
-    Ok(text)
+    Ok(())
 }
 
 /// Whether a list of 1,024 machines is taken, and one of 1,025 is refused.
 fn is_limited(alloc: Global) -> bool {
-    match (list_of(alloc, 1_024), list_of(alloc, 1_025)) {
-        (Ok(most), Ok(more)) => {
-            is_taken(alloc, &most, 1_024) && is_refused(alloc, &more, MachineError::TooMany(1_025))
-        }
-        _ => false,
-    }
+    let mut text = Vec::new(alloc);
+    let is_so = push_machines(&mut text, 1_024).is_ok()
+        && is_taken(alloc, &text, 1_024)
+        && push_machines(&mut text, 1).is_ok()
+        && is_refused(alloc, &text, MachineError::TooMany(1_025));
+    drop(text);
+    is_so
 }
 
 #[test]
@@ -127,7 +142,11 @@ fn builder_limit(rt: HostRuntime) {
 /// Whether a machine is equal to its copy.
 fn is_copied(alloc: Global, machine: &Machine) -> bool {
     match machine.try_clone(alloc) {
-        Ok(copy) => copy == *machine,
+        Ok(copy) => {
+            let is_so = copy == *machine;
+            drop(copy);
+            is_so
+        }
         Err(_) => false,
     }
 }
@@ -135,7 +154,11 @@ fn is_copied(alloc: Global, machine: &Machine) -> bool {
 /// Whether a set is equal to its copy.
 fn is_set_copied(alloc: Global, set: &FeatureSet) -> bool {
     match set.try_clone(alloc) {
-        Ok(copy) => copy == *set,
+        Ok(copy) => {
+            let is_so = copy == *set;
+            drop(copy);
+            is_so
+        }
         Err(_) => false,
     }
 }
@@ -145,14 +168,16 @@ fn is_set_copied(alloc: Global, set: &FeatureSet) -> bool {
 fn is_last_copied(alloc: Global, text: &[u8]) -> bool {
     match last_machine(alloc, text) {
         Some(machine) => {
-            machine.key() == Some(b"/etc/nix".as_slice())
+            let is_so = machine.key() == Some(b"/etc/nix".as_slice())
                 && machine.speed() == 1_500_000
                 && machine.supported().len() == 2
                 && machine.supported().contains(b"a")
                 && !machine.mandatory().contains(b"b")
                 && machine.host_key() == Some(b"aGk=".as_slice())
                 && is_copied(alloc, &machine)
-                && is_set_copied(alloc, machine.systems())
+                && is_set_copied(alloc, machine.systems());
+            drop(machine);
+            is_so
         }
         None => false,
     }

@@ -17,7 +17,11 @@ fn is_chosen(
         return false;
     }
     match plain_need(alloc) {
-        Ok(need) => choose(machines, loads, up, &need) == want,
+        Ok(need) => {
+            let is_so = choose(machines, loads, up, &need) == want;
+            drop(need);
+            is_so
+        }
         Err(_) => false,
     }
 }
@@ -32,7 +36,11 @@ fn is_best(alloc: Global, machines: &[Machine], loads: &[u32; 2], place: usize) 
 /// The same of a list of two machines.
 fn is_best_of(alloc: Global, list: &[u8], loads: &[u32; 2], place: usize) -> bool {
     match machines_of(alloc, list) {
-        Ok(machines) => is_best(alloc, &machines, loads, place),
+        Ok(machines) => {
+            let is_so = is_best(alloc, &machines, loads, place);
+            drop(machines);
+            is_so
+        }
         Err(_) => false,
     }
 }
@@ -58,10 +66,12 @@ fn is_only_choice(machines: &[Machine]) -> bool {
 fn are_equals(alloc: Global, list: &[u8]) -> bool {
     match machines_of(alloc, list) {
         Ok(machines) => {
-            is_best(alloc, &machines, &[1, 1], 0)
+            let is_so = is_best(alloc, &machines, &[1, 1], 0)
                 && is_chosen(alloc, &machines, &[1, 1], &[false, true], Some(1))
                 && is_chosen(alloc, &machines, &[2, 2], &[true, true], None)
-                && is_only_choice(&machines)
+                && is_only_choice(&machines);
+            drop(machines);
+            is_so
         }
         Err(_) => false,
     }
@@ -70,7 +80,11 @@ fn are_equals(alloc: Global, list: &[u8]) -> bool {
 /// Whether nothing is chosen of no machines.
 fn is_none_chosen(alloc: Global) -> bool {
     match plain_need(alloc) {
-        Ok(need) => choose(&[], &[], &[], &need).is_none(),
+        Ok(need) => {
+            let is_so = choose(&[], &[], &[], &need).is_none();
+            drop(need);
+            is_so
+        }
         Err(_) => false,
     }
 }

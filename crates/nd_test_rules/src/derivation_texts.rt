@@ -8,23 +8,43 @@ const SMALLEST: &[u8] = b"Derive([],[],[],\"s\",\"b\",[],[])";
 
 /// The smallest derivation, with this platform and environment.
 fn smallest(alloc: Global, platform: &[u8], env: Vec<EnvEntry>) -> Result<Derivation, AtermError> {
+    match two_texts(alloc, platform) {
+        Ok((platform, builder)) => Derivation::new(Parts {
+            outputs: Items::new(Vec::new(alloc)),
+            input_drvs: Items::new(Vec::new(alloc)),
+            input_srcs: Items::new(Vec::new(alloc)),
+            platform,
+            builder,
+            args: Items::new(Vec::new(alloc)),
+            env: Items::new(env),
+        }),
+        Err(_) => {
+            drop(env);
+            Err(AtermError::Memory)
+        }
+    }
+}
+
+/// This platform and the builder `b`.
+fn two_texts(alloc: Global, platform: &[u8]) -> Result<(ByteString, ByteString), AllocError> {
     let platform = ByteString::from_slice(alloc, platform)?;
-    let builder = ByteString::from_slice(alloc, b"b")?;
-    Derivation::new(Parts {
-        outputs: Items::new(Vec::new(alloc)),
-        input_drvs: Items::new(Vec::new(alloc)),
-        input_srcs: Items::new(Vec::new(alloc)),
-        platform,
-        builder,
-        args: Items::new(Vec::new(alloc)),
-        env: Items::new(env),
-    })
+    match ByteString::from_slice(alloc, b"b") {
+        Ok(builder) => Ok((platform, builder)),
+        Err(refused) => {
+            drop(platform);
+            Err(refused)
+        }
+    }
 }
 
 /// Whether a derivation has this text.
 fn is_written(alloc: Global, derivation: &Derivation, text: &[u8]) -> bool {
     match write(alloc, derivation) {
-        Ok(written) => written.as_slice() == text,
+        Ok(written) => {
+            let is_so = written.as_slice() == text;
+            drop(written);
+            is_so
+        }
         Err(_) => false,
     }
 }
@@ -33,9 +53,11 @@ fn is_written(alloc: Global, derivation: &Derivation, text: &[u8]) -> bool {
 fn is_smallest(alloc: Global, answer: Result<Derivation, AtermError>) -> bool {
     match answer {
         Ok(derivation) => {
-            derivation.platform.as_slice() == b"s".as_slice()
+            let is_so = derivation.platform.as_slice() == b"s".as_slice()
                 && derivation.builder.as_slice() == b"b".as_slice()
-                && is_written(alloc, &derivation, SMALLEST)
+                && is_written(alloc, &derivation, SMALLEST);
+            drop(derivation);
+            is_so
         }
         Err(_) => false,
     }
@@ -57,30 +79,78 @@ fn escaped(alloc: Global) -> Result<Vec<u8>, AllocError> {
     let spelled = [
         0x5c, 0x22, 0x5c, 0x5c, 0x5c, 0x6e, 0x5c, 0x72, 0x5c, 0x74, 0xff,
     ];
-    let mut text = Vec::from_slice(alloc, b"Derive([],[],[],\"s\",\"b\",[],[(\"k\",\"")?;
-    text.extend_from_slice(&spelled)?;
-    text.extend_from_slice(b"\")])")?;
-    Ok(text)
+    joined(
+        alloc,
+        b"Derive([],[],[],\"s\",\"b\",[],[(\"k\",\"",
+        &spelled,
+        b"\")])",
+    )
+}
+
+/// Three texts, one behind the other.
+fn joined(alloc: Global, first: &[u8], middle: &[u8], last: &[u8]) -> Result<Vec<u8>, AllocError> {
+    let mut text = Vec::new(alloc);
+    match put_three(&mut text, first, middle, last) {
+        Ok(()) => Ok(text),
+        Err(refused) => {
+            drop(text);
+            Err(refused)
+        }
+    }
+}
+
+/// Puts three texts, one behind the other.
+fn put_three(
+    text: &mut Vec<u8>,
+    first: &[u8],
+    middle: &[u8],
+    last: &[u8],
+) -> Result<(), AllocError> {
+    text.extend_from_slice(first)?;
+    text.extend_from_slice(middle)?;
+    text.extend_from_slice(last)
 }
 
 /// The smallest derivation with that value under the key `k`.
 fn with_value(alloc: Global) -> Result<Derivation, AtermError> {
-    let key = ByteString::from_slice(alloc, b"k")?;
-    let value = ByteString::from_slice(alloc, &VALUE)?;
     let mut env = Vec::new(alloc);
-    env.push(EnvEntry { key, value })?;
-    smallest(alloc, b"s", env)
+    match push_value(alloc, &mut env) {
+        Ok(()) => smallest(alloc, b"s", env),
+        Err(_) => {
+            drop(env);
+            Err(AtermError::Memory)
+        }
+    }
+}
+
+/// Adds that value under the key `k`.
+fn push_value(alloc: Global, env: &mut Vec<EnvEntry>) -> Result<(), AllocError> {
+    let key = ByteString::from_slice(alloc, b"k")?;
+    match ByteString::from_slice(alloc, &VALUE) {
+        Ok(value) => Ok(env.push(EnvEntry { key, value })?),
+        Err(refused) => {
+            drop(key);
+            Err(refused)
+        }
+    }
+}
+
+/// Whether a derivation has an environment of one entry, which has the value.
+fn has_one_value(derivation: &Derivation) -> bool {
+    match derivation.env.as_slice() {
+        [entry] => entry.value.as_slice() == VALUE.as_slice(),
+        _ => false,
+    }
 }
 
 /// Whether this is a derivation with this text and an environment of one entry, which has the value.
 fn has_value(alloc: Global, answer: Result<Derivation, AtermError>, text: &[u8]) -> bool {
     match answer {
-        Ok(derivation) => match derivation.env.as_slice() {
-            [entry] => {
-                entry.value.as_slice() == VALUE.as_slice() && is_written(alloc, &derivation, text)
-            }
-            _ => false,
-        },
+        Ok(derivation) => {
+            let is_so = has_one_value(&derivation) && is_written(alloc, &derivation, text);
+            drop(derivation);
+            is_so
+        }
         Err(_) => false,
     }
 }
@@ -89,8 +159,10 @@ fn has_value(alloc: Global, answer: Result<Derivation, AtermError>, text: &[u8])
 fn is_escaped(alloc: Global) -> bool {
     match escaped(alloc) {
         Ok(text) => {
-            has_value(alloc, with_value(alloc), &text)
-                && has_value(alloc, parse(alloc, &text), &text)
+            let is_so = has_value(alloc, with_value(alloc), &text)
+                && has_value(alloc, parse(alloc, &text), &text);
+            drop(text);
+            is_so
         }
         Err(_) => false,
     }
@@ -104,7 +176,10 @@ fn escapes(rt: HostRuntime) {
 /// Whether a text is refused so.
 fn is_refused(alloc: Global, text: &[u8], refusal: AtermError) -> bool {
     match parse(alloc, text) {
-        Ok(_) => false,
+        Ok(derivation) => {
+            drop(derivation);
+            false
+        }
         Err(why) => why == refusal,
     }
 }
@@ -149,17 +224,17 @@ fn proper_prefixes(rt: HostRuntime) {
 
 /// The text of the smallest derivation with this platform.
 fn long_text(alloc: Global, platform: &[u8]) -> Result<Vec<u8>, AllocError> {
-    let mut text = Vec::from_slice(alloc, b"Derive([],[],[],\"")?;
-    text.extend_from_slice(platform)?;
-    text.extend_from_slice(b"\",\"b\",[],[])")?;
-    Ok(text)
+    joined(alloc, b"Derive([],[],[],\"", platform, b"\",\"b\",[],[])")
 }
 
 /// Whether this is a derivation with this text and a platform of 16,777,187 letters.
 fn is_longest(alloc: Global, answer: Result<Derivation, AtermError>, text: &[u8]) -> bool {
     match answer {
         Ok(derivation) => {
-            derivation.platform.len() == 16_777_187 && is_written(alloc, &derivation, text)
+            let is_so = derivation.platform.len() == 16_777_187
+                && is_written(alloc, &derivation, text);
+            drop(derivation);
+            is_so
         }
         Err(_) => false,
     }
@@ -169,9 +244,11 @@ fn is_longest(alloc: Global, answer: Result<Derivation, AtermError>, text: &[u8]
 fn is_taken(alloc: Global, platform: &[u8]) -> bool {
     match long_text(alloc, platform) {
         Ok(text) => {
-            text.len() == 16_777_216
+            let is_so = text.len() == 16_777_216
                 && is_longest(alloc, parse(alloc, &text), &text)
-                && is_longest(alloc, smallest(alloc, platform, Vec::new(alloc)), &text)
+                && is_longest(alloc, smallest(alloc, platform, Vec::new(alloc)), &text);
+            drop(text);
+            is_so
         }
         Err(_) => false,
     }
@@ -180,10 +257,11 @@ fn is_taken(alloc: Global, platform: &[u8]) -> bool {
 /// Whether this is a derivation whose text is too long to be written.
 fn is_unwritten(alloc: Global, answer: Result<Derivation, AtermError>) -> bool {
     match answer {
-        Ok(derivation) => match write(alloc, &derivation) {
-            Ok(_) => false,
-            Err(why) => why == AtermError::TooLong,
-        },
+        Ok(derivation) => {
+            let answer = write(alloc, &derivation);
+            drop(derivation);
+            answer.err() == Some(AtermError::TooLong)
+        }
         Err(_) => false,
     }
 }
@@ -192,8 +270,10 @@ fn is_unwritten(alloc: Global, answer: Result<Derivation, AtermError>) -> bool {
 fn is_too_long(alloc: Global, platform: &[u8]) -> bool {
     match long_text(alloc, platform) {
         Ok(text) => {
-            is_refused(alloc, &text, AtermError::TooLong)
-                && is_unwritten(alloc, smallest(alloc, platform, Vec::new(alloc)))
+            let is_so = is_refused(alloc, &text, AtermError::TooLong)
+                && is_unwritten(alloc, smallest(alloc, platform, Vec::new(alloc)));
+            drop(text);
+            is_so
         }
         Err(_) => false,
     }
@@ -203,7 +283,11 @@ fn is_too_long(alloc: Global, platform: &[u8]) -> bool {
 fn is_limited(alloc: Global, letters: usize, accepted: bool) -> bool {
     match vec![in alloc; b's'; letters] {
         Ok(platform) if accepted => is_taken(alloc, &platform),
-        Ok(platform) => is_too_long(alloc, &platform),
+        Ok(platform) => {
+            let is_so = is_too_long(alloc, &platform);
+            drop(platform);
+            is_so
+        }
         Err(_) => false,
     }
 }

@@ -3,21 +3,42 @@
 use crate::values::{is_listed, last_machine, machines_of, need_of};
 use nd_bytes::ByteString;
 use nd_eligible::{Classes, Local, Need, eligible, local_ok, words};
+use nd_machines::{FeatureSet, Machine};
 use std::alloc::{AllocError, Global};
 
 /// The settings of an `x86_64-linux` machine that builds for `i686-linux` too and has the feature
 /// `kvm`.
 fn local_of(alloc: Global, jobs: u32) -> Result<Option<Local>, AllocError> {
     let system = ByteString::from_slice(alloc, b"x86_64-linux")?;
+    match two_sets(alloc) {
+        Ok((extra, features)) => Ok(Local::new(system, extra, features, jobs)),
+        Err(refused) => {
+            drop(system);
+            Err(refused)
+        }
+    }
+}
+
+/// The further system and the feature of that machine.
+fn two_sets(alloc: Global) -> Result<(FeatureSet, FeatureSet), AllocError> {
     let extra = words(alloc, b"i686-linux")?;
-    let features = words(alloc, b"kvm")?;
-    Ok(Local::new(system, extra, features, jobs))
+    match words(alloc, b"kvm") {
+        Ok(features) => Ok((extra, features)),
+        Err(refused) => {
+            drop(extra);
+            Err(refused)
+        }
+    }
 }
 
 /// Whether settings with this many jobs are taken, or not.
 fn are_jobs(alloc: Global, jobs: u32, taken: bool) -> bool {
     match local_of(alloc, jobs) {
-        Ok(settings) => settings.is_some() == taken,
+        Ok(settings) => {
+            let is_so = settings.is_some() == taken;
+            drop(settings);
+            is_so
+        }
         Err(_) => false,
     }
 }
@@ -32,9 +53,25 @@ fn local_jobs_limit(rt: HostRuntime) {
 
 /// Whether the machine of a list of one is, or is not, eligible for this platform and these features.
 fn is_eligible(alloc: Global, list: &[u8], system: &[u8], features: &[u8], want: bool) -> bool {
-    match (last_machine(alloc, list), need_of(alloc, system, features)) {
-        (Some(machine), Ok(need)) => eligible(&machine, &need) == want,
-        _ => false,
+    match last_machine(alloc, list) {
+        Some(machine) => {
+            let is_so = is_for(alloc, &machine, system, features, want);
+            drop(machine);
+            is_so
+        }
+        None => false,
+    }
+}
+
+/// The same of this machine.
+fn is_for(alloc: Global, machine: &Machine, system: &[u8], features: &[u8], want: bool) -> bool {
+    match need_of(alloc, system, features) {
+        Ok(need) => {
+            let is_so = eligible(machine, &need) == want;
+            drop(need);
+            is_so
+        }
+        Err(_) => false,
     }
 }
 
@@ -57,6 +94,17 @@ fn platforms(rt: HostRuntime) {
 /// Four needs without features.
 fn four_needs(alloc: Global) -> Result<Vec<Need>, AllocError> {
     let mut needs = Vec::new(alloc);
+    match push_four(alloc, &mut needs) {
+        Ok(()) => Ok(needs),
+        Err(refused) => {
+            drop(needs);
+            Err(refused)
+        }
+    }
+}
+
+/// Adds four needs without features.
+fn push_four(alloc: Global, needs: &mut Vec<Need>) -> Result<(), AllocError> {
     let systems: [&[u8]; 4] = [
         b"x86_64-linux",
         b"aarch64-linux",
@@ -67,16 +115,23 @@ fn four_needs(alloc: Global) -> Result<Vec<Need>, AllocError> {
         let need = need_of(alloc, system, b"")?;
         needs.push(need)?;
     }
-    Ok(needs)
+    Ok(())
 }
 
 /// The classes of these needs over three machines.
 fn four_classes(alloc: Global) -> Option<Classes> {
     let list = b"a x86_64-linux;b aarch64-linux;c";
-    match (machines_of(alloc, list), four_needs(alloc)) {
-        (Ok(machines), Ok(needs)) => Classes::new(alloc, &machines, &needs).ok(),
-        _ => None,
-    }
+    let needs = four_needs(alloc).ok()?;
+    let classes = match machines_of(alloc, list) {
+        Ok(machines) => {
+            let classes = Classes::new(alloc, &machines, &needs).ok();
+            drop(machines);
+            classes
+        }
+        Err(_) => None,
+    };
+    drop(needs);
+    classes
 }
 
 /// Whether these are the machines of a need.
@@ -88,11 +143,13 @@ fn has_machines(classes: &Classes, need: usize, want: &[usize]) -> bool {
 fn are_copied(alloc: Global, classes: &Classes) -> bool {
     match classes.try_clone(alloc) {
         Ok(copy) => {
-            copy.len() == 4
+            let is_so = copy.len() == 4
                 && has_machines(&copy, 0, &[0, 2])
                 && has_machines(&copy, 1, &[1])
                 && has_machines(&copy, 2, &[0, 2])
-                && has_machines(&copy, 3, &[0, 1, 2])
+                && has_machines(&copy, 3, &[0, 1, 2]);
+            drop(copy);
+            is_so
         }
         Err(_) => false,
     }
@@ -101,7 +158,11 @@ fn are_copied(alloc: Global, classes: &Classes) -> bool {
 /// Whether the classes are those of the example.
 fn are_classes(alloc: Global) -> bool {
     match four_classes(alloc) {
-        Some(classes) => are_copied(alloc, &classes),
+        Some(classes) => {
+            let is_so = are_copied(alloc, &classes);
+            drop(classes);
+            is_so
+        }
         None => false,
     }
 }
@@ -114,7 +175,11 @@ fn machine_classes(rt: HostRuntime) {
 /// A copy of settings with one job.
 fn copied_settings(alloc: Global) -> Option<Local> {
     match local_of(alloc, 1) {
-        Ok(Some(settings)) => settings.try_clone(alloc).ok(),
+        Ok(Some(settings)) => {
+            let copy = settings.try_clone(alloc).ok();
+            drop(settings);
+            copy
+        }
         _ => None,
     }
 }
@@ -122,7 +187,11 @@ fn copied_settings(alloc: Global) -> Option<Local> {
 /// Whether the settings pass, or don't pass, the local test for this platform and these features.
 fn passes(local: &Local, alloc: Global, system: &[u8], features: &[u8], want: bool) -> bool {
     match need_of(alloc, system, features) {
-        Ok(need) => local_ok(local, &need) == want,
+        Ok(need) => {
+            let is_so = local_ok(local, &need) == want;
+            drop(need);
+            is_so
+        }
         Err(_) => false,
     }
 }
@@ -132,12 +201,14 @@ fn passes(local: &Local, alloc: Global, system: &[u8], features: &[u8], want: bo
 fn is_on_its_own(alloc: Global) -> bool {
     match copied_settings(alloc) {
         Some(local) => {
-            local.jobs() == 1
+            let is_so = local.jobs() == 1
                 && passes(&local, alloc, b"x86_64-linux", b"kvm", true)
                 && passes(&local, alloc, b"i686-linux", b"", true)
                 && passes(&local, alloc, b"aarch64-linux", b"", false)
                 && passes(&local, alloc, b"builtin", b"", false)
-                && passes(&local, alloc, b"x86_64-linux", b"big-parallel", false)
+                && passes(&local, alloc, b"x86_64-linux", b"big-parallel", false);
+            drop(local);
+            is_so
         }
         None => false,
     }
@@ -151,16 +222,38 @@ fn local_platforms(rt: HostRuntime) {
 /// A copy of a need for the platform `builtin`, of a builtin derivation.
 fn builtin_need(alloc: Global) -> Result<Need, AllocError> {
     let need = need_of(alloc, b"builtin", b"")?;
-    let mut copy = need.try_clone(alloc)?;
-    copy.builtin = true;
-    Ok(copy)
+    let copy = need.try_clone(alloc);
+    drop(need);
+    match copy {
+        Ok(mut copy) => {
+            copy.builtin = true;
+            Ok(copy)
+        }
+        Err(refused) => Err(refused),
+    }
 }
 
 /// Whether these settings pass the local test for it.
 fn is_builtin_taken(alloc: Global) -> bool {
-    match (copied_settings(alloc), builtin_need(alloc)) {
-        (Some(local), Ok(need)) => local_ok(&local, &need),
-        _ => false,
+    match copied_settings(alloc) {
+        Some(local) => {
+            let is_so = takes_builtin(alloc, &local);
+            drop(local);
+            is_so
+        }
+        None => false,
+    }
+}
+
+/// Whether these do.
+fn takes_builtin(alloc: Global, local: &Local) -> bool {
+    match builtin_need(alloc) {
+        Ok(need) => {
+            let is_so = local_ok(local, &need);
+            drop(need);
+            is_so
+        }
+        Err(_) => false,
     }
 }
 
@@ -172,7 +265,11 @@ fn builtin_derivations(rt: HostRuntime) {
 /// Whether the words of a text are the items of a list.
 fn has_words(alloc: Global, text: &[u8], list: &[u8]) -> bool {
     match words(alloc, text) {
-        Ok(set) => is_listed(alloc, &set, list),
+        Ok(set) => {
+            let is_so = is_listed(alloc, &set, list);
+            drop(set);
+            is_so
+        }
         Err(_) => false,
     }
 }
@@ -180,7 +277,11 @@ fn has_words(alloc: Global, text: &[u8], list: &[u8]) -> bool {
 /// Whether a text has no word.
 fn has_none(alloc: Global, text: &[u8]) -> bool {
     match words(alloc, text) {
-        Ok(set) => set.is_empty(),
+        Ok(set) => {
+            let is_so = set.is_empty();
+            drop(set);
+            is_so
+        }
         Err(_) => false,
     }
 }

@@ -22,7 +22,11 @@ fn is_reply(
     let loads = [machine.0];
     let ups = [machine.1];
     match plain_need(alloc) {
-        Ok(need) => reply(machines, &loads[..count], &ups[..count], &need, loc_free) == want,
+        Ok(need) => {
+            let is_so = reply(machines, &loads[..count], &ups[..count], &need, loc_free) == want;
+            drop(need);
+            is_so
+        }
         Err(_) => false,
     }
 }
@@ -35,18 +39,22 @@ fn is_written(alloc: Global, machines: &[Machine], told: Reply, text: &[u8]) -> 
         }
     }
     let mut out = Told::new(Vec::new(alloc));
-    match write_reply(&told, machines, &mut out) {
-        Ok(()) => !out.marked() && out.into_inner().as_slice() == text,
-        Err(_) => false,
-    }
+    let is_ok = write_reply(&told, machines, &mut out).is_ok();
+    let marked = out.marked();
+    let written = out.into_inner();
+    let is_so = is_ok && !marked && written.as_slice() == text;
+    drop(written);
+    is_so
 }
 
 /// Whether the reply on the idle machine of a list of at most one is this, and is written so.
 fn is_told(alloc: Global, list: &[u8], told: Reply, text: &[u8]) -> bool {
     match machines_of(alloc, list) {
         Ok(machines) => {
-            is_reply(alloc, &machines, (0, true), false, told)
-                && is_written(alloc, &machines, told, text)
+            let is_so = is_reply(alloc, &machines, (0, true), false, told)
+                && is_written(alloc, &machines, told, text);
+            drop(machines);
+            is_so
         }
         Err(_) => false,
     }
@@ -77,7 +85,11 @@ fn are_replies(alloc: Global, machines: &[Machine]) -> bool {
 /// The same of the machine `m`.
 fn are_told(alloc: Global) -> bool {
     match machines_of(alloc, b"m") {
-        Ok(machines) => are_replies(alloc, &machines),
+        Ok(machines) => {
+            let is_so = are_replies(alloc, &machines);
+            drop(machines);
+            is_so
+        }
         Err(_) => false,
     }
 }
@@ -100,7 +112,9 @@ fn is_decision(
     match plain_need(alloc) {
         Ok(mut need) => {
             need.prefer_local = prefer_local;
-            decide(machines, &[load], &[up], &need, loc, loc_free) == want
+            let is_so = decide(machines, &[load], &[up], &need, loc, loc_free) == want;
+            drop(need);
+            is_so
         }
         Err(_) => false,
     }
@@ -115,7 +129,11 @@ fn is_decided(
     want: Decision,
 ) -> bool {
     match machines_of(alloc, b"m") {
-        Ok(machines) => is_decision(alloc, &machines, machine, prefer_local, local, want),
+        Ok(machines) => {
+            let is_so = is_decision(alloc, &machines, machine, prefer_local, local, want);
+            drop(machines);
+            is_so
+        }
         Err(_) => false,
     }
 }
@@ -226,22 +244,29 @@ fn short_writer(alloc: Global, most: usize, left: usize) -> Told<Short> {
 /// exactly where it is refused, with a part of the text out, from its beginning.
 fn is_part_written(machines: &[Machine], mut out: Told<Short>, whole: bool) -> bool {
     if machines.len() != 1 {
+        drop(out);
         return false;
     }
     let text = b"# accept\nssh://m\n".as_slice();
     let answer = write_reply(&Reply::Accept(0), machines, &mut out);
     let marked = out.marked();
-    let written = out.into_inner().bytes;
-    answer.is_ok() == whole
+    let written = out.into_inner();
+    let is_so = answer.is_ok() == whole
         && marked == (answer == Err(WriteError::Write))
-        && text.starts_with(&written)
-        && (written.len() == text.len()) == whole
+        && text.starts_with(&written.bytes)
+        && (written.bytes.len() == text.len()) == whole;
+    drop(written);
+    is_so
 }
 
 /// The same of the machine `m`.
 fn is_short(alloc: Global, most: usize, left: usize, whole: bool) -> bool {
     match machines_of(alloc, b"m") {
-        Ok(machines) => is_part_written(&machines, short_writer(alloc, most, left), whole),
+        Ok(machines) => {
+            let is_so = is_part_written(&machines, short_writer(alloc, most, left), whole);
+            drop(machines);
+            is_so
+        }
         Err(_) => false,
     }
 }
@@ -251,7 +276,9 @@ fn is_marked_by_more(mut out: Told<Short>) -> bool {
     let empty = out.put(b"");
     let early = out.marked();
     let more = out.put(b"x");
-    empty == Ok(0) && !early && more == Err(Fault) && out.marked()
+    let is_so = empty == Ok(0) && !early && more == Err(Fault) && out.marked();
+    drop(out);
+    is_so
 }
 
 /// Whether this is read of a reader that refuses after this many calls, which is then marked exactly
@@ -268,7 +295,11 @@ fn is_dripped(alloc: Global, left: usize, limit: usize, want: Result<usize, Take
 /// Whether the whole of a text is read.
 fn is_read(alloc: Global, text: &[u8]) -> bool {
     match Told::new(text).take_all(alloc, 3) {
-        Ok(bytes) => bytes.as_slice() == text,
+        Ok(bytes) => {
+            let is_so = bytes.as_slice() == text;
+            drop(bytes);
+            is_so
+        }
         Err(_) => false,
     }
 }

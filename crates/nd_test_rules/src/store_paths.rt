@@ -23,13 +23,19 @@ fn is_fold_spelled(digits: &str, text: &[u8; 32]) -> bool {
 /// The path of the text `abc` with the one reference, under this name.
 fn path_of_abc(alloc: Global, name: &[u8]) -> Result<StorePath, PathError> {
     let reference = StorePath::parse(alloc, REFERENCE)?;
-    text_path(alloc, name, slice::from_ref(&reference), b"abc")
+    let path = text_path(alloc, name, slice::from_ref(&reference), b"abc");
+    drop(reference);
+    path
 }
 
 /// Whether an answer is this path.
 fn is_path(answer: Result<StorePath, PathError>, text: &[u8]) -> bool {
     match answer {
-        Ok(path) => path.bytes() == text,
+        Ok(path) => {
+            let is_so = path.bytes() == text;
+            drop(path);
+            is_so
+        }
         Err(_) => false,
     }
 }
@@ -37,7 +43,10 @@ fn is_path(answer: Result<StorePath, PathError>, text: &[u8]) -> bool {
 /// Whether an answer is this refusal.
 fn is_refused(answer: Result<StorePath, PathError>, refusal: PathError) -> bool {
     match answer {
-        Ok(_) => false,
+        Ok(path) => {
+            drop(path);
+            false
+        }
         Err(why) => why == refusal,
     }
 }
@@ -61,24 +70,43 @@ fn base32_and_fold(rt: HostRuntime) {
 
 /// A text of the store directory, 32 times the digit, a dash and a name of this many letters `n`.
 fn path_text(alloc: Global, digit: u8, name_length: usize) -> Result<Vec<u8>, AllocError> {
-    let name = vec![in alloc; b'n'; name_length]?;
-    let mut text = Vec::from_slice(alloc, b"/nix/store/")?;
+    let mut text = Vec::new(alloc);
+    match put_path_text(&mut text, digit, name_length) {
+        Ok(()) => Ok(text),
+        Err(refused) => {
+            drop(text);
+            Err(refused)
+        }
+    }
+}
+
+/// Puts that text.
+fn put_path_text(text: &mut Vec<u8>, digit: u8, name_length: usize) -> Result<(), AllocError> {
+    text.extend_from_slice(b"/nix/store/")?;
     text.extend_from_slice(&[digit; 32])?;
     text.push(b'-')?;
-    text.extend_from_slice(&name)?;
-    Ok(text)
+    for _ in 0..name_length {
+        text.push(b'n')?;
+    }
+    Ok(())
 }
 
 /// The path of that text.
 fn path_of(alloc: Global, digit: u8, name_length: usize) -> Result<StorePath, PathError> {
     let text = path_text(alloc, digit, name_length)?;
-    StorePath::parse(alloc, &text)
+    let path = StorePath::parse(alloc, &text);
+    drop(text);
+    path
 }
 
 /// Whether an answer is a path of this length.
 fn has_length(answer: Result<StorePath, PathError>, length: usize) -> bool {
     match answer {
-        Ok(path) => path.bytes().len() == length,
+        Ok(path) => {
+            let is_so = path.bytes().len() == length;
+            drop(path);
+            is_so
+        }
         Err(_) => false,
     }
 }
@@ -86,7 +114,11 @@ fn has_length(answer: Result<StorePath, PathError>, length: usize) -> bool {
 /// Whether a path is equal to its copy.
 fn is_copied(path: &StorePath) -> bool {
     match path.try_clone() {
-        Ok(copy) => copy == *path,
+        Ok(copy) => {
+            let is_so = copy == *path;
+            drop(copy);
+            is_so
+        }
         Err(_) => false,
     }
 }
@@ -94,7 +126,11 @@ fn is_copied(path: &StorePath) -> bool {
 /// Whether an answer is the path of a derivation with the name `.drv`, and is copied.
 fn is_nameless(answer: Result<StorePath, PathError>) -> bool {
     match answer {
-        Ok(path) => path.name() == b".drv".as_slice() && path.is_drv() && is_copied(&path),
+        Ok(path) => {
+            let is_so = path.name() == b".drv".as_slice() && path.is_drv() && is_copied(&path);
+            drop(path);
+            is_so
+        }
         Err(_) => false,
     }
 }
@@ -116,17 +152,32 @@ fn store_path_names(rt: HostRuntime) {
 /// The set of the paths with these digits.
 fn set_of(alloc: Global, digits: &[u8]) -> Result<PathSet, PathError> {
     let mut paths = Vec::new(alloc);
+    match push_paths(alloc, &mut paths, digits) {
+        Ok(()) => Ok(PathSet::from_vec(paths)?),
+        Err(refused) => {
+            drop(paths);
+            Err(refused)
+        }
+    }
+}
+
+/// Adds the paths with these digits.
+fn push_paths(alloc: Global, paths: &mut Vec<StorePath>, digits: &[u8]) -> Result<(), PathError> {
     for digit in digits {
         let path = path_of(alloc, *digit, 1)?;
         paths.push(path)?;
     }
-    Ok(PathSet::from_vec(paths)?)
+    Ok(())
 }
 
 /// Whether the set lacks the path with this digit.
 fn lacks(alloc: Global, set: &PathSet, digit: u8) -> bool {
     match path_of(alloc, digit, 1) {
-        Ok(path) => !set.contains(&path),
+        Ok(path) => {
+            let is_so = !set.contains(&path);
+            drop(path);
+            is_so
+        }
         Err(_) => false,
     }
 }
@@ -144,7 +195,13 @@ fn has_its_own(set: &PathSet) -> bool {
 /// Whether a set of three is equal to its copy, and the copy is given back as three paths.
 fn is_set_copied(set: &PathSet) -> bool {
     match set.try_clone() {
-        Ok(copy) => copy == *set && copy.into_vec().len() == 3,
+        Ok(copy) => {
+            let is_same = copy == *set;
+            let paths = copy.into_vec();
+            let count = paths.len();
+            drop(paths);
+            is_same && count == 3
+        }
         Err(_) => false,
     }
 }
@@ -153,7 +210,12 @@ fn is_set_copied(set: &PathSet) -> bool {
 fn is_three(alloc: Global, answer: Result<PathSet, PathError>) -> bool {
     match answer {
         Ok(set) => {
-            set.len() == 3 && lacks(alloc, &set, b'r') && has_its_own(&set) && is_set_copied(&set)
+            let is_so = set.len() == 3
+                && lacks(alloc, &set, b'r')
+                && has_its_own(&set)
+                && is_set_copied(&set);
+            drop(set);
+            is_so
         }
         Err(_) => false,
     }

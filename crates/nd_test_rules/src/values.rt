@@ -14,21 +14,30 @@ pub(crate) fn machines_of(alloc: Global, text: &[u8]) -> Result<Vec<Machine>, Ma
 /// The last machine of a list.
 pub(crate) fn last_machine(alloc: Global, text: &[u8]) -> Option<Machine> {
     match machines_of(alloc, text) {
-        Ok(mut machines) => machines.pop(),
+        Ok(mut machines) => {
+            let last = machines.pop();
+            drop(machines);
+            last
+        }
         Err(_) => None,
     }
 }
 
 /// A need for this platform and these features.
 pub(crate) fn need_of(alloc: Global, system: &[u8], features: &[u8]) -> Result<Need, AllocError> {
-    let system = ByteString::from_slice(alloc, system)?;
     let features = words(alloc, features)?;
-    Ok(Need {
-        system,
-        features,
-        prefer_local: false,
-        builtin: false,
-    })
+    match ByteString::from_slice(alloc, system) {
+        Ok(system) => Ok(Need {
+            system,
+            features,
+            prefer_local: false,
+            builtin: false,
+        }),
+        Err(refused) => {
+            drop(features);
+            Err(refused)
+        }
+    }
 }
 
 /// The need of a plain `x86_64-linux` derivation.
@@ -39,7 +48,11 @@ pub(crate) fn plain_need(alloc: Global) -> Result<Need, AllocError> {
 /// Whether a set has just the items of a list. Want of memory is a no.
 pub(crate) fn is_listed(alloc: Global, set: &FeatureSet, list: &[u8]) -> bool {
     match FeatureSet::from_list(alloc, list) {
-        Ok(listed) => *set == listed,
+        Ok(listed) => {
+            let is_so = *set == listed;
+            drop(listed);
+            is_so
+        }
         Err(_) => false,
     }
 }
@@ -47,7 +60,11 @@ pub(crate) fn is_listed(alloc: Global, set: &FeatureSet, list: &[u8]) -> bool {
 /// Whether a value is printed so. Want of memory is a no.
 pub(crate) fn is_printed<T: fmt::Display>(alloc: Global, value: &T, text: &str) -> bool {
     match format!(in alloc; "{value}") {
-        Ok(printed) => printed.as_str() == text,
+        Ok(printed) => {
+            let is_so = printed.as_str() == text;
+            drop(printed);
+            is_so
+        }
         Err(_) => false,
     }
 }
