@@ -1,3 +1,1 @@
 pub mod Bundles
-pub mod Failures
-pub mod Options

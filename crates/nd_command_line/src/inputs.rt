@@ -1,18 +1,17 @@
 //! What a command over a bundle reads before it begins, and what it answers in the end.
 
 ghost use Rattle.std.specs.Prelude.{◌≡◌, false, IfErr, IfOk};
-ghost use Rattle.nd_command_line.specs.Failures.{IsUnread};
-ghost use Rattle.nd_command_line.specs.Options.{AreOptionsIn};
+ghost use Rattle.nd_options.specs.Failures.{IsUnread};
+ghost use Rattle.nd_options.specs.Options.{AreOptionsIn};
 
 use crate::bundles::{Bundle, bundle_of};
 use crate::failing::{Given, failure, heard, write_failure};
-use crate::files::file_or_nothing;
-use crate::options::park_options;
 use clap::ArgMatches;
 use nd_bytes::ByteString;
 use nd_cli::{CliFault, ParkOptions};
 use nd_devices::Told;
 use nd_explain::{Failure, Heard};
+use nd_options::{file_or_nothing, park_options};
 use std::alloc::Global;
 use std::io::{Read, Write};
 use std::rt::Files;
@@ -99,13 +98,20 @@ pub fn answered<'a, I: Read + Drop, F: Read + Drop, W: Write + Drop>(
     match answer {
         Ok(status) => {
             drop(inputs);
+            drop(output);
             Ok(status)
         }
         Err(CliFault::Write) => {
             drop(inputs);
-            Err(write_failure(&output.into_inner()))
+            let output = output.into_inner();
+            let failure = write_failure(&output);
+            drop(output);
+            Err(failure)
         }
-        Err(fault) => Err(inputs.failure(alloc, options, fault)),
+        Err(fault) => {
+            drop(output);
+            Err(inputs.failure(alloc, options, fault))
+        }
     }
 }
 
@@ -120,11 +126,16 @@ impl<I: Read + Drop, F: Read + Drop> Inputs<I, F> {
         ensures { result.fault ≡ fault }
     {
         let Inputs { park, own, bundle } = self;
+        let bundle = bundle.into_inner();
         let given = Given {
             options,
             park: &park,
             other: own.as_slice(),
         };
-        failure(alloc, fault, given, &bundle.into_inner())
+        let known = failure(alloc, fault, given, &bundle);
+        drop(bundle);
+        drop(own);
+        drop(park);
+        known
     }
 }

@@ -3,20 +3,240 @@
 use clap::{Arg, ArgAction, Command, value_parser};
 use std::alloc::{AllocError, Global};
 
+/// What a word of a command takes.
+#[derive(Clone, Copy)]
+enum Takes {
+    /// It stands for itself, and is called so in the help.
+    Itself(&'static str),
+    /// No value: it is a flag.
+    Nothing,
+    /// A value, which is called so in the help and may be any word.
+    Value(&'static str),
+    /// The same, and this is its value without the option.
+    ValueOr(&'static str, &'static str),
+    /// The same, where it has to be a number of 16 bits.
+    NumberOr(&'static str, &'static str),
+}
+
+/// What a word of a command asks of others.
+#[derive(Clone, Copy)]
+enum Bond {
+    /// Nothing.
+    Free,
+    /// It has to be given.
+    Required,
+    /// It isn't given together with this one.
+    Without(&'static str),
+    /// It isn't given without this one.
+    With(&'static str),
+}
+
+/// A word of a command: an option, or one that stands for itself.
+#[derive(Clone, Copy)]
+struct Word {
+    name: &'static str,
+    takes: Takes,
+    bond: Bond,
+    help: &'static str,
+}
+
+/// A command, and its words in the order of its help.
+#[derive(Clone, Copy)]
+struct Known {
+    name: &'static str,
+    about: &'static str,
+    words: &'static [&'static [Word]],
+}
+
+/// The commands.
+const COMMANDS: &[Known] = &[
+    Known {
+        name: "path",
+        about: "Prints the store path of the derivation text on standard input",
+        words: &[NAME, EXPLAIN],
+    },
+    Known {
+        name: "ask",
+        about: "Writes, per derivation of the bundle, the hook's reply on an idle park",
+        words: &[BUNDLE, PARK, EXPLAIN],
+    },
+    Known {
+        name: "sim",
+        about: "Does what a script says over the bundle, and writes each step and a report",
+        words: &[BUNDLE, PARK, EXPLAIN, SCRIPT],
+    },
+    Known {
+        name: "audit",
+        about: "Says whether a history is a legal one over the bundle, and else why not",
+        words: &[BUNDLE, PARK, EXPLAIN, HISTORY],
+    },
+    Known {
+        name: "serve",
+        about: "Does one command of a script after another as it comes on standard input, and answers each",
+        words: &[BUNDLE_FILE, PARK, EXPLAIN, SESSION],
+    },
+    Known {
+        name: "run",
+        about: "Builds the bundle by agents, or with stand-ins for the machines, and writes the history",
+        words: &[BUNDLE, PARK, EXPLAIN, RUN],
+    },
+    Known {
+        name: "park",
+        about: "Writes a line for each slot of the park: machine, slot, URI, key and host key; reads no bundle",
+        words: &[BUNDLE, PARK, EXPLAIN],
+    },
+];
+
+/// The name of `path`.
+const NAME: &[Word] = &[Word {
+    name: "name",
+    takes: Takes::Itself("NAME"),
+    bond: Bond::Required,
+    help: "The name that the derivation is to have, as hello.drv",
+}];
+
+/// The bundle, which is read from standard input unless it is in a file.
+const BUNDLE: &[Word] = &[Word {
+    name: "bundle",
+    takes: Takes::Value("FILE"),
+    bond: Bond::Free,
+    help: "The file that holds the bundle, which else is read from standard input",
+}];
+
+/// The bundle, which is in a file.
+const BUNDLE_FILE: &[Word] = &[Word {
+    name: "bundle",
+    takes: Takes::Value("FILE"),
+    bond: Bond::Required,
+    help: "The file that holds the bundle",
+}];
+
+/// The other options of the commands over a bundle: the builders, the local machine, how a bundle is read and what
+/// a failure ends, and the references of paths.
+const PARK: &[Word] = &[
+    Word {
+        name: "builders",
+        takes: Takes::ValueOr("TEXT", ""),
+        bond: Bond::Free,
+        help: "The builders list, or @FILE to read it from a file",
+    },
+    Word {
+        name: "system",
+        takes: Takes::ValueOr("S", "x86_64-linux"),
+        bond: Bond::Free,
+        help: "The local system",
+    },
+    Word {
+        name: "extra",
+        takes: Takes::ValueOr("LIST", ""),
+        bond: Bond::Free,
+        help: "Further local systems, between commas",
+    },
+    Word {
+        name: "features",
+        takes: Takes::ValueOr("LIST", ""),
+        bond: Bond::Free,
+        help: "The local features, between commas",
+    },
+    Word {
+        name: "jobs",
+        takes: Takes::NumberOr("N", "1"),
+        bond: Bond::Free,
+        help: "The local jobs, 0 to 65535",
+    },
+    Word {
+        name: "keep-going",
+        takes: Takes::Nothing,
+        bond: Bond::Free,
+        help: "After a failure goes on with what doesn't depend on it",
+    },
+    Word {
+        name: "check-paths",
+        takes: Takes::Nothing,
+        bond: Bond::Free,
+        help: "Refuses a derivation whose path isn't that of its text",
+    },
+    Word {
+        name: "info",
+        takes: Takes::Value("FILE"),
+        bond: Bond::Free,
+        help: "The references of paths: a line for each path, with the paths that it refers to",
+    },
+];
+
+/// The flag of every command by which a fault is explained.
+const EXPLAIN: &[Word] = &[Word {
+    name: "explain",
+    takes: Takes::Nothing,
+    bond: Bond::Free,
+    help: "Says behind a fault where it is, what stands there, its cause and its cure",
+}];
+
+/// The script of `sim`.
+const SCRIPT: &[Word] = &[Word {
+    name: "script",
+    takes: Takes::Value("FILE"),
+    bond: Bond::Required,
+    help: "The script: one command a line, as start 0, built 0, fail 0 1, down 0, stop, ask 1",
+}];
+
+/// The history of `audit`.
+const HISTORY: &[Word] = &[Word {
+    name: "history",
+    takes: Takes::Value("FILE"),
+    bond: Bond::Required,
+    help: "The history text that is audited",
+}];
+
+/// The journal of `serve`, and the flag of a session that goes on from it.
+const SESSION: &[Word] = &[
+    Word {
+        name: "journal",
+        takes: Takes::Value("FILE"),
+        bond: Bond::Free,
+        help: "Where each entry is kept and made durable before it is answered",
+    },
+    Word {
+        name: "resume",
+        takes: Takes::Nothing,
+        bond: Bond::With("journal"),
+        help: "Goes on from the history that the journal holds",
+    },
+];
+
+/// What `run` builds by, and whether it reports.
+const RUN: &[Word] = &[
+    Word {
+        name: "stand",
+        takes: Takes::Value("FILE"),
+        bond: Bond::Free,
+        help: "What the stand-ins answer: a line for each rule",
+    },
+    Word {
+        name: "agents",
+        takes: Takes::Value("FOLDER"),
+        bond: Bond::Without("stand"),
+        help: "Builds by agents: the folder of their files M.S.calls and M.S.answers",
+    },
+    Word {
+        name: "report",
+        takes: Takes::Nothing,
+        bond: Bond::Free,
+        help: "Writes the report behind the history",
+    },
+];
+
 /// The whole command line.
 pub fn command_line<'a>(alloc: Global) -> Result<Command<'a>, AllocError> {
-    let command = Command::new(alloc, "nix-dispatch")
+    let mut line = Command::new(alloc, "nix-dispatch")
         .version("0.1.0")
         .bin_name("nix-dispatch")?
         .about("Hands the derivations of a graph to local slots and remote builders")
         .subcommand_required(true);
-    let command = with_command(command, path_command(alloc))?;
-    let command = with_command(command, ask_command(alloc))?;
-    let command = with_command(command, sim_command(alloc))?;
-    let command = with_command(command, audit_command(alloc))?;
-    let command = with_command(command, serve_command(alloc))?;
-    let command = with_command(command, run_command(alloc))?;
-    with_command(command, park_command(alloc))
+    for known in COMMANDS {
+        line = with_command(line, command_of(alloc, known))?;
+    }
+    Ok(line)
 }
 
 /// The command line with one more command.
@@ -33,62 +253,35 @@ fn with_command<'a>(
     }
 }
 
-fn path_command<'a>(alloc: Global) -> Result<Command<'a>, AllocError> {
-    let name = Arg::new(alloc, "name")
-        .value_name("NAME")
-        .help("The name that the derivation is to have, as hello.drv")
-        .required(true)
-        .allow_hyphen_values(true)
-        .action(ArgAction::Set);
-    Command::new(alloc, "path")
-        .about("Prints the store path of the derivation text on standard input")
-        .arg(name)?
-        .arg(explain_flag(alloc))
+/// A command with its words.
+fn command_of<'a>(alloc: Global, known: &Known) -> Result<Command<'a>, AllocError> {
+    let mut command = Command::new(alloc, known.name).about(known.about);
+    for words in known.words {
+        command = with_words(alloc, command, words)?;
+    }
+    Ok(command)
 }
 
-fn ask_command<'a>(alloc: Global) -> Result<Command<'a>, AllocError> {
-    let command = Command::new(alloc, "ask").about(
-        "Writes, per derivation of the bundle, the hook's reply on an idle park",
-    );
-    with_park_options(alloc, command)
+/// A command with these words more.
+fn with_words<'a>(
+    alloc: Global,
+    command: Command<'a>,
+    words: &[Word],
+) -> Result<Command<'a>, AllocError> {
+    let mut command = command;
+    for word in words {
+        command = with_word(command, arg_of(alloc, word))?;
+    }
+    Ok(command)
 }
 
-fn sim_command<'a>(alloc: Global) -> Result<Command<'a>, AllocError> {
-    let command = Command::new(alloc, "sim").about(
-        "Does what a script says over the bundle, and writes each step and a report",
-    );
-    let command = with_park_options(alloc, command)?;
-    let script = text_option(alloc, "script", "FILE").required(true).help(
-        "The script: one command a line, as start 0, built 0, fail 0 1, down 0, stop, ask 1",
-    );
-    command.arg(script)
-}
-
-fn audit_command<'a>(alloc: Global) -> Result<Command<'a>, AllocError> {
-    let command = Command::new(alloc, "audit").about(
-        "Says whether a history is a legal one over the bundle, and else why not",
-    );
-    let command = with_park_options(alloc, command)?;
-    let history = text_option(alloc, "history", "FILE")
-        .required(true)
-        .help("The history text that is audited");
-    command.arg(history)
-}
-
-fn serve_command<'a>(alloc: Global) -> Result<Command<'a>, AllocError> {
-    let command = Command::new(alloc, "serve").about(
-        "Does one command of a script after another as it comes on standard input, and answers each",
-    );
-    let bundle = text_option(alloc, "bundle", "FILE")
-        .required(true)
-        .help("The file that holds the bundle");
-    let command = with_park_and(alloc, command, bundle)?;
-    let journal = text_option(alloc, "journal", "FILE").help(
-        "Where each entry is kept and made durable before it is answered",
-    );
-    let command = command.arg(journal)?;
-    match resume_flag(alloc) {
-        Ok(resume) => command.arg(resume),
+/// A command with one more word.
+fn with_word<'a>(
+    command: Command<'a>,
+    word: Result<Arg<'a>, AllocError>,
+) -> Result<Command<'a>, AllocError> {
+    match word {
+        Ok(word) => command.arg(word),
         Err(refused) => {
             drop(command);
             Err(refused)
@@ -96,117 +289,35 @@ fn serve_command<'a>(alloc: Global) -> Result<Command<'a>, AllocError> {
     }
 }
 
-/// The flag of a session that goes on from its journal.
-fn resume_flag<'a>(alloc: Global) -> Result<Arg<'a>, AllocError> {
-    Arg::new(alloc, "resume")
-        .long("resume")
-        .action(ArgAction::SetTrue)
-        .help("Goes on from the history that the journal holds")
-        .requires_arg("journal")
+/// A word of a command, with what it asks of others.
+fn arg_of<'a>(alloc: Global, word: &Word) -> Result<Arg<'a>, AllocError> {
+    let arg = plain_arg(alloc, word);
+    match word.bond {
+        Bond::Free => Ok(arg),
+        Bond::Required => Ok(arg.required(true)),
+        Bond::Without(other) => arg.conflicts_with(other),
+        Bond::With(other) => arg.requires_arg(other),
+    }
 }
 
-fn run_command<'a>(alloc: Global) -> Result<Command<'a>, AllocError> {
-    let command = Command::new(alloc, "run").about(
-        "Builds the bundle by agents, or with stand-ins for the machines, and writes the history",
-    );
-    let command = with_park_options(alloc, command)?;
-    let stand = text_option(alloc, "stand", "FILE").help(
-        "What the stand-ins answer: a line for each rule",
-    );
-    let command = command.arg(stand)?;
-    let agents = text_option(alloc, "agents", "FOLDER")
-        .help("Builds by agents: the folder of their files M.S.calls and M.S.answers")
-        .conflicts_with("stand")?;
-    let command = command.arg(agents)?;
-    let report = Arg::new(alloc, "report")
-        .long("report")
-        .action(ArgAction::SetTrue)
-        .help("Writes the report behind the history");
-    command.arg(report)
+/// A word of a command, with what it takes.
+fn plain_arg<'a>(alloc: Global, word: &Word) -> Arg<'a> {
+    let arg = Arg::new(alloc, word.name).help(word.help);
+    match word.takes {
+        Takes::Itself(value) => any_value(arg, value),
+        Takes::Nothing => arg.long(word.name).action(ArgAction::SetTrue),
+        Takes::Value(value) => any_value(arg, value).long(word.name),
+        Takes::ValueOr(value, text) => any_value(arg, value).long(word.name).default_value(text),
+        Takes::NumberOr(value, text) => any_value(arg, value)
+            .long(word.name)
+            .default_value(text)
+            .value_parser(value_parser!(u16)),
+    }
 }
 
-fn park_command<'a>(alloc: Global) -> Result<Command<'a>, AllocError> {
-    let command = Command::new(alloc, "park").about(
-        "Writes a line for each slot of the park: machine, slot, URI, key and host key; reads no bundle",
-    );
-    with_park_options(alloc, command)
-}
-
-/// The options of the commands that read the bundle on standard input, unless it is in a file.
-fn with_park_options<'a>(alloc: Global, command: Command<'a>) -> Result<Command<'a>, AllocError> {
-    let bundle = text_option(alloc, "bundle", "FILE").help(
-        "The file that holds the bundle, which else is read from standard input",
-    );
-    with_park_and(alloc, command, bundle)
-}
-
-/// This option for the bundle, and the other options of the commands over one.
-fn with_park_and<'a>(
-    alloc: Global,
-    command: Command<'a>,
-    bundle: Arg<'a>,
-) -> Result<Command<'a>, AllocError> {
-    let command = command.arg(bundle)?;
-    let builders = text_option(alloc, "builders", "TEXT")
-        .default_value("")
-        .help("The builders list, or @FILE to read it from a file");
-    let command = command.arg(builders)?;
-    let command = with_local_options(alloc, command)?;
-    let command = with_reading_flags(alloc, command)?;
-    let info = text_option(alloc, "info", "FILE").help(
-        "The references of paths: a line for each path, with the paths that it refers to",
-    );
-    command.arg(info)?.arg(explain_flag(alloc))
-}
-
-/// The options of the local machine.
-fn with_local_options<'a>(alloc: Global, command: Command<'a>) -> Result<Command<'a>, AllocError> {
-    let system = text_option(alloc, "system", "S")
-        .default_value("x86_64-linux")
-        .help("The local system");
-    let command = command.arg(system)?;
-    let extra = text_option(alloc, "extra", "LIST")
-        .default_value("")
-        .help("Further local systems, between commas");
-    let command = command.arg(extra)?;
-    let features = text_option(alloc, "features", "LIST")
-        .default_value("")
-        .help("The local features, between commas");
-    let command = command.arg(features)?;
-    let jobs = text_option(alloc, "jobs", "N")
-        .default_value("1")
-        .value_parser(value_parser!(u16))
-        .help("The local jobs, 0 to 65535");
-    command.arg(jobs)
-}
-
-/// The flags that say how a bundle is read, and what a failure ends.
-fn with_reading_flags<'a>(alloc: Global, command: Command<'a>) -> Result<Command<'a>, AllocError> {
-    let keep_going = Arg::new(alloc, "keep-going")
-        .long("keep-going")
-        .action(ArgAction::SetTrue)
-        .help("After a failure goes on with what doesn't depend on it");
-    let command = command.arg(keep_going)?;
-    let check_paths = Arg::new(alloc, "check-paths")
-        .long("check-paths")
-        .action(ArgAction::SetTrue)
-        .help("Refuses a derivation whose path isn't that of its text");
-    command.arg(check_paths)
-}
-
-/// The flag of every command by which a fault is explained.
-fn explain_flag<'a>(alloc: Global) -> Arg<'a> {
-    Arg::new(alloc, "explain")
-        .long("explain")
-        .action(ArgAction::SetTrue)
-        .help("Says behind a fault where it is, what stands there, its cause and its cure")
-}
-
-/// An option with a value, which may be any word.
-fn text_option<'a>(alloc: Global, name: &'a str, value: &'a str) -> Arg<'a> {
-    Arg::new(alloc, name)
-        .long(name)
-        .value_name(value)
+/// A word with a value that is called so in the help and may be any word.
+fn any_value<'a>(arg: Arg<'a>, value: &'a str) -> Arg<'a> {
+    arg.value_name(value)
         .allow_hyphen_values(true)
         .action(ArgAction::Set)
 }

@@ -111,7 +111,13 @@ fn agent_at<'a, R: Files<File = File>>(
     let calls = agent_file(rt, alloc, folder, machine, slot, "calls", &writing)?;
     let mut reading = OpenOptions::new();
     let _ = reading.read(true);
-    let answers = agent_file(rt, alloc, folder, machine, slot, "answers", &reading)?;
+    let answers = match agent_file(rt, alloc, folder, machine, slot, "answers", &reading) {
+        Ok(answers) => answers,
+        Err(failure) => {
+            drop(calls);
+            return Err(failure);
+        }
+    };
     match boxed_agent(alloc, answers, calls) {
         Ok(agent) => Ok(agent),
         Err(_) => Err(Failure::of(CliFault::Memory)),
@@ -124,10 +130,13 @@ fn boxed_agent(
     answers: File,
     calls: File,
 ) -> Result<Box<Agent<BufReader<File>, File>>, AllocError> {
-    let Ok(answers) = BufReader::new(alloc, answers) else {
-        return Err(AllocError);
-    };
-    Ok(Box::new(alloc, Agent::new(alloc, answers, calls))?)
+    match BufReader::new(alloc, answers) {
+        Ok(answers) => Ok(Box::new(alloc, Agent::new(alloc, answers, calls))?),
+        Err(_) => {
+            drop(calls);
+            Err(AllocError)
+        }
+    }
 }
 
 /// A file of an agent, opened so.
@@ -145,7 +154,9 @@ fn agent_file<'a, R: Files<File = File>>(
     let Ok(name) = format!(in alloc; "{folder}/{machine}.{slot}.{kind}") else {
         return Err(Failure::of(CliFault::Memory));
     };
-    match how.open(rt, name.as_str()) {
+    let opened = how.open(rt, name.as_str());
+    drop(name);
+    match opened {
         Ok(file) => Ok(file),
         Err(error) => {
             let source = Source::File {

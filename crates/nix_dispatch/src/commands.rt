@@ -4,7 +4,7 @@ use crate::agents::run_given;
 use crate::listing::list_park;
 use crate::serving::serve;
 use clap::ArgMatches;
-use clap::error::ErrorKind;
+use clap::error::{Error, ErrorKind};
 use nd_cli::{CliFault, ask_engine, path_engine};
 use nd_command_line::{answered, command_line, heard, path_failure, read_inputs, write_failure};
 use nd_commands::{audit_engine, sim_engine};
@@ -13,7 +13,7 @@ use nd_explain::{Failure, Heard};
 use std::alloc::Global;
 use std::fmt;
 use std::fs::File;
-use std::io::{self, BufWriter};
+use std::io::{self, BufWriter, Read, Write};
 use std::rt::Files;
 use std::sync::Wait;
 use std::thread::Threads;
@@ -32,13 +32,7 @@ pub(crate) fn run<
     };
     let matches = match command.try_get_matches_from(given) {
         Ok(matches) => matches,
-        Err(error) if error.kind() == ErrorKind::OutOfMemory => {
-            return told(rt, &CliFault::Memory);
-        }
-        Err(error) => {
-            let _ = error.print(rt);
-            return error.exit_code() as u8;
-        }
+        Err(error) => return refused_words(rt, error),
     };
     let answer = answer_to(rt, alloc, &matches);
     let explain = match matches.subcommand() {
@@ -48,9 +42,25 @@ pub(crate) fn run<
     drop(matches);
     match answer {
         Some(Ok(status)) => status,
-        Some(Err(failure)) => told_why(rt, &failure, explain),
+        Some(Err(failure)) => {
+            let status = told_why(rt, &failure, explain);
+            drop(failure);
+            status
+        }
         None => not_understood(rt, "the command line names no command"),
     }
+}
+
+/// Prints why the words aren't understood, or the help that they ask for, and answers the exit status.
+fn refused_words<R: Print + Eprint>(rt: &R, error: Error) -> u8 {
+    let status = if error.kind() == ErrorKind::OutOfMemory {
+        told(rt, &CliFault::Memory)
+    } else {
+        let _ = error.print(rt);
+        error.exit_code() as u8
+    };
+    drop(error);
+    status
 }
 
 /// What the command that was named answers, and `None` where none of the commands was.
@@ -106,10 +116,37 @@ fn path<'a, R: Input + Print + AllocGlobal>(
     let name = options.get_str("name").unwrap_or("").as_bytes();
     let mut output = Told::new(Heard::new(io::writer(rt)));
     let mut input = Told::new(heard(alloc, options, rt.reader()));
-    match path_engine(alloc, name, &mut input, &mut output) {
-        Ok(status) => Ok(status),
-        Err(CliFault::Write) => Err(write_failure(&output.into_inner())),
-        Err(fault) => Err(path_failure(alloc, fault, name, &input.into_inner())),
+    let answer = path_engine(alloc, name, &mut input, &mut output);
+    path_answered(alloc, name, answer, input.into_inner(), output.into_inner())
+}
+
+/// What `path` answers, which was given this name: the status of its engine, and else what is known of the fault
+/// that it ended with over this input and this output.
+fn path_answered<'a, I: Read + Drop, O: Write + Drop>(
+    alloc: Global,
+    name: &[u8],
+    answer: Result<u8, CliFault>,
+    input: Heard<I>,
+    output: Heard<O>,
+) -> Result<u8, Failure<'a>> {
+    match answer {
+        Ok(status) => {
+            drop(input);
+            drop(output);
+            Ok(status)
+        }
+        Err(CliFault::Write) => {
+            drop(input);
+            let failure = write_failure(&output);
+            drop(output);
+            Err(failure)
+        }
+        Err(fault) => {
+            drop(output);
+            let failure = path_failure(alloc, fault, name, &input);
+            drop(input);
+            Err(failure)
+        }
     }
 }
 

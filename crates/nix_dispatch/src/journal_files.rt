@@ -175,15 +175,32 @@ fn read_journal<R: Files<File = File>>(
     alloc: Global,
     name: &str,
 ) -> io::Result<(Option<File>, Vec<u8>)> {
+    match OpenOptions::new().read(true).append(true).open(rt, name) {
+        Ok(file) => read_locked(alloc, file),
+        Err(error) if error.kind() == ErrorKind::NotFound => Ok((None, Vec::new(alloc))),
+        Err(error) => Err(error),
+    }
+}
+
+/// This file, locked, and what it holds.
+fn read_locked(alloc: Global, file: File) -> io::Result<(Option<File>, Vec<u8>)> {
+    let mut file = file;
     let mut bytes = Vec::new(alloc);
-    let mut file = match OpenOptions::new().read(true).append(true).open(rt, name) {
-        Ok(file) => file,
-        Err(error) if error.kind() == ErrorKind::NotFound => return Ok((None, bytes)),
-        Err(error) => return Err(error),
-    };
+    match lock_and_read(&mut file, &mut bytes) {
+        Ok(()) => Ok((Some(file), bytes)),
+        Err(error) => {
+            drop(bytes);
+            drop(file);
+            Err(error)
+        }
+    }
+}
+
+/// Locks this file and reads it whole.
+fn lock_and_read(file: &mut File, bytes: &mut Vec<u8>) -> io::Result<()> {
     file.try_lock()?;
-    file.read_to_end(&mut bytes)?;
-    Ok((Some(file), bytes))
+    file.read_to_end(bytes)?;
+    Ok(())
 }
 
 /// Makes the file, which nobody else may have made meanwhile, and locks it.
@@ -192,8 +209,13 @@ fn make_journal<R: Files<File = File>>(rt: &R, name: &str) -> io::Result<File> {
         .append(true)
         .create_new(true)
         .open(rt, name)?;
-    file.try_lock()?;
-    Ok(file)
+    match file.try_lock() {
+        Ok(()) => Ok(file),
+        Err(error) => {
+            drop(file);
+            Err(io::Error::from(error))
+        }
+    }
 }
 
 /// Makes durable which files the folder of this file has.

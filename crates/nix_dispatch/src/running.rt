@@ -11,7 +11,7 @@ use nd_ledger::Dispatch;
 use nd_run_command::run_engine;
 use nd_workers::Worker;
 use std::alloc::Global;
-use std::io::{self, BufWriter};
+use std::io::{self, BufWriter, Write};
 use std::mem;
 use std::sync::Wait;
 use std::thread::Threads;
@@ -34,9 +34,29 @@ pub(crate) fn run_workers<'a, R: Print + AllocGlobal + Threads + Wait + Sync>(
         return Err(Failure::of(CliFault::Memory));
     };
     let mut output = Told::new(Heard::new(buffer));
-    match run_engine(rt, dispatch, workers, report, &mut output) {
-        Ok(status) => Ok(status),
-        Err(CliFault::Write) => Err(write_failure(&output.into_inner())),
-        Err(fault) => Err(Failure::of(fault)),
+    let answer = run_engine(rt, dispatch, workers, report, &mut output);
+    ended(answer, output.into_inner())
+}
+
+/// What a command answers: the status of its engine, and else what is known of the fault that it ended with over
+/// this output.
+fn ended<'a, W: Write + Drop>(
+    answer: Result<u8, CliFault>,
+    output: Heard<W>,
+) -> Result<u8, Failure<'a>> {
+    match answer {
+        Ok(status) => {
+            drop(output);
+            Ok(status)
+        }
+        Err(CliFault::Write) => {
+            let failure = write_failure(&output);
+            drop(output);
+            Err(failure)
+        }
+        Err(fault) => {
+            drop(output);
+            Err(Failure::of(fault))
+        }
     }
 }

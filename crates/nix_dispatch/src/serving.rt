@@ -34,16 +34,22 @@ pub(crate) fn serve<
         Err(ending) => ending,
     };
     let explain = options.get_flag("explain");
-    match &ending {
+    let status = match &ending {
         Ending::Common(failure) => told_why(rt, failure, explain),
-        Ending::Journal(failure) => {
-            say(rt, &failure.fault);
-            if explain {
-                say(rt, failure);
-            }
-            failure.fault.status()
-        }
+        Ending::Journal(failure) => told_of_journal(rt, failure, explain),
+    };
+    drop(ending);
+    status
+}
+
+/// Says why the journal is refused, or how it failed, where asked with what is known about it, and answers the
+/// exit status.
+fn told_of_journal<R: Eprint>(rt: &R, failure: &JournalFailure, explain: bool) -> u8 {
+    say(rt, &failure.fault);
+    if explain {
+        say(rt, failure);
     }
+    failure.fault.status()
 }
 
 /// Looks at the journal, opens a session with it, and only then makes or changes anything of it.
@@ -137,15 +143,50 @@ fn hold<'a, R: Files + Input + Print + AllocGlobal>(
         output,
         journal,
     } = devices;
+    let input = input.into_inner();
     match answer {
-        Ok(status) => Ok(status),
-        Err(ServeFault::Cli(CliFault::Read)) => Err(Ending::Common(Failure::at(
-            CliFault::Read,
-            Source::Input,
-            input.into_inner().refusal(),
-        ))),
-        Err(ServeFault::Cli(CliFault::Write)) => Err(Ending::Common(write_failure(&output))),
-        Err(ServeFault::Cli(fault)) => Err(Ending::Common(Failure::of(fault))),
-        Err(_journal) => Err(Ending::Journal(journal.into_failure())),
+        Ok(status) => {
+            drop(input);
+            drop(output);
+            drop(journal);
+            Ok(status)
+        }
+        Err(ServeFault::Cli(fault)) => {
+            drop(journal);
+            Err(Ending::Common(held_failure(fault, input, output)))
+        }
+        Err(fault) => {
+            drop(fault);
+            drop(input);
+            drop(output);
+            Err(Ending::Journal(journal.into_failure()))
+        }
+    }
+}
+
+/// What is known of a fault that a session ended with over this input and this output.
+fn held_failure<'a, I: Read + Drop, O: Write + Drop>(
+    fault: CliFault,
+    input: Heard<I>,
+    output: Heard<O>,
+) -> Failure<'a> {
+    match fault {
+        CliFault::Read => {
+            drop(output);
+            let refusal = input.refusal();
+            drop(input);
+            Failure::at(CliFault::Read, Source::Input, refusal)
+        }
+        CliFault::Write => {
+            drop(input);
+            let failure = write_failure(&output);
+            drop(output);
+            failure
+        }
+        fault => {
+            drop(input);
+            drop(output);
+            Failure::of(fault)
+        }
     }
 }

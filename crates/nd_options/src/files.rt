@@ -2,8 +2,8 @@
 //! only tested: contracts say nothing of what files hold.
 
 ghost use Rattle.std.specs.Prelude.{◌≡◌, [], None, IfOk, IfErr, IsTrue, is_ok};
-ghost use Rattle.nd_command_line.specs.Failures.{IsUnread};
-ghost use Rattle.nd_command_line.specs.Options.{StandsFor};
+ghost use Rattle.nd_options.specs.Failures.{IsUnread};
+ghost use Rattle.nd_options.specs.Options.{StandsFor};
 
 use nd_bytes::ByteString;
 use nd_cli::{CliFault, read_input};
@@ -71,8 +71,12 @@ pub fn read_file<'a, R: Files>(
         Err(error) => return Err(Failure::at(CliFault::Read, source, Some(error))),
     };
     let mut input = Told::new(Heard::new(file));
-    match read_input(alloc, &mut input) {
+    let answer = read_input(alloc, &mut input);
+    let input = input.into_inner();
+    let refusal = input.refusal();
+    drop(input);
+    match answer {
         Ok(bytes) => Ok(bytes),
-        Err(fault) => Err(Failure::at(fault, source, input.into_inner().refusal())),
+        Err(fault) => Err(Failure::at(fault, source, refusal)),
     }
 }

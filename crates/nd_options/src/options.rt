@@ -2,8 +2,8 @@
 
 ghost use Rattle.std.specs.Prelude.{◌≡◌, IfOk, IfErr, codes};
 ghost use Rattle.clap.specs.Matches.{found_of, one_text};
-ghost use Rattle.nd_command_line.specs.Failures.{IsUnread};
-ghost use Rattle.nd_command_line.specs.Options.{AreOptionsIn, IsNumberIn, IsFlagIn, text_in};
+ghost use Rattle.nd_options.specs.Failures.{IsUnread};
+ghost use Rattle.nd_options.specs.Options.{AreOptionsIn, IsNumberIn, IsFlagIn, text_in};
 
 use crate::files::{file_or_nothing, text_or_file};
 use clap::ArgMatches;
