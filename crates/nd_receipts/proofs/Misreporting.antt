@@ -1,10 +1,10 @@
 -- Lemmas on the references that are kept as wrong.
-use Rattle.std.proofs.Common.{◌≡◌, ◌≢◌, ℕ, ◌+◌, ◌<◌, ◌⊎◌, inl, inr, Bool, true, false, List, [], ◌∷◌, ◌++◌, length, take, Option, Some, None, slice_get, refl, sym, ap, ◌∙◌, subst, arith}
-use Rattle.std.specs.Ordering.{nat_cmp, is_eq}
+use Rattle.std.proofs.Common.{◌≡◌, ◌≢◌, ℕ, false, List, Some, ap, arith}
+use Rattle.std.specs.Ordering.{nat_cmp}
 use Rattle.std.specs.BTreeMap.{Updates, IsUnchanged, is_at}
 use Rattle.std.specs.Map.{lookup}
 use Rattle.nd_receipts.specs.declared.judging.Misreports.{Misreports}
-use Rattle.nd_receipts.specs.Judged.{refused_at, HasKept, KeepsSame}
+use Rattle.nd_receipts.specs.Judged.{HasKept, KeepsSame}
 
 -- another number is no equal key
 other_key : (k q : ℕ) → (q ≡ k → ⊥) → is_at (nat_cmp k) q ≡ false

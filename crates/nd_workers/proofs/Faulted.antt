@@ -1,5 +1,5 @@
 -- Lemmas on a run's fault and its cause.
-use Rattle.std.proofs.Common.{◌≡◌, ℕ, zero, suc, ◌+◌, ◌<◌, ◌≤◌, ◌⊎◌, inl, inr, Bool, true, false, ◌||◌, List, [], ◌∷◌, ◌++◌, length, drop, reverse, Option, Some, None, slice_get, Vec, refl, sym, ap, ◌∙◌, subst, arith}
+use Rattle.std.proofs.Common.{◌≡◌, ℕ, zero, suc, ◌+◌, ◌<◌, ◌⊎◌, inl, inr, Bool, true, false, ◌||◌, List, [], ◌∷◌, ◌++◌, length, drop, reverse, Option, Some, None, slice_get, Vec, refl, sym, ap, ◌∙◌, subst, arith}
 use Rattle.std.proofs.Math.Logic.{∥∥₁_elim}
 use denote.Struct.Props.{props}
 use Rattle.std.proofs.lemmas.List.{reverse-append, reverse-reverse}
@@ -16,9 +16,9 @@ use Rattle.nd_history.specs.Standing.{drvs_in}
 use Rattle.nd_ledger.specs.Worlds.{World}
 use Rattle.nd_receipts.specs.declared.receipt.Receipt.{Receipt}
 use Rattle.nd_receipts.specs.declared.judging.Misreports.{Misreports}
-use Rattle.nd_receipts.specs.Judged.{IsJudgedIn, AreMisreports, WereWrong, AreRowsJudged}
+use Rattle.nd_receipts.specs.Judged.{IsJudgedIn, AreMisreports, WereWrong}
 use Rattle.nd_receipts.specs.Made.{is_quiet}
-use Rattle.nd_receipts.specs.Noted.{IsNotedIn, AreRowsNoted}
+use Rattle.nd_receipts.specs.Noted.{IsNotedIn}
 use Rattle.nd_receipts.specs.Walks.{AreWithin}
 use Rattle.nd_workers.specs.declared.run_end.Evidence.{Evidence}
 use Rattle.nd_workers.specs.declared.run_end.RunFault.{RunFault}

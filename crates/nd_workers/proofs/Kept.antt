@@ -1,5 +1,5 @@
 -- Lemmas on the references that are kept as wrong, while the history grows.
-use Rattle.std.proofs.Common.{◌≡◌, ◌≢◌, ℕ, suc, zero, ◌+◌, ◌<◌, ◌≤◌, ◌⊎◌, inl, inr, List, [], ◌∷◌, ◌++◌, length, take, reverse, Option, Some, None, slice_get, refl, sym, ap, ◌∙◌, subst, arith, length-append}
+use Rattle.std.proofs.Common.{◌≡◌, ℕ, suc, zero, ◌+◌, ◌<◌, inl, inr, List, [], ◌∷◌, ◌++◌, length, take, reverse, Option, Some, None, slice_get, refl, sym, ap, ◌∙◌, subst, arith, length-append}
 use Rattle.std.proofs.lemmas.Bool.{cases_eq}
 use Rattle.std.proofs.lemmas.List.{take-append-le, take_at}
 use Rattle.nd_history.specs.declared.entry.Entry.{Entry}
@@ -7,7 +7,6 @@ use Rattle.nd_history.specs.declared.entry.Entry.TheVariants.{Failed}
 use Rattle.nd_history.specs.declared.entry.Why.TheVariants.{BadReferences}
 use Rattle.nd_history.specs.Premises.{Premises}
 use Rattle.nd_history.specs.Pumping.{HasPumped}
-use Rattle.nd_history.specs.References.{AreReferencesRight}
 use Rattle.nd_leases.specs.declared.ticket.Ticket.{Ticket}
 use Rattle.nd_ledger.specs.declared.refusal.Refusal.TheVariants.{BadReferences as WrongReferences}
 use Rattle.nd_ledger.specs.Moves.{IsEndRefused}

@@ -1,4 +1,4 @@
-use Rattle.std.proofs.Common.{◌≡◌, ◌+◌, ℕ, sym, subst, ap, ◌∙◌, length}
+use Rattle.std.proofs.Common.{◌+◌, ℕ, sym, subst, ap, ◌∙◌}
 use Rattle.nd_ledger.specs.Worlds.{World}
 use Rattle.nd_receipts.specs.Judged.{AreMisreports}
 use Rattle.nd_receipts.specs.Made.{made}

@@ -1,4 +1,3 @@
-use Rattle.std.proofs.Common.{refl}
 use Rattle.nd_workers.proofs.Upheld.{counted_made, upheld_made}
 use Rattle.nd_workers.proofs.desk.Desk.fail.Goals as goal
 
