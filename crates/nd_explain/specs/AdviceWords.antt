@@ -1,4 +1,4 @@
--- What is said of each fault, as the table "Refusals" of README.md has it: a table of pairs, its cause and its cure.
+-- What is said of each fault, as the table of docs/REFUSALS.md has it: a table of pairs, its cause and its cure.
 -- Public clauses cite `advice_words`.
 use Rattle.std.specs.Prelude.{ℕ, List, codes}
 use Rattle.nd_cli.specs.declared.fault.DerivationError.{DerivationError}

@@ -54,7 +54,7 @@ const TOO_MANY: Advice = Advice {
     cure: "divide the bundle",
 };
 
-/// What is said of a fault, in the words of the table "Refusals" of README.md.
+/// What is said of a fault, in the words of the table of docs/REFUSALS.md.
 pub fn advice_on(fault: &CliFault) -> Advice
     ensures cause { result.cause.now ≡ (advice_words fault.now).0 }
     ensures cure { result.cure.now ≡ (advice_words fault.now).1 }

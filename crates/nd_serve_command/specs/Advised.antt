@@ -1,5 +1,5 @@
 -- What is said of a fault of a journal, and which part of the journal is shown. The words are this project's own: they are those of the table
--- "Refusals" of README.md. Public clauses cite `advice_words` and `part_named`; the others serve private ones.
+-- of docs/REFUSALS.md. Public clauses cite `advice_words` and `part_named`; the others serve private ones.
 use Rattle.std.specs.Prelude.{ℕ, ◌+◌, ◌^◌, List, Option, Some, None, codes, nat_lt, if◌then◌else◌}
 use Rattle.nd_explain.specs.AdviceWords.{advice_words as words_on}
 use Rattle.nd_explain.specs.declared.parts.Part.{Part}

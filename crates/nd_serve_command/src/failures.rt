@@ -100,7 +100,7 @@ fn line_at(fault: &ServeFault) -> Option<usize>
     }
 }
 
-/// What is said of a fault, in the words of the table "Refusals" of README.md.
+/// What is said of a fault, in the words of the table of docs/REFUSALS.md.
 pub fn journal_advice(fault: &ServeFault) -> Advice
     ensures cause { result.cause.now ≡ (advice_words fault.now).0 }
     ensures cure { result.cure.now ≡ (advice_words fault.now).1 }
