@@ -11,7 +11,7 @@ use nd_path::{PathSet, StorePath};
 /// Looks at these entries. Each reads back from its line, since its numbers and its paths are what their types
 /// say.
 // For the proof: what a type says of a value behind a reference is known once that is read.
-pub(crate) fn look_at(entries: &[Entry])
+pub fn look_at(entries: &[Entry])
     ensures { All IsSound entries.now }
 {
     for entry in entries {

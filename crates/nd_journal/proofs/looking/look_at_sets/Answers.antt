@@ -1,6 +1,6 @@
 use Rattle.nd_history_text.specs.Sound.{IsPathSet}
-use Rattle.nd_serve.proofs.Looked.{one_more}
-use Rattle.nd_serve.proofs.entries.look_at_sets.Goals as goal
+use Rattle.nd_journal.proofs.Looked.{one_more}
+use Rattle.nd_journal.proofs.looking.look_at_sets.Goals as goal
 
 pub loop-set-preserved : goal.loop-set-preserved
 loop-set-preserved c =

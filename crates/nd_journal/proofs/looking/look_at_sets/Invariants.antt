@@ -1,6 +1,6 @@
 use Rattle.std.specs.List.{AllWithin}
 use Rattle.nd_history_text.specs.Sound.{IsPathSet}
-use Rattle.nd_serve.proofs.entries.look_at_sets.Given as goal
+use Rattle.nd_journal.proofs.looking.look_at_sets.Given as goal
 
 -- those so far were looked at
 abbrev pub invariant-loop-set : goal.invariant-loop-set

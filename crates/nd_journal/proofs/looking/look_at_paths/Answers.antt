@@ -1,7 +1,7 @@
 use Rattle.std.proofs.Common.{subst}
 use Rattle.nd_path.specs.Refusals.{IsPath}
-use Rattle.nd_serve.proofs.Looked.{one_more}
-use Rattle.nd_serve.proofs.entries.look_at_paths.Goals as goal
+use Rattle.nd_journal.proofs.Looked.{one_more}
+use Rattle.nd_journal.proofs.looking.look_at_paths.Goals as goal
 
 pub loop-path-preserved : goal.loop-path-preserved
 loop-path-preserved c =
