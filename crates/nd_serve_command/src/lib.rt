@@ -5,7 +5,6 @@
 pub mod devices;
 pub mod failures;
 pub mod fault;
-pub mod journals;
 mod lines;
 pub mod opening;
 mod reading;
@@ -14,6 +13,5 @@ pub mod session;
 pub use devices::Devices;
 pub use failures::{JournalFailure, journal_advice};
 pub use fault::ServeFault;
-pub use journals::{Journal, NoJournal};
 pub use opening::{Opened, open_session};
 pub use session::serve_engine;
