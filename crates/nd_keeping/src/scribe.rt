@@ -86,6 +86,24 @@ impl<J: Journal> Scribe<J> {
         })
     }
 
+    /// The scribe of a journal that holds nothing yet, and not its first line either. It takes no memory.
+    pub fn fresh(alloc: Global, journal: J) -> Scribe<J>
+        requires { HoldsDurably (J.stored journal) [] }
+        ensures { BeginsScribing result (J.stored journal) false [] }
+    {
+        let roll = Roll::new();
+        let kept = Kept::new(roll.front());
+        Scribe {
+            alloc,
+            journal,
+            roll,
+            kept,
+            text: Vec::new(alloc),
+            begun: false,
+            refused: false,
+        }
+    }
+
     /// Takes the entries behind those that were handed to the journal: they are handed too, and their lines wait.
     /// To be called with the whole history of the run, oldest first.
     ///
@@ -143,7 +161,8 @@ impl<J: Journal> Scribe<J> {
 
     /// What is durable.
     pub fn kept(&self) -> Kept
-        ensures { result ≡ self.now.kept }
+        ensures kept { result ≡ self.now.kept }
+        ensures book { result.book ≡ self.now.handed.book }
     {
         self.kept.again()
     }
@@ -154,6 +173,13 @@ impl<J: Journal> Scribe<J> {
         ensures scribing { IsScribing self.now }
     {
         self.roll.front()
+    }
+
+    /// Whether the journal has refused an append or a sync.
+    pub fn is_refused(&self) -> bool
+        ensures { result ≡ self.now.refused }
+    {
+        self.refused
     }
 
     /// The journal again. What waits is let go.
