@@ -87,6 +87,15 @@ impl<L: Opened, J: Journal> Writing<L, J> {
             of: PhantomData,
         }
     }
+
+    /// Makes durable what was handed to the scribe. The answer is whether the journal did.
+    pub(crate) fn keep(&mut self) -> bool {
+        let Writing { scribe, .. } = self;
+        match scribe.keep() {
+            Ok(()) => true,
+            Err(_) => false,
+        }
+    }
 }
 
 impl<L: Opened> Leave<L> {

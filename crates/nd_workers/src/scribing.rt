@@ -175,7 +175,7 @@ pub(crate) fn keep_all<L: Opened, J: Journal, R: Wait>(
     'keeping: for _ in rt.forever() {
         match gather(rt, shared, &mut writing) {
             Found::Nothing => return writing,
-            Found::Some if writing.scribe.keep().is_ok() => publish(rt, shared, &writing),
+            Found::Some if writing.keep() => publish(rt, shared, &writing),
             _ => {
                 refuse(rt, shared);
                 return writing;

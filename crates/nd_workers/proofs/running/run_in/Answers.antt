@@ -1,4 +1,4 @@
-use Rattle.std.proofs.Common.{◌+◌, ℕ, sym, subst, ap, ◌∙◌}
+use Rattle.std.proofs.Common.{◌+◌, ℕ, Bool, sym, subst, ap, ◌∙◌}
 use Rattle.nd_ledger.specs.Worlds.{World}
 use Rattle.nd_receipts.specs.Judged.{AreMisreports}
 use Rattle.nd_receipts.specs.Made.{made}
@@ -6,6 +6,7 @@ use Rattle.nd_workers.specs.declared.seat.Seat.{Seat}
 use Rattle.nd_workers.specs.Faults.{IsFaultFrom}
 use Rattle.nd_workers.specs.Runs.{IsServedIn, AreReceiptedFrom}
 use Rattle.nd_workers.specs.Steps.{RunsOn, StopsAreTold}
+use Rattle.nd_workers.specs.Written.{IsWritten}
 use Rattle.nd_workers.specs.Served.{Seated, seat_of, places_served, IsSound}
 use Rattle.nd_workers.proofs.Compared.{served_in, is_over}
 use Rattle.nd_workers.proofs.Faulted.{drvs_kept, alike_of, quiet_of, thread_of, memory_of, sound_all, wrong_rows, journal_of}
@@ -39,6 +40,14 @@ returns-clause-thread g c = λ thread. thread_of _ _ _ _ _ _ c.settle-run.ensure
 
 pub returns-clause-journal : goal.returns-clause-journal
 returns-clause-journal g c = λ journal. journal_of _ _ _ _ _ _ c.settle-run.ensures.fault journal
+
+pub returns-clause-written : goal.returns-clause-written
+returns-clause-written g c =
+    let keeps = c.args.paper.keeps in
+    let brought = c.serve_leases-brought in
+    let P : Bool → Type 0 = λ kept. IsWritten keeps kept brought.result.scribe brought.result.served.dispatch.history in
+    let Q : World → Type 0 = λ w. IsWritten keeps c.settle-run.result.evidence.kept brought.result.scribe w.history in
+    subst Q (sym c.settle-run.ensures.dispatch) (subst P (sym c.settle-run.ensures.kept) brought.ensures.written)
 
 pub returns-clause-memory : goal.returns-clause-memory
 returns-clause-memory g c = λ memory.
