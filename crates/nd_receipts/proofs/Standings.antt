@@ -104,15 +104,17 @@ some_within [] d b at = absurd (cc at)
 some_within (x ∷ flags) zero b at = omega arith
 some_within (x ∷ flags) (suc d) b at = let rest = some_within flags d b at in omega arith
 
-pub idle : (drvs : ℕ) (s : Standing) → s.leased.items ≡ replicate drvs false → s.started.items ≡ replicate drvs false → IsIdle s
-idle drvs s leased started = record { drvs = drvs; leased = leased; started = started }
-
 long_replicate : (n : ℕ) (b : Bool) → length (replicate n b) ≡ n
 long_replicate zero b = refl
 long_replicate (suc n) b = ap suc (long_replicate n b)
 
 pub sized : (drvs : ℕ) (flags : List Bool) → flags ≡ replicate drvs false → length flags ≡ drvs
 sized drvs flags are = ap length are ∙ long_replicate drvs false
+
+pub idle : (drvs : ℕ) (s : Standing) → s.leased.items ≡ replicate drvs false → s.started.items ≡ replicate drvs false → IsIdle s
+idle drvs s leased started =
+    let same : replicate drvs false ≡ replicate (length s.leased.items) false = sym (ap (λ (n : ℕ). replicate n false) (sized drvs s.leased.items leased)) in
+    record { leased = leased ∙ same; started = started ∙ same }
 
 -- ---- all entries
 
@@ -126,9 +128,9 @@ pub record StandsAt (old : List Entry) (drvs k : ℕ) (leased started : List Boo
 
 pub stand_first : (old : List Entry) (s : Standing) → IsIdle s → StandsAt old (length s.leased.items) 0 s.leased.items s.started.items
 stand_first old s idle = record {
-  lease_flags = record { each = λ d b at. replicate_at idle.drvs false b d (ap (λ xs. slice_get xs d) (sym idle.leased) ∙ at) };
-  start_flags = record { each = λ d b at. replicate_at idle.drvs false b d (ap (λ xs. slice_get xs d) (sym idle.started) ∙ at) };
-  long = ap length idle.started ∙ sym (ap length idle.leased);
+  lease_flags = record { each = λ d b at. replicate_at (length s.leased.items) false b d (ap (λ xs. slice_get xs d) (sym idle.leased) ∙ at) };
+  start_flags = record { each = λ d b at. replicate_at (length s.leased.items) false b d (ap (λ xs. slice_get xs d) (sym idle.started) ∙ at) };
+  long = sized (length s.leased.items) s.started.items idle.started;
   wide = refl;
   unleased = λ d le. refl;
 }

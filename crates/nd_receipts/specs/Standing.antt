@@ -1,7 +1,7 @@
 -- Which derivations were being built when a run began. The histories of these definitions stand newest first. The public clause
 -- `calls` of nd_workers' `run` cites `ends_build` and what it is made of; the rest is what the flags of the derivations say.
 -- This project's own choice.
-use Rattle.std.specs.Prelude.{◌≡◌, ℕ, ◌&&◌, Bool, true, false, List, Option, Some, None, replicate, slice_get, slice_set}
+use Rattle.std.specs.Prelude.{◌≡◌, ℕ, ◌&&◌, Bool, true, false, List, Option, Some, None, length, replicate, slice_get, slice_set}
 use Rattle.nd_history.specs.declared.entry.Entry.{Entry}
 use Rattle.nd_history.specs.declared.entry.Entry.TheVariants.{Chosen, NoBuilder, Started, Down, Built, Failed, Stop, Drain, Enable}
 use Rattle.nd_history.specs.History.{is_leased, is_started}
@@ -73,6 +73,5 @@ pub record Tells (standing : Standing) (past : List Entry) : Type 0 where
 
 -- no derivation was leased yet
 pub record IsIdle (standing : Standing) : Type 0 where
-  pub drvs : ℕ
-  pub leased : standing.leased.items ≡ replicate drvs false
-  pub started : standing.started.items ≡ replicate drvs false
+  pub leased : standing.leased.items ≡ replicate (length standing.leased.items) false
+  pub started : standing.started.items ≡ replicate (length standing.leased.items) false
