@@ -30,7 +30,7 @@ pub enum RunFault {
     Memory,
     /// 3: what came back of the run isn't what its history says. Something waits or is leased still; or an entry
     /// of a worker's own was refused; or a receipt names another entry than its worker noted, or has other
-    /// references than those that were refused; or the receipts aren't the entries that workers made, each of the
+    /// references than those that were refused, or says otherwise whether its lease was started before the run; or the receipts aren't the entries that workers made, each of the
     /// worker on its lease's place; or a worker had no thread, and no stop is in the history.
     Receipts,
 }

@@ -7,6 +7,7 @@ ghost use Rattle.nd_history.specs.Standing.{drvs_in};
 ghost use Rattle.nd_receipts.specs.Made.{made, is_quiet};
 ghost use Rattle.nd_receipts.specs.Judged.{AreMisreports};
 ghost use Rattle.nd_receipts.specs.Dealt.{AreApart};
+ghost use Rattle.nd_receipts.specs.Standing.{IsIdle};
 ghost use Rattle.nd_receipts.specs.Walks.{AreUnknown};
 ghost use Rattle.nd_workers.specs.Faults.{IsFaultFrom, IsFaultOf, AreAllWrong};
 ghost use Rattle.nd_workers.specs.Runs.{AreManned, IsRunRefused, Agrees, IsOver, AreServedIn, AreReceiptedSince, since};
@@ -24,7 +25,7 @@ use crate::seat::{Seat, Worker};
 use crate::threads::{Ended, Ready, Running, Stint, in_scope};
 use nd_history::Entry;
 use nd_ledger::Dispatch;
-use nd_receipts::{Misreports, Receipt, Tables, count_made};
+use nd_receipts::{Misreports, Receipt, Standing, Tables, count_made};
 use nd_transports::Transport;
 use std::alloc::{AllocError, Global};
 use std::marker::Brand;
@@ -48,8 +49,11 @@ struct Plan {
     opened: usize,
     places: Vec<(u32, u32)>,
     tables: Tables,
+    standing: Standing,
     ghost apart: { AreApart places.items },
     ghost met: { tables.met.items ≡ replicate (length places.items) 0 },
+    ghost idle: { IsIdle standing },
+    ghost wide: { length standing.leased.items ≡ length tables.choices.items },
 }
 
 /// Room for what comes back of a run.
@@ -164,8 +168,8 @@ fn make_plan(
     ensures choices { IfOk result (λ p. AreUnknown (length places.items) p.tables.choices.items) }
     ensures sized { IfOk result (λ p. length p.tables.choices.items ≡ drvs_in dispatch.now.inputs) }
 {
-    let tables = match Tables::new(alloc, dispatch.graph().len(), places.len()) {
-        Ok(tables) => tables,
+    let (tables, standing) = match make_tables(alloc, dispatch.graph().len(), places.len()) {
+        Ok(made) => made,
         Err(error) => {
             drop(places);
             return Err(error);
@@ -175,7 +179,21 @@ fn make_plan(
         opened: dispatch.history().len(),
         places,
         tables,
+        standing,
     })
+}
+
+/// The tables of a run of so many derivations by so many workers, and what is known of its beginning.
+fn make_tables(alloc: Global, drvs: usize, workers: usize) -> Result<(Tables, Standing), AllocError>
+    ensures choices { IfOk result (λ t. AreUnknown workers t.0.choices.items) }
+    ensures sized { IfOk result (λ t. length t.0.choices.items ≡ drvs) }
+    ensures met { IfOk result (λ t. t.0.met.items ≡ replicate workers 0) }
+    ensures idle { IfOk result (λ t. IsIdle t.1) }
+    ensures wide { IfOk result (λ t. length t.1.leased.items ≡ drvs) }
+{
+    let tables = Tables::new(alloc, drvs, workers)?;
+    let standing = Standing::new(alloc, drvs)?;
+    Ok((tables, standing))
 }
 
 /// The places that workers serve, with the bells.
@@ -324,6 +342,7 @@ fn judge(
         opened,
         places,
         tables,
+        standing,
     } = plan;
     let alike = is_alike(
         opened,
@@ -332,6 +351,7 @@ fn judge(
         receipts,
         evidence,
         tables,
+        standing,
     );
     let workers = places.len();
     drop(places);
@@ -387,11 +407,13 @@ fn serve_leases<L: Opened + Send + Sync, T: Transport, R: Threads + Wait + Sync>
     let Posts { manned, bells } = posts;
     let (mut book, mut rest) = blank.open::<L>();
     book.add(&mut rest, count_made(dispatch.history()) as u64);
+    let opened = dispatch.history().len();
     let mut desk = Desk {
         dispatch,
         book,
         manned,
         misreports: Misreports::new(alloc),
+        opened,
     };
     desk.begin(seats.len());
     let shared = Shared {
@@ -427,6 +449,7 @@ fn close<L: Opened>(desk: Desk<L>, all: Share<L>) -> (Dispatch, Misreports)
         mut book,
         manned,
         misreports,
+        opened: _,
     } = desk;
     book.audit(&mut all);
     drop(book);
@@ -467,7 +490,7 @@ fn run_in<L: Opened + Send + Sync, T: Transport, R: Threads + Wait + Sync>(
     ensures quiet { result.fault ≡ None → list_all is_quiet (since dispatch result.dispatch) ≡ true }
     ensures thread { result.fault ≡ Some RunFault.Thread → list_any is_stop result.dispatch.history ≡ true }
     ensures memory { result.fault ≡ Some RunFault.Memory → list_any is_stop result.dispatch.history ≡ true }
-    ensures calls { Agrees result.fault → AreServedIn T.state result.dispatch.history seats.items result.workers.items result.receipts.items }
+    ensures calls { Agrees result.fault → AreServedIn T.state (length dispatch.history) result.dispatch.history seats.items result.workers.items result.receipts.items }
     ensures judged { Agrees result.fault → AreAllWrong result.dispatch.inputs result.dispatch.history result.receipts.items }
     ensures misreports { AreMisreports result.dispatch.inputs result.dispatch.history result.evidence.misreports }
     ensures fault { IsFaultOf dispatch result.dispatch plan.places.items result.receipts.items result.evidence result.fault }
@@ -510,7 +533,7 @@ fn run_named<L: Opened + Send + Sync, T: Transport, R: Threads + Wait + Sync>(
     ensures quiet { IfOk result (λ e. e.fault ≡ None → list_all is_quiet (since dispatch e.dispatch) ≡ true) }
     ensures thread { IfOk result (λ e. e.fault ≡ Some RunFault.Thread → list_any is_stop e.dispatch.history ≡ true) }
     ensures memory { IfOk result (λ e. e.fault ≡ Some RunFault.Memory → list_any is_stop e.dispatch.history ≡ true) }
-    ensures calls { IfOk result (λ e. Agrees e.fault → AreServedIn T.state e.dispatch.history seats.items e.workers.items e.receipts.items) }
+    ensures calls { IfOk result (λ e. Agrees e.fault → AreServedIn T.state (length dispatch.history) e.dispatch.history seats.items e.workers.items e.receipts.items) }
     ensures judged { IfOk result (λ e. Agrees e.fault → AreAllWrong e.dispatch.inputs e.dispatch.history e.receipts.items) }
     ensures misreports { IfOk result (λ e. AreMisreports e.dispatch.inputs e.dispatch.history e.evidence.misreports) }
     ensures fault { IfOk result (λ e. IsFaultOf dispatch e.dispatch plan.places.items e.receipts.items e.evidence e.fault) }
@@ -544,7 +567,7 @@ pub fn run_with<T: Transport, R: Threads + Wait + Sync>(
     ensures quiet { IfOk result (λ e. e.fault ≡ None → list_all is_quiet (since dispatch e.dispatch) ≡ true) }
     ensures thread { IfOk result (λ e. e.fault ≡ Some RunFault.Thread → list_any is_stop e.dispatch.history ≡ true) }
     ensures memory { IfOk result (λ e. e.fault ≡ Some RunFault.Memory → list_any is_stop e.dispatch.history ≡ true) }
-    ensures calls { IfOk result (λ e. Agrees e.fault → AreServedIn T.state e.dispatch.history workers.items e.workers.items e.receipts.items) }
+    ensures calls { IfOk result (λ e. Agrees e.fault → AreServedIn T.state (length dispatch.history) e.dispatch.history workers.items e.workers.items e.receipts.items) }
     ensures judged { IfOk result (λ e. Agrees e.fault → AreAllWrong e.dispatch.inputs e.dispatch.history e.receipts.items) }
     ensures misreports { IfOk result (λ e. AreMisreports e.dispatch.inputs e.dispatch.history e.evidence.misreports) }
     ensures fault { IfOk result (λ e. IsFaultOf dispatch e.dispatch (places_served workers.items) e.receipts.items e.evidence e.fault) }
@@ -575,7 +598,12 @@ pub fn run_with<T: Transport, R: Threads + Wait + Sync>(
 /// stands before that entry. `Receipts` (3) says that this isn't so, or that the run isn't over. However it ends,
 /// the workers that come back are on the places of those that were handed in, in their order, each with a list
 /// of receipts; each choice since the opening is the pump's step of its place in the history, and no machine was
-/// drained or enabled. No lease is to be live at the start: one that is may end in `Receipts`.
+/// drained or enabled.
+///
+/// A lease that is live at the start is taken up by the worker of its slot as any other. Where it was started
+/// before, no second start is recorded: its build is asked for again, and the lease ends as that build says. Where
+/// its machine isn't reached then, or the copy fails, it fails as `Lost`, since it can't be given back. Such an end
+/// has a receipt with `again`, and no other has.
 pub fn run<R: Threads + Wait + Sync>(
     rt: &R,
     dispatch: Dispatch,
@@ -595,7 +623,7 @@ pub fn run<R: Threads + Wait + Sync>(
     ensures quiet { IfOk result (λ e. e.fault ≡ None → list_all is_quiet (since dispatch e.dispatch) ≡ true) }
     ensures thread { IfOk result (λ e. e.fault ≡ Some RunFault.Thread → list_any is_stop e.dispatch.history ≡ true) }
     ensures memory { IfOk result (λ e. e.fault ≡ Some RunFault.Memory → list_any is_stop e.dispatch.history ≡ true) }
-    ensures calls { IfOk result (λ e. Agrees e.fault → AreServedIn state e.dispatch.history workers.items e.workers.items e.receipts.items) }
+    ensures calls { IfOk result (λ e. Agrees e.fault → AreServedIn state (length dispatch.history) e.dispatch.history workers.items e.workers.items e.receipts.items) }
     ensures judged { IfOk result (λ e. Agrees e.fault → AreAllWrong e.dispatch.inputs e.dispatch.history e.receipts.items) }
     ensures misreports { IfOk result (λ e. AreMisreports e.dispatch.inputs e.dispatch.history e.evidence.misreports) }
     ensures fault { IfOk result (λ e. IsFaultOf dispatch e.dispatch (places_served workers.items) e.receipts.items e.evidence e.fault) }

@@ -18,5 +18,5 @@ returns g c =
     (track c.args.hand.now.notes (g.T.Transport.state c.args.transport.now).calls)
     (track c.fetch_lease.new.hand.notes (g.T.Transport.state c.fetch_lease.new.transport).calls)
     (track c.build_lease.new.hand.notes (g.T.Transport.state c.build_lease.new.transport).calls)
-    c.args.job.ticket.drv c.in_ok-started.started (search rules) c.in_ok-started.ensures.goes)
+    c.args.job.ticket.drv c.in_ok-started.started c.one_build-behind.result (search rules) c.one_build-behind.ensures c.in_ok-started.ensures.goes)
     c.build_lease.ensures
