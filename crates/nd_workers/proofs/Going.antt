@@ -20,7 +20,6 @@ use Rattle.nd_transports.specs.Services.{IsFetched, IsTurnedAway, IsShort}
 use Rattle.nd_receipts.specs.Receipts.{AreCallsOfShortage, AreCallsOfFailure, AreCallsOfFailureAgain, AreCallsFor, AreCallsAgain, AreCallsBy, IsOfKind, whole_build}
 use Rattle.nd_receipts.specs.Noted.{Noted, HasNoted, HasNotedWith, HasBegun, HasJudged, HasEnded, Track, track, afresh, once_more, AreLeases, IsFailureBy, IsEndBy, IsBegun, IsFinished, HasEndedAgain, HasFetched, GoesOn}
 use Rattle.nd_receipts.specs.Noted.AreLeases.{none, unstarted, served, left}
-
 use Rattle.nd_workers.specs.Ends.{HasBuilt}
 
 -- ---- leases, one after another

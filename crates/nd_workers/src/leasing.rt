@@ -16,8 +16,8 @@ use crate::opened::Opened;
 use crate::scribing::leave_for;
 use nd_closure::Refs;
 use nd_history::{Entry, Why};
-use nd_leases::Ticket;
 use nd_keeping::Kept;
+use nd_leases::Ticket;
 use nd_ledger::{Job, Refusal, Refused};
 use nd_path::PathSet;
 use nd_receipts::receipt::{Behind, Kind};
@@ -369,7 +369,7 @@ fn copied_paths(alloc: Global, calls: u8, paths: PathSet) -> PathSet
 }
 
 /// Builds a lease that was started, once its start is durable. The answer is whether the worker goes on.
-#[tactic(auto, using(crate::proofs::Going::built_behind, crate::proofs::Going::stays_unbuilt))]
+#[tactic(auto, using(crate::proofs::Going::built_behind))]
 fn build_started<L: Opened, T: Transport, R: Wait>(
     rt: &R,
     alloc: Global,
@@ -393,6 +393,7 @@ fn build_started<L: Opened, T: Transport, R: Wait>(
 
 /// Serves a lease that wasn't started before the run to its end. The answer is whether the worker goes on: it
 /// leaves where the journal has refused an entry that its next step stands behind.
+#[tactic(auto, using(crate::proofs::Going::goes_nowhere))]
 fn serve_anew<L: Opened, T: Transport, R: Wait>(
     rt: &R,
     alloc: Global,

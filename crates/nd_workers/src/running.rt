@@ -402,9 +402,7 @@ fn run_named<
         let Paper { scribe, keeps: _ } = paper;
         return refused(RunError::Memory, dispatch, seats, scribe);
     };
-    Ok(run_in(
-        rt, alloc, dispatch, seats, posts, plan, room, blank, paper,
-    ))
+    Ok(run_in(rt, alloc, dispatch, seats, posts, plan, room, blank, paper))
 }
 
 /// As [`run`], by workers with transports of one type, where a run that `keeps` its history does so by the scribe.

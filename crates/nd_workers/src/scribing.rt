@@ -30,7 +30,9 @@ impl<L: Opened> Desk<L> {
     #[tactic(auto, using(crate::proofs::Fronts::begun_through, crate::proofs::Upheld::upheld_handed))]
     pub(crate) fn hand_over<J: Journal>(&mut self, writing: &mut Writing<L, J>) -> Found {
         let Desk {
-            dispatch, progress, ..
+            dispatch,
+            progress,
+            ..
         } = self;
         if progress.refused || !writing.scribe.handed().begins(&progress.handed) {
             return Found::Refused;
@@ -249,10 +251,7 @@ pub(crate) fn leave_for<L: Opened, R: Wait>(
             return None;
         }
         shared.tell();
-        desk = shared
-            .bells
-            .of(ticket.machine, ticket.slot)
-            .wait(rt, desk);
+        desk = shared.bells.of(ticket.machine, ticket.slot).wait(rt, desk);
     }
     unreachable!()
 }
