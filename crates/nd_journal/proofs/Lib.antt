@@ -1,3 +1,4 @@
 pub mod LinesKept
 pub mod Reading
 pub mod OneAnswer
+pub mod Told
