@@ -6,7 +6,9 @@ pub mod cutting;
 pub mod journal;
 pub mod laws;
 pub mod looking;
+pub mod telling;
 
 pub use cutting::whole_lines;
 pub use journal::{Journal, JournalError, first_line, read_journal};
 pub use looking::look_at;
+pub use telling::history_of;
