@@ -447,6 +447,7 @@ killed_all() {
     gone_on "$moment"
     want "$moment: more than one round" is "$(counted rounds "all$moment")" ''
     want "$moment: $left is left" [ ! -e "$left" ]
+    want "$moment: something goes on behind it" quiet
     want "$moment: trace.json is none" python3 -m json.tool "$folder/all$moment/trace.json" /dev/null
     want "$moment: there is no result" nix-store --check-validity "$(readlink "$folder/all$moment/result" 2> /dev/null || echo /nix/store/none)" 2> /dev/null
   done
@@ -485,11 +486,15 @@ begun_anew() {
     soon 300 logged ' end .* 0$'
     sleep 1
     kill_all
-    want "$reason: something goes on behind it" quiet
+    want "$reason: something goes on behind it" soon 200 all_ended
     jobs=0
     case $reason in
-      words) jobs=1 said='other words (jobs)' ;;
-      journal) echo nothing >> "$folder/$name/journal.1" said="can't be gone on from.*BadLine" ;;
+      words)
+        said='other words (jobs)'
+        jobs=1 ;;
+      journal)
+        said="can't be gone on from.*BadLine"
+        echo nothing >> "$folder/$name/journal.1" ;;
       store)
         said="isn't all there"
         # shellcheck disable=SC2046  # store paths

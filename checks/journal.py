@@ -75,6 +75,13 @@ class Agents:
         words = [sys.executable, os.path.abspath(__file__), "agents", self.folder, self.notes, *self.words]
         self.process = subprocess.Popen(words)
 
+    def end(self):
+        """The agents end with the run. They wait for ever where it didn't open their pipes."""
+        try:
+            self.process.wait(5)
+        except subprocess.TimeoutExpired:
+            self.kill()
+
     def kill(self):
         self.process.kill()
         self.process.wait()
@@ -157,10 +164,8 @@ class Case:
             if self.agents:
                 self.agents.kill()
             out, said = ended.communicate()
-        if self.agents:
-            if ended.returncode < 0:
-                self.agents.kill()
-            self.agents.process.wait()
+        if self.agents and ended.returncode >= 0:
+            self.agents.end()
         return ended.returncode, out, said.decode()
 
     def tell(self, command, **surroundings):
@@ -529,13 +534,13 @@ def looked_at(folder):
 # What it costs
 
 
-def measured(case, words, **surroundings):
-    """The seconds of the best of three runs, and the syncs of the last."""
-    best, syncs = 0, 0
+def measured(case, journal, **surroundings):
+    """The seconds of the best of three runs."""
+    best = 0
     for _ in range(3):
         case.forget()
         began = time.monotonic()
-        status, _, said = case.run(journal=words, **surroundings)
+        status, _, said = case.run(journal=journal, **surroundings)
         took = time.monotonic() - began
         if status != 0:
             fail(f"time: status {status}, {said}")
