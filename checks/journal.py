@@ -73,7 +73,8 @@ class Agents:
 
     def begin(self):
         words = [sys.executable, os.path.abspath(__file__), "agents", self.folder, self.notes, *self.words]
-        self.process = subprocess.Popen(words)
+        self.process = subprocess.Popen(words, stdout=subprocess.PIPE)
+        self.process.stdout.readline()
 
     def end(self):
         """The agents end with the run. They wait for ever where it didn't open their pipes."""
@@ -118,6 +119,7 @@ def be_agents(folder, notes, slots, seconds):
     threads = [threading.Thread(target=serve, args=(slot,)) for slot in range(int(slots))]
     for thread in threads:
         thread.start()
+    print("ready", flush=True)
     for thread in threads:
         thread.join()
 
@@ -148,13 +150,14 @@ class Case:
 
     def run(self, *words, killed_after=None, journal=True, **surroundings):
         """A run up to its end, or one that is killed after so many seconds: its status, and what it wrote to each
-        output. The status of a killed one is -9."""
+        output. The status of a killed one is -9. What it took is in `seconds`."""
         words = [PROGRAM, "run", *self.given, *self.by, *words]
         if journal:
             words += ["--journal", self.journal]
         if self.agents:
             self.agents.begin()
         env = {**os.environ, **surroundings}
+        began = time.monotonic()
         # a run writes to an agent that is gone
         ended = subprocess.Popen(words, stdout=subprocess.PIPE, stderr=subprocess.PIPE, env=env, preexec_fn=ignore_pipes)
         try:
@@ -164,6 +167,7 @@ class Case:
             if self.agents:
                 self.agents.kill()
             out, said = ended.communicate()
+        self.seconds = time.monotonic() - began
         if self.agents and ended.returncode >= 0:
             self.agents.end()
         return ended.returncode, out, said.decode()
@@ -268,9 +272,8 @@ def killed(folder):
     rules = "".join(f"fail {drv} 3\n" for drv in (217, 430)) + "lose 555\n"
     rules += "".join(f"built {drv} o {nodes[drv].output}\n" for drv in range(0, 1_000, 7) if drv not in (217, 430, 555))
     case = Case(folder, nodes, 64, rules, options=["--keep-going"])
-    began = time.monotonic()
     status, out, said = case.run("--report")
-    seconds = time.monotonic() - began
+    seconds = case.seconds
     if status != 1 or said:
         fail(f"killed: a run that isn't killed ends with status {status}, {said}")
     whole = statuses(out.decode())
@@ -292,9 +295,8 @@ def killed_with_agents(folder, rng):
     place = os.path.join(folder, "called")
     os.mkdir(place)
     case = Case(place, nodes, 16, agents=Agents(place, 16, 0.01))
-    began = time.monotonic()
     status, _, said = case.run()
-    seconds = time.monotonic() - began
+    seconds = case.seconds
     if status != 0 or said:
         fail(f"killed with agents: status {status}, {said}")
     kills = again = 0
@@ -539,12 +541,10 @@ def measured(case, journal, **surroundings):
     best = 0
     for _ in range(3):
         case.forget()
-        began = time.monotonic()
         status, _, said = case.run(journal=journal, **surroundings)
-        took = time.monotonic() - began
         if status != 0:
             fail(f"time: status {status}, {said}")
-        best = took if best == 0 else min(best, took)
+        best = case.seconds if best == 0 else min(best, case.seconds)
     return best
 
 
