@@ -2,3 +2,4 @@ pub mod LinesKept
 pub mod Reading
 pub mod OneAnswer
 pub mod Told
+pub mod Looked

@@ -6,7 +6,6 @@
 pub mod devices;
 pub mod failures;
 pub mod fault;
-pub mod journals;
 mod lines;
 pub mod opened;
 pub mod opening;
@@ -16,7 +15,6 @@ pub mod session;
 pub use devices::Devices;
 pub use failures::{JournalFailure, journal_advice};
 pub use fault::ServeFault;
-pub use journals::{Journal, NoJournal};
 pub use opened::Opened;
 pub use opening::{open_session, take_journal};
 pub use session::serve_engine;

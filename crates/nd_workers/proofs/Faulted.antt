@@ -22,7 +22,7 @@ use Rattle.nd_receipts.specs.Noted.{IsNotedIn}
 use Rattle.nd_receipts.specs.Walks.{AreWithin}
 use Rattle.nd_workers.specs.declared.run_end.Evidence.{Evidence}
 use Rattle.nd_workers.specs.declared.run_end.RunFault.{RunFault}
-use Rattle.nd_workers.specs.declared.run_end.RunFault.TheVariants.{Thread, Memory, Receipts}
+use Rattle.nd_workers.specs.declared.run_end.RunFault.TheVariants.{Thread, Memory, Receipts, Journal}
 use Rattle.nd_workers.specs.declared.seat.Seat.{Seat}
 use Rattle.nd_workers.specs.declared.threads.Stint.{Stint}
 use Rattle.nd_workers.specs.Faults.{IsAlikeFrom, IsFaultBy, IsFaultFrom, AreAllWrong}
@@ -73,16 +73,18 @@ drvs_kept o w n runs sized = ∥∥₁_elim runs.merely (hlevel props) (λ run. 
 
 -- ---- the fault
 
-pub fault_by : {A : Type 0} (opened : ℕ) (now : World) (places : List (ℕ × ℕ)) (receipts : List (Vec Receipt A)) (evidence : Evidence) (alike : Bool) (threads workers : ℕ) (fault : Option RunFault)
-    → IsFaultBy alike threads workers (drop opened now.history) fault → (alike ≡ true → IsAlikeFrom opened now places receipts evidence) → (alike ≡ false → IsAlikeFrom opened now places receipts evidence → ⊥)
-    → threads ≡ evidence.threads → workers ≡ length places → IsFaultFrom opened now places receipts evidence fault
-fault_by opened now places receipts evidence alike threads workers (Some Receipts) by is not same count = record { cause = not by }
-fault_by opened now places receipts evidence alike threads workers (Some Thread) by is not same count = record { cause = (is by.0, (let lt = by.1 in omega arith)) }
-fault_by opened now places receipts evidence alike threads workers (Some Memory) by is not same count = record { cause = (is by.0, (let le = by.1 in omega arith), by.2) }
-fault_by opened now places receipts evidence alike threads workers None by is not same count = record { cause = (is by.0, (let le = by.1 in omega arith), by.2) }
+pub fault_by : {A : Type 0} (opened : ℕ) (now : World) (places : List (ℕ × ℕ)) (receipts : List (Vec Receipt A)) (evidence : Evidence) (alike kept : Bool) (threads workers : ℕ) (fault : Option RunFault)
+    → IsFaultBy alike kept threads workers (drop opened now.history) fault → (alike ≡ true → IsAlikeFrom opened now places receipts evidence) → (alike ≡ false → IsAlikeFrom opened now places receipts evidence → ⊥)
+    → kept ≡ evidence.kept → threads ≡ evidence.threads → workers ≡ length places → IsFaultFrom opened now places receipts evidence fault
+fault_by opened now places receipts evidence alike kept threads workers (Some Receipts) by is not all same count = record { cause = not by }
+fault_by opened now places receipts evidence alike kept threads workers (Some Journal) by is not all same count = record { cause = (is by.0, sym all ∙ by.1) }
+fault_by opened now places receipts evidence alike kept threads workers (Some Thread) by is not all same count = record { cause = (is by.0, sym all ∙ by.1, (let lt = by.2 in omega arith)) }
+fault_by opened now places receipts evidence alike kept threads workers (Some Memory) by is not all same count = record { cause = (is by.0, sym all ∙ by.1, (let le = by.2 in omega arith), by.3) }
+fault_by opened now places receipts evidence alike kept threads workers None by is not all same count = record { cause = (is by.0, sym all ∙ by.1, (let le = by.2 in omega arith), by.3) }
 
 pub alike_of : {A : Type 0} (opened : ℕ) (now : World) (places : List (ℕ × ℕ)) (receipts : List (Vec Receipt A)) (evidence : Evidence) (fault : Option RunFault) → IsFaultFrom opened now places receipts evidence fault → Agrees fault → IsAlikeFrom opened now places receipts evidence
 alike_of opened now places receipts evidence (Some Receipts) is agrees = absurd (agrees refl)
+alike_of opened now places receipts evidence (Some Journal) is agrees = is.cause.0
 alike_of opened now places receipts evidence (Some Thread) is agrees = is.cause.0
 alike_of opened now places receipts evidence (Some Memory) is agrees = is.cause.0
 alike_of opened now places receipts evidence None is agrees = is.cause.0
@@ -90,13 +92,19 @@ alike_of opened now places receipts evidence None is agrees = is.cause.0
 pub quiet_of : {A : Type 0} (opened : ℕ) (now : World) (places : List (ℕ × ℕ)) (receipts : List (Vec Receipt A)) (evidence : Evidence) (fault : Option RunFault) → IsFaultFrom opened now places receipts evidence fault → fault ≡ None → list_all is_quiet (drop opened now.history) ≡ true
 quiet_of opened now places receipts evidence fault is none =
     let P : Option RunFault → Type 0 = λ f. IsFaultFrom opened now places receipts evidence f in
-    (subst P none is).cause.2
+    (subst P none is).cause.3
+
+pub journal_of : {A : Type 0} (opened : ℕ) (now : World) (places : List (ℕ × ℕ)) (receipts : List (Vec Receipt A)) (evidence : Evidence) (fault : Option RunFault) → IsFaultFrom opened now places receipts evidence fault → fault ≡ Some Journal → list_any is_stop now.history ≡ true
+journal_of opened now places receipts evidence fault is journal =
+    let P : Option RunFault → Type 0 = λ f. IsFaultFrom opened now places receipts evidence f in
+    let cause = (subst P journal is).cause in
+    cause.0.halted cause.1
 
 pub thread_of : {A : Type 0} (opened : ℕ) (now : World) (places : List (ℕ × ℕ)) (receipts : List (Vec Receipt A)) (evidence : Evidence) (fault : Option RunFault) → IsFaultFrom opened now places receipts evidence fault → fault ≡ Some Thread → list_any is_stop now.history ≡ true
 thread_of opened now places receipts evidence fault is thread =
     let P : Option RunFault → Type 0 = λ f. IsFaultFrom opened now places receipts evidence f in
     let cause = (subst P thread is).cause in
-    cause.0.stopped cause.1
+    cause.0.stopped cause.2
 
 pub memory_of : {A : Type 0} (opening now : World) (places : List (ℕ × ℕ)) (receipts : List (Vec Receipt A)) (evidence : Evidence) (fault : Option RunFault) → IsFaultFrom (length opening.history) now places receipts evidence fault → StopsAreTold opening now → fault ≡ Some Memory → list_any is_stop now.history ≡ true
 memory_of opening now places receipts evidence fault is told memory = by (list_any is_stop now.history) refl
@@ -105,7 +113,7 @@ memory_of opening now places receipts evidence fault is told memory = by (list_a
     P f = IsFaultFrom (length opening.history) now places receipts evidence f
 
     loud : list_all is_quiet (drop (length opening.history) now.history) ≡ false
-    loud = (subst P memory is).cause.2
+    loud = (subst P memory is).cause.3
 
     by : (b : Bool) → list_any is_stop now.history ≡ b → b ≡ true
     by true is = refl

@@ -1,5 +1,5 @@
-//! What lies under the lock: the dispatch, how many entries the workers made, and the references that builds
-//! reported and may not have.
+//! What lies under the lock: the dispatch, how many entries the workers made, the references that builds reported
+//! and may not have, and how far the run's journal is.
 
 ghost use Rattle.std.specs.Prelude.{◌≡◌, ◌+◌, ◌<◌, ◌≤◌, drop, reverse, true, IfErr, OnOk, OnErr, IsTrue};
 ghost use Rattle.nd_ledger.specs.Moves.{IsEndRefused};
@@ -7,6 +7,7 @@ ghost use Rattle.nd_receipts.specs.Made.{made, is_worker_cause};
 ghost use Rattle.nd_workers.specs.Steps.{IsUpheld};
 
 use crate::abandoning::abandon;
+use crate::keeping::Progress;
 use crate::opened::Opened;
 use nd_closure::Refs;
 use nd_history::{Entry, Why};
@@ -17,16 +18,17 @@ use nd_receipts::Misreports;
 use std::alloc::{AllocError, Global};
 use std::sync::ledger::{Book, Share};
 
-/// The dispatch with the book of what the workers made, the places that workers serve, and the references that
-/// were refused.
+/// The dispatch with the book of what the workers made, the places that workers serve, the references that were
+/// refused, and what is handed to the scribe and durable.
 #[derive(Drop)]
 pub(crate) struct Desk<L: Opened> {
     pub(crate) dispatch: Dispatch,
     pub(crate) book: Book<L>,
     pub(crate) manned: Vec<(u32, u32)>,
     pub(crate) misreports: Misreports,
+    pub(crate) progress: Progress<L>,
     ghost counted: { made dispatch.history ≡ book.total },
-    ghost upheld: { IsUpheld L.opening dispatch misreports },
+    ghost upheld: { IsUpheld L.opening dispatch misreports progress.handed.entries progress.kept.entries },
 }
 
 /// What there is to do for a worker.
@@ -193,7 +195,7 @@ impl<L: Opened> Desk<L> {
     }
 
     /// Nothing more is begun.
-    fn begin_no_more(&mut self) {
+    pub(crate) fn begin_no_more(&mut self) {
         let Desk {
             dispatch,
             manned,

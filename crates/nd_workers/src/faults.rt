@@ -5,7 +5,7 @@ ghost use Rattle.std.specs.List.{list_any};
 ghost use Rattle.nd_history.specs.Standing.{drvs_in};
 ghost use Rattle.nd_receipts.specs.Dealt.{AreApart};
 ghost use Rattle.nd_receipts.specs.Walks.{AreUnknown};
-ghost use Rattle.nd_workers.specs.Faults.{IsAlikeFrom, IsFaultBy, IsStopped};
+ghost use Rattle.nd_workers.specs.Faults.{IsAlikeFrom, IsFaultBy, IsHalted, IsStopped};
 ghost use Rattle.nd_workers.specs.Runs.{AreReceiptedFrom};
 ghost use Rattle.nd_workers.specs.Served.{is_refused};
 
@@ -75,6 +75,16 @@ fn is_stopped(dispatch: &Dispatch, threads: usize, workers: usize) -> bool
     has_stop(dispatch.history())
 }
 
+/// Whether a stop is in the history, where the journal doesn't hold all of it.
+fn is_halted(dispatch: &Dispatch, kept: bool) -> bool
+    ensures { IsTrue result ↔ IsHalted kept dispatch.now.history }
+{
+    if kept {
+        return true;
+    }
+    has_stop(dispatch.history())
+}
+
 /// Whether what came back of a run that began behind the first `opened` entries is what its history says.
 pub(crate) fn is_alike(
     opened: usize,
@@ -101,6 +111,9 @@ pub(crate) fn is_alike(
     if !is_stopped(dispatch, evidence.threads, places.len()) {
         return false;
     }
+    if !is_halted(dispatch, evidence.kept) {
+        return false;
+    }
     if !are_rows_noted(dispatch.history(), receipts, evidence.copies.as_slice()) {
         return false;
     }
@@ -111,18 +124,22 @@ pub(crate) fn is_alike(
 }
 
 /// What a run ended with that began behind the first `opened` entries, with so many of its workers in threads.
-/// `alike` says whether what came back is what the history says.
+/// `alike` says whether what came back is what the history says, and `kept` whether the journal holds it.
 pub(crate) fn fault_of(
     opened: usize,
     dispatch: &Dispatch,
     alike: bool,
+    kept: bool,
     threads: usize,
     workers: usize,
 ) -> Option<RunFault>
-    ensures { IsFaultBy alike threads workers (drop opened dispatch.now.history) result }
+    ensures { IsFaultBy alike kept threads workers (drop opened dispatch.now.history) result }
 {
     if !alike {
         return Some(RunFault::Receipts);
+    }
+    if !kept {
+        return Some(RunFault::Journal);
     }
     if threads < workers {
         return Some(RunFault::Thread);

@@ -4,29 +4,57 @@
 ghost use Rattle.std.specs.Prelude.{◌≡◌, ◌+◌, ◌<◌, ◌≤◌, [], true, IfOk, IfErr, OnOk, OnErr, ℕ, List};
 ghost use Rattle.nd_receipts.specs.Made.{is_worker_cause};
 ghost use Rattle.nd_receipts.specs.Noted.{HasNoted, HasJudged, HasBegun, HasEnded, HasFetched, IsFinished, GoesOn, track_of};
+ghost use Rattle.nd_workers.specs.Leaves.{Allows};
 
 use crate::bells::Bells;
+use crate::calling::Guarded;
 use crate::desk::Desk;
 use crate::hand::Hand;
+use crate::keeping::{Leave, Step};
 use crate::opened::Opened;
+use crate::scribing::leave_for;
 use nd_closure::Refs;
 use nd_history::{Entry, Why};
 use nd_leases::Ticket;
+use nd_keeping::Kept;
 use nd_ledger::{Job, Refusal, Refused};
 use nd_path::PathSet;
 use nd_receipts::receipt::Kind;
 use nd_transports::kinds::Phase;
-use nd_transports::serving::{Fetch, Outcome, serve_build, serve_copy};
+use nd_transports::serving::{Fetch, Outcome};
 use nd_transports::transport::Transport;
 use std::alloc::{AllocError, Global};
-use std::sync::{Mutex, Wait};
+use std::sync::{Condvar, Mutex, Wait};
 
-/// What the workers share. Who makes an entry wakes nobody: a worker looks for its next lease after each
-/// end, and rings for the others then.
+/// What the workers and the scribe share. Who makes an entry wakes nobody: a worker looks for its next lease after
+/// each end, and rings for the others then; and who waits, for a lease or for an entry to be durable, rings for the
+/// scribe.
 #[derive(Drop)]
 pub(crate) struct Shared<L: Opened> {
     pub(crate) desk: Mutex<Desk<L>>,
     pub(crate) bells: Bells,
+    /// The scribe's bell.
+    pub(crate) news: Condvar,
+    /// Whether the run keeps its history in a journal.
+    pub(crate) keeps: bool,
+    /// What is durable when the run begins.
+    pub(crate) first: Kept,
+    ghost keeps_is: { keeps ≡ L.keeping.keeps },
+    ghost there: { first.book ≡ L.keeping.book },
+}
+
+impl<L: Opened> Shared<L> {
+    /// Leave where the run keeps no history, and nothing has to be durable.
+    pub(crate) fn free_leave(&self) -> Leave<L> {
+        Leave::free(&self.first)
+    }
+
+    /// Rings for the scribe, where there is one.
+    pub(crate) fn tell(&self) {
+        if self.keeps {
+            self.news.notify_one();
+        }
+    }
 }
 
 /// Under the lock, gives a lease back.
@@ -228,22 +256,24 @@ fn unfinished<L: Opened, R: Wait>(
     Ok(())
 }
 
-/// Builds what was copied, and makes the entry of its end: one build stands behind it.
+/// Builds what was copied, with leave for that, and makes the entry of its end: one build stands behind it.
 #[tactic(auto, using(crate::proofs::Going::finishes_status, crate::proofs::Going::finishes_lost, crate::proofs::Going::finishes_unreported))]
 fn build_lease<L: Opened, T: Transport, R: Wait>(
     rt: &R,
     alloc: Global,
     shared: &Shared<L>,
     hand: &mut Hand<L>,
-    transport: &mut T,
+    transport: &mut Guarded<T>,
+    leave: &Leave<L>,
     ticket: Ticket,
 ) -> Result<(), Refusal>
     requires room { 0 < hand.old.notes.room }
-    requires phase { (T.state transport.old).phase ≡ Phase.Copied }
-    requires drv { (T.state transport.old).drv ≡ ticket.drv }
-    ensures { OnOk result (IsFinished (track_of hand.old.notes (T.state transport.old)) (track_of hand.new.notes (T.state transport.new)) ticket.drv) }
+    requires phase { transport.old.phase ≡ Phase.Copied }
+    requires drv { transport.old.drv ≡ ticket.drv }
+    requires leave { Allows L.keeping.keeps leave.now.kept.entries leave.now.place Step.Build ticket }
+    ensures { OnOk result (IsFinished (track_of hand.old.notes transport.old) (track_of hand.new.notes transport.new) ticket.drv) }
 {
-    match serve_build(transport) {
+    match transport.build(leave, ticket) {
         Outcome::Built(refs) => {
             finish(rt, alloc, shared, hand, ticket, refs)?;
             Ok(())
@@ -263,24 +293,26 @@ fn build_lease<L: Opened, T: Transport, R: Wait>(
     }
 }
 
-/// Copies what a lease needs, and makes the entry of its start, or of its end where it can't start. The
-/// answer is whether it started.
+/// Copies what a lease needs, with leave for that, and makes the entry of its start, or of its end where it can't
+/// start. The answer is whether it started.
 #[tactic(auto, using(crate::proofs::Going::has_begun, crate::proofs::Going::begun_room, crate::proofs::Going::goes_short))]
 fn fetch_lease<L: Opened, T: Transport, R: Wait>(
     rt: &R,
     alloc: Global,
     shared: &Shared<L>,
     hand: &mut Hand<L>,
-    transport: &mut T,
+    transport: &mut Guarded<T>,
+    leave: &Leave<L>,
     job: Job,
 ) -> Result<bool, Refusal>
-    requires { 0 < hand.old.notes.room }
-    ensures goes { IfOk result (HasFetched (track_of hand.old.notes (T.state transport.old)) (track_of hand.new.notes (T.state transport.new)) job.ticket.drv) }
-    ensures phase { result ≡ Ok true → (T.state transport.new).phase ≡ Phase.Copied }
-    ensures drv { result ≡ Ok true → (T.state transport.new).drv ≡ job.ticket.drv }
+    requires room { 0 < hand.old.notes.room }
+    requires leave { Allows L.keeping.keeps leave.now.kept.entries leave.now.place Step.Call job.ticket }
+    ensures goes { IfOk result (HasFetched (track_of hand.old.notes transport.old) (track_of hand.new.notes transport.new) job.ticket.drv) }
+    ensures phase { result ≡ Ok true → transport.new.phase ≡ Phase.Copied }
+    ensures drv { result ≡ Ok true → transport.new.drv ≡ job.ticket.drv }
     ensures room { OnOk result (hand.old.notes.room ≤ hand.new.notes.room + 1) }
 {
-    let fetched = serve_copy(transport, &job);
+    let fetched = transport.fetch(leave, &job);
     let ticket = job.ticket;
     let paths = into_paths(job);
     match fetched {
@@ -327,22 +359,32 @@ fn copied_paths(alloc: Global, calls: u8, paths: PathSet) -> PathSet
     PathSet::new(alloc)
 }
 
-/// Serves a lease to its end.
+/// Serves a lease to its end. The answer is whether the worker goes on: it leaves where the journal has refused an
+/// entry that its next step stands behind.
 pub(crate) fn serve<L: Opened, T: Transport, R: Wait>(
     rt: &R,
     alloc: Global,
     shared: &Shared<L>,
     hand: &mut Hand<L>,
-    transport: &mut T,
+    transport: &mut Guarded<T>,
     job: Job,
-) -> Result<(), Refusal>
+) -> Result<bool, Refusal>
     requires { 1 < hand.old.notes.room }
-    ensures { OnOk result (GoesOn (track_of hand.old.notes (T.state transport.old)) (track_of hand.new.notes (T.state transport.new))) }
+    ensures { OnOk result (GoesOn (track_of hand.old.notes transport.old) (track_of hand.new.notes transport.new)) }
 {
     let ticket = job.ticket;
-    let started = fetch_lease(rt, alloc, shared, hand, transport, job)?;
+    let Some(leave) = leave_for(rt, shared, Step::Call, &ticket) else {
+        drop(job);
+        return Ok(false);
+    };
+    let started = fetch_lease(rt, alloc, shared, hand, transport, &leave, job)?;
+    drop(leave);
     if !started {
-        return Ok(());
+        return Ok(true);
     }
-    build_lease(rt, alloc, shared, hand, transport, ticket)
+    let Some(leave) = leave_for(rt, shared, Step::Build, &ticket) else {
+        return Ok(false);
+    };
+    build_lease(rt, alloc, shared, hand, transport, &leave, ticket)?;
+    Ok(true)
 }
