@@ -1,5 +1,5 @@
 -- Beginnings of one list of entries.
-use Rattle.std.proofs.Common.{◌≡◌, ◌∙◌, ℕ, ◌<◌, ◌≤◌, Bool, true, false, List, length, take, MatchBool, refl, sym, ap, arith, leb-true, leb-false}
+use Rattle.std.proofs.Common.{◌≡◌, ◌∙◌, ℕ, zero, suc, ◌<◌, ◌≤◌, Bool, true, false, List, [], ◌∷◌, ◌++◌, length, take, slice_get, Some, MatchBool, refl, sym, ap, arith, append_assoc, leb-true, leb-false}
 use Rattle.std.proofs.Math.Dec.{leb}
 use Rattle.std.proofs.lemmas.List.{take_at, take_all, take-take}
 use mathlib.Core.List.{IsPrefix}
@@ -42,3 +42,39 @@ front_begins whole one other short long is are p q = by (leb short long) refl
           begins = begins_other other.entries one.entries whole q p (omega arith);
           longer = omega arith;
         }
+
+-- ---- for whoever holds a beginning of a history
+
+pub begins_through : (entries middle first : List Entry) → BeginsWith entries middle → BeginsWith middle first → BeginsWith entries first
+begins_through entries middle first one other = record {
+  later = other.later ++ one.later;
+  whole = one.whole ∙ ap (λ (es : List Entry). es ++ one.later) other.whole ∙ append_assoc first other.later one.later;
+}
+
+-- a beginning stays one when the history grows
+pub begins_grown : (entries first added : List Entry) → BeginsWith entries first → BeginsWith (entries ++ added) first
+begins_grown entries first added begins = record {
+  later = begins.later ++ added;
+  whole = ap (λ (es : List Entry). es ++ added) begins.whole ∙ append_assoc first begins.later added;
+}
+
+at_front : (first later : List Entry) (n : ℕ) (e : Entry) → slice_get first n ≡ Some e → slice_get (first ++ later) n ≡ Some e
+at_front [] later n e is = cc
+at_front (x ∷ first) later zero e is = is
+at_front (x ∷ first) later (suc n) e is = at_front first later n e is
+
+in_front : (first later : List Entry) (n : ℕ) (e : Entry) → n < length first → slice_get (first ++ later) n ≡ Some e → slice_get first n ≡ Some e
+in_front [] later n e within is = absurd (omega arith)
+in_front (x ∷ first) later zero e within is = is
+in_front (x ∷ first) later (suc n) e within is = in_front first later n e (omega arith) is
+
+-- what stands in a beginning stands in the whole, at the same place
+pub stands_in_whole : (entries first : List Entry) (n : ℕ) (e : Entry) → BeginsWith entries first → slice_get first n ≡ Some e → slice_get entries n ≡ Some e
+stands_in_whole entries first n e begins is = ap (λ (es : List Entry). slice_get es n) begins.whole ∙ at_front first begins.later n e is
+
+-- what stands in the whole at a place that the beginning has, stands there in the beginning
+pub stands_in_front : (entries first : List Entry) (n : ℕ) (e : Entry) → BeginsWith entries first → n < length first → slice_get entries n ≡ Some e → slice_get first n ≡ Some e
+stands_in_front entries first n e begins within is =
+    in_front first begins.later n e within (sym (ap (λ (es : List Entry). slice_get es n) begins.whole) ∙ is)
+
+pub ruleset beginnings = (begins_through, begins_grown, stands_in_whole, stands_in_front)

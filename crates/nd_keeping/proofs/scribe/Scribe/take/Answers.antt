@@ -1,4 +1,4 @@
-use Rattle.std.proofs.Common.{◌≡◌, ◌∙◌, ◌==◌, ◌&&◌, not, ℕ, Bool, ◌++◌, length, sym, ap}
+use Rattle.std.proofs.Common.{◌≡◌, ◌∙◌, ◌==◌, ◌&&◌, not, ℕ, Bool, ◌++◌, length, sym, ap, subst}
 use Rattle.std.specs.List.{flat_map}
 use Rattle.nd_history_text.specs.HistoryTexts.{line_of}
 use Rattle.nd_keeping.specs.Scribing.{Scribing, opening_of}
@@ -14,4 +14,4 @@ invariant_of-self-then-enter_all g c =
     c.are_first-are_first.ensures ∙ ap (λ (n : ℕ). not i.begun && (n == 0)) c.len-2.ensures in
     rw c.if-enter_all.ensures
     (taken s c.put_lines.new.text.items added c.self.invariant (not_empty (length added) (sym c.is_empty.ensures ∙ c.if-is_empty.false)) c.look_at.ensures
-    (c.in_ok-put_lines.ensures.put ∙ ap (λ (t : Bool). i.text.items ++ (opening_of t ++ flat_map line_of added)) first))
+    (subst (λ (t : Bool). c.put_lines.new.text.items ≡ i.text.items ++ (opening_of t ++ flat_map line_of added)) first c.in_ok-put_lines.ensures.put))
