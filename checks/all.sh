@@ -4,8 +4,8 @@
 #
 #     checks/all.sh [--long]
 #
-# examples.py      the commands that README.md, docs/SERVE.md and docs/REFUSALS.md show, and what they show of the
-#                  answers; needs the built program and Python 3
+# examples.py      the commands that README.md and pages of docs/ show, and what they show of the answers; needs the
+#                  built program and Python 3
 # explain.sh       what --explain says of each refusal, and the table of docs/REFUSALS.md; needs the built program
 # first.sh         `./try` on the bundled example, beside the built program where there is one, and what `./try` and
 #                  `./build` refuse; needs the toolchain and Python 3, and some minutes the first time
@@ -17,10 +17,12 @@
 #                  gone on from; needs the built program and Python 3
 # durable.py       what `serve` asks the system for: each answer behind its sync, and refusals of the journal; needs the
 #                  built program, strace and Python 3
+# journal.py       runs with a journal: killed and gone on from, each call behind its sync, refusals of the journal and
+#                  a full disk; needs the built program, Python 3, a C compiler and root
 # real-park.sh     a graph on real Nix stores; needs the built program, Nix 2.8 or later, a static busybox, Python 3
 #                  and root
 # bad-day.sh       graphs on machines behind ssh that break: connections refused, builds lost, collections in the middle,
-#                  full disks, signals and silence; needs what ssh-park.sh needs, and takes some twenty minutes
+#                  full disks, signals, kills and silence; needs what ssh-park.sh needs, and takes some twenty-five minutes
 # ssh-park.sh      the same graph on machines behind ssh; needs what real-park.sh needs, and OpenSSH's sshd
 # allocations.sh   each allocation refused in turn; needs the built program, a C compiler, and the tests of
 #                  `nd_test_ledger` that `rt test` leaves in its folder
@@ -50,6 +52,7 @@ needs_of() {
     examples.py|runs.py|worlds.py|serve.sh) echo program python3 ;;
     durable.py) echo program python3 strace ;;
     faults.py) echo program python3 cc ;;
+    journal.py) echo program python3 cc root ;;
     first.sh) echo rt python3 ;;
     real-park.sh) echo program nix-store busybox python3 root ;;
     bad-day.sh|ssh-park.sh) echo program nix-store busybox python3 root ssh-keygen sshd ;;

@@ -1,9 +1,9 @@
 #!/bin/sh
 # Refuses the first, second, third allocation of the built program and so on, until a run meets none,
-# for `ask`, `path`, `park`, `sim`, `audit` and `serve`. Each run must end with the ample output and its status, or
+# for `ask`, `path`, `park`, `sim`, `audit`, `report` and `serve`. Each run must end with the ample output and its status, or
 # with status 5, the line "nix-dispatch: out of memory" and no output, or for `sim` and `serve` the beginning of the
 # ample output; a journal that `serve` leaves is gone on from. A run ends in one of its ways, and its history is
-# legal. Then it does so to the built test
+# legal; so with a journal, which is gone on from. Then it does so to the built test
 # `allocations_refused` of `nd_test_ledger`, which looks at what a refused call on a dispatch leaves: each
 # run of it must pass. It needs a C compiler, the program, and the tests that `rt test` leaves.
 set -u
@@ -72,10 +72,12 @@ sweep examples/farm/bundle sim --builders @examples/farm/builders --keep-going -
 sweep "$work/commands" serve --bundle examples/farm/bundle --builders @examples/farm/builders --journal "$work/journal"
 sweep /dev/null park --builders @examples/farm/builders
 sweep examples/farm/bundle audit --builders @examples/farm/builders --keep-going --history examples/farm/history
+sweep examples/farm/bundle audit --builders @examples/farm/builders --extra aarch64-linux --features kvm,nixos-test --journal examples/farm/journal
+sweep examples/farm/bundle report --builders @examples/farm/builders --extra aarch64-linux --features kvm,nixos-test --journal examples/farm/journal
 
 # A run may go on without what it couldn't have: a lease then fails for want of memory, or its stand-in
 # is lost. So it is refused, and writes nothing; or it ends, with a fault or without, and the history that
-# it writes is legal.
+# it writes is legal. A journal that it leaves is legal too, and a run goes on from it.
 run_verdict() {
   if [ -s "$work/out" ]; then
     "$program" audit --builders m --jobs 0 --history "$work/out" < crates/nix_dispatch/stdin
@@ -83,28 +85,43 @@ run_verdict() {
     echo 'legal 0'
   fi
 }
+run_goes_on() {
+  [ -e "$work/journal" ] || return 0
+  "$program" audit --builders m --jobs 0 --journal "$work/journal" < crates/nix_dispatch/stdin > "$work/resumed" || return 1
+  resumed=0
+  "$program" run --builders m --jobs 0 --journal "$work/journal" --resume < crates/nix_dispatch/stdin > "$work/resumed" 2>&1 || resumed=$?
+  [ "$resumed" -le 1 ] || grep -qx 'stop' "$work/journal"
+}
 
-"$program" run --builders m --jobs 0 < crates/nix_dispatch/stdin > "$work/out"
-ample=$?.$(run_verdict)
-number=1
-refused=0
-last=0
-while [ "$number" -le $((last + 200)) ] && [ "$number" -le 5000 ]; do
-  REFUSE=$number LD_PRELOAD="$work/refuse.so" "$program" run --builders m --jobs 0 \
-    < crates/nix_dispatch/stdin > "$work/out" 2> "$work/err"
-  end=$?.$(run_verdict)
-  case $end in
-    [015].'legal '*) ;;
-    *) echo "run: allocation $number refused: status and verdict $end"; exit 1 ;;
-  esac
-  [ "$end" = "$ample" ] || { refused=$((refused + 1)); last=$number; }
-  number=$((number + 1))
-done
-if [ "$refused" -eq 0 ] || [ "$number" -gt 5000 ]; then
-  echo "run: $refused runs were not the ample one, of $number"
-  exit 1
-fi
-echo "run: $refused runs were not the ample one, the last at allocation $last, and each history is legal"
+# Such runs, with these words more.
+sweep_runs() {
+  rm -f "$work/journal"
+  "$program" run --builders m --jobs 0 "$@" < crates/nix_dispatch/stdin > "$work/out"
+  ample=$?.$(run_verdict)
+  number=1
+  refused=0
+  last=0
+  while [ "$number" -le $((last + 200)) ] && [ "$number" -le 5000 ]; do
+    rm -f "$work/journal"
+    REFUSE=$number LD_PRELOAD="$work/refuse.so" "$program" run --builders m --jobs 0 "$@" \
+      < crates/nix_dispatch/stdin > "$work/out" 2> "$work/err"
+    end=$?.$(run_verdict)
+    case $end in
+      [015].'legal '*) ;;
+      *) echo "run $*: allocation $number refused: status and verdict $end"; exit 1 ;;
+    esac
+    run_goes_on || { echo "run $*: allocation $number refused: its journal isn't gone on from: $(cat "$work/resumed")"; exit 1; }
+    [ "$end" = "$ample" ] || { refused=$((refused + 1)); last=$number; }
+    number=$((number + 1))
+  done
+  if [ "$refused" -eq 0 ] || [ "$number" -gt 5000 ]; then
+    echo "run $*: $refused runs were not the ample one, of $number"
+    exit 1
+  fi
+  echo "run $*: $refused runs were not the ample one, the last at allocation $last, and each history is legal"
+}
+sweep_runs
+sweep_runs --journal "$work/journal"
 
 tests=crates/nd_test_ledger/out/nd_test_ledger_tests
 number=1

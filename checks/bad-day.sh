@@ -4,10 +4,10 @@
 #
 #     checks/bad-day.sh [-k] [CASE ..]
 #
-# A case is a function below; without a name all are run. Each says in a line what it saw. FARM names the folder of
-# the scripts, which is farm where it isn't set, and NIX_DISPATCH the program. It needs Nix 2.8 or later, a static
-# busybox, Python 3, OpenSSH's sshd, a shell `dash` and root, and installs nothing. The sshd listens on port 2223 of
-# 127.0.0.1, or on that of PORT, and ends with the script. With -k the folder with all that it made stays.
+# A case is a function below or in bad-day/killed.sh; without a name all are run. Each says in a line what it saw. FARM
+# names the folder of the scripts, which is farm where it isn't set, and NIX_DISPATCH the program. It needs Nix 2.8 or
+# later, a static busybox, Python 3, OpenSSH's sshd, a shell `dash` and root, and installs nothing. The sshd listens on
+# port 2223 of 127.0.0.1, or on that of PORT, and ends with the script. With -k the folder with all that it made stays.
 set -u
 
 keep=''
@@ -326,66 +326,8 @@ told() {
   did="a failure with its status, machine, last lines and log; nobuilder with the system and the feature; down with the cause"
 }
 
-# What is looked at behind a run that was ended by a signal: nothing goes on, here or there.
-quiet() { soon 200 all_ended && soon 100 unconnected; }
-unconnected() { [ -z "$(below_with "$(cat "$folder/sshd.pid")" 'sshd: root')" ]; }
-
-# 7: runs that are ended by a signal, and the same folder again
-interrupted() {
-  machine one 2 > "$folder/builders"
-  for signal in INT TERM KILL; do
-    salt=int$signal
-    rm -rf "$folder/stopped"
-    root=$(drv steps)
-    begin stopped --jobs 0 "$root"
-    soon 300 logged ' end '
-    sleep 1
-    case $signal in
-      INT) kill -INT "-$builder" ;;
-      *) kill -"$signal" "$builder" ;;
-    esac
-    want "$signal: it goes on" soon 300 ended
-    wait "$builder" 2> /dev/null
-    status=$?
-    case $signal in
-      KILL) want 'KILL: old files are left' [ ! -s "$folder/stopped/report" ] ;;
-      *)
-        want "$signal: status $status" is "$status" "$([ "$signal" = INT ] && echo 130 || echo 143)"
-        want "$signal: there is no history" [ -s "$folder/stopped/history" ]
-        want "$signal: the report doesn't say it" has "$folder/stopped/report" '^interrupted '
-        want "$signal: nothing counts as leased" [ "$(counted leased stopped || echo 0)" -gt 0 ]
-        sound stopped 18 ;;
-    esac
-    want "$signal: something goes on behind it" quiet
-    build stopped --jobs 0 "$root"
-    want "$signal: again in the folder, it ends with status $status" is "$status" 0
-    want "$signal: again in the folder, the report says it" [ "$(grep -c '^interrupted' "$folder/stopped/report")" -eq 0 ]
-    sound stopped "$(counted total stopped)"
-  done
-  did="Ctrl-C, TERM and kill -9 of farm/build: a legal history with its open leases, or none; then the same folder again"
-}
-
-# 7: the program is killed
-killed_run() {
-  machine one 2 > "$folder/builders"
-  salt=killrun
-  root=$(drv steps)
-  begin killrun --jobs 0 "$root"
-  soon 300 logged ' end '
-  # shellcheck disable=SC2046  # process numbers
-  kill -9 $(below_with "$builder" 'run --agents')
-  want 'it goes on' soon 300 ended
-  wait "$builder" 2> /dev/null
-  status=$?
-  want "status $status" is "$status" 5
-  want "the report doesn't say it" has "$folder/killrun/report" '^interrupted '
-  sound killrun 18
-  want 'something goes on behind it' quiet
-  build killrun --jobs 0 "$root"
-  want "again in the folder, it ends with status $status" is "$status" 0
-  sound killrun "$(counted total killrun)"
-  did="kill -9 of run: status 5, a report that says so, and the same folder again"
-}
+# shellcheck source=checks/bad-day/killed.sh
+. checks/bad-day/killed.sh
 
 # 7: a folder that is full, from the start and in the run
 full_folder() {
@@ -406,13 +348,20 @@ full_folder() {
   soon 900 ended
   wait "$builder"
   second=$?
+  cp "$folder/full.err" "$folder/full.first"
+  mark tiny2/run
+  rm "$folder/tiny2/fill"
+  build tiny2/run --jobs 0 "$(drv steps)"
+  want "with more room: status $status" is "$status" 0
+  sound tiny2/run "$(counted total tiny2/run)"
+  none_again 'with more room'
   umount "$folder/tiny2"
   want "a folder that fills up in the run: status $second" is "$second" 5
-  want "a folder that fills up in the run: it isn't said" has "$folder/full.err" 'disk of .* is full'
-  stranded=$(sed -n 's/.*history.1 is left in //p' "$folder/full.err")
+  want "a folder that fills up in the run: it isn't said" has "$folder/full.first" 'disk of .* is full'
+  stranded=$(sed -n 's/.*history.1 is left in //p' "$folder/full.first")
   want 'the history is gone' [ -s "${stranded:-/none}" ]
   [ -z "$stranded" ] || rm -rf "${stranded%/*}"
-  did="a folder that fills up in the run: status 5, said, and the history is left elsewhere"
+  did="a folder that fills up in the run: status 5, said, the history is left elsewhere, and with more room nothing is built again"
 }
 
 # 7: a folder that is full from the start
@@ -705,7 +654,7 @@ quick() {
 }
 
 failed=0
-all='blamed slots refused lost collected collected_there gone needed progress told interrupted killed_run full_at_start full_folder silent stalled killed_agent small substituted full_machine full_store read_only two_at_once awks shells quick'
+all='blamed slots refused lost collected collected_there gone needed progress told interrupted killed_run killed_all killed_half killed_later begun_anew full_at_start full_folder silent stalled killed_agent small substituted full_machine full_store read_only two_at_once awks shells quick'
 # shellcheck disable=SC2086  # words
 for case in ${*:-$all}; do
   wrong='' did=''

@@ -1,6 +1,6 @@
 #!/usr/bin/env python3
-"""Runs the commands that README.md, docs/SERVE.md and docs/REFUSALS.md show with an answer, and looks for that
-answer in what the built program says: its lines have to stand there one after another.
+"""Runs the commands that README.md, docs/SERVE.md, docs/JOURNAL.md and docs/REFUSALS.md show with an answer, and looks
+for that answer in what the built program says: its lines have to stand there one after another.
 
 A command is what stands between fences, an answer the lines behind it that begin with four blanks. Commands of
 other programs than `nix-dispatch` have no answers. `./try` is run as the built program, which gives the same.
@@ -14,7 +14,7 @@ import tempfile
 
 TOP = os.path.dirname(os.path.dirname(os.path.abspath(__file__)))
 PROGRAM = os.path.join(TOP, 'crates', 'nix_dispatch', 'out', 'nix_dispatch')
-PAGES = ['README.md', 'docs/SERVE.md', 'docs/REFUSALS.md']
+PAGES = ['README.md', 'docs/SERVE.md', 'docs/JOURNAL.md', 'docs/REFUSALS.md']
 
 
 def examples(text):

@@ -35,7 +35,7 @@ refused() {
   explained "$line" "$where"
 }
 
-# As `refused`, of a session whose journal is refused: that stays as it was.
+# As `refused`, of a command whose journal is refused: that stays as it was.
 left_alone() {
   cp "$journal" "$folder/before"
   refused "$@"
@@ -124,20 +124,32 @@ printf 'Derive()\303\244' > "$folder/in"
 refused 'derivation: BadPath' 3 'NAME' path hello
 refused 'derivation: BadDerivation' 3 'standard input' path hello.drv
 
-# The journal of a session.
+# The journal of a session and of a run.
 bundle "$good"
 journal=$folder/journal
-printf 'nix-dispatch-history 2\n' > "$journal"
-left_alone 'journal: NotEmpty' 3 "--journal, file $journal" serve --bundle "$folder/in" --journal "$journal"
-(
-  flock -n 9
-  left_alone 'journal: InUse' 3 "--journal, file $journal" serve --bundle "$folder/in" --journal "$journal" --resume
-) 9> "$journal"
+for command in serve run; do
+  printf 'nix-dispatch-history 2\n' > "$journal"
+  left_alone 'journal: NotEmpty' 3 "--journal, file $journal" "$command" --bundle "$folder/in" --journal "$journal"
+  (
+    flock -n 9
+    left_alone 'journal: InUse' 3 "--journal, file $journal" "$command" --bundle "$folder/in" --journal "$journal" --resume
+  ) 9> "$journal"
+  printf 'nix-dispatch-history 2\nbuilt\n' > "$journal"
+  left_alone 'journal: BadLine 2' 3 "--journal, file $journal, line 2" "$command" --bundle "$folder/in" --journal "$journal" --resume
+  printf 'nix-dispatch-history 2\nstarted 0\n' > "$journal"
+  left_alone 'journal: Illegal 0 Live' 3 "--journal, file $journal, line 2" "$command" --bundle "$folder/in" --journal "$journal" --resume
+  refused 'journal failed' 5 '--journal, file /nowhere/journal' "$command" --bundle "$folder/in" --journal /nowhere/journal
+done
+
+# A journal that is looked at.
+left_alone 'journal: Illegal 0 Live' 3 "--journal, file $journal, line 2" report --journal "$journal"
 printf 'nix-dispatch-history 2\nbuilt\n' > "$journal"
-left_alone 'journal: BadLine 2' 3 "--journal, file $journal, line 2" serve --bundle "$folder/in" --journal "$journal" --resume
-printf 'nix-dispatch-history 2\nstarted 0\n' > "$journal"
-left_alone 'journal: Illegal 0 Live' 3 "--journal, file $journal, line 2" serve --bundle "$folder/in" --journal "$journal" --resume
-refused 'journal failed' 5 '--journal, file /nowhere/journal' serve --bundle "$folder/in" --journal /nowhere/journal
+left_alone 'journal: BadLine 2' 3 "--journal, file $journal, line 2" report --journal "$journal"
+left_alone 'history: BadLine 2' 3 "--journal, file $journal, line 2" audit --journal "$journal"
+printf 'chosen 0 0 0\n' > "$journal"
+left_alone 'history: Version' 3 "--journal, file $journal, line 1" audit --journal "$journal"
+refused 'journal failed' 5 '--journal, file /nowhere/journal' report --journal /nowhere/journal
+refused 'read failed' 5 '--journal, file /nowhere/journal' audit --journal /nowhere/journal
 
 # The devices.
 bundle "$good"

@@ -36,14 +36,15 @@ function read_park(    line, word) {
   close(folder "/park")
 }
 
-# When each build began and ended, and why it didn't end well: the last of each.
+# When each build began and ended, and why it didn't end well: the last of each. A build that went on when all was
+# killed is begun again.
 function read_events(    line, word, count, at) {
   while ((getline line < (folder "/events")) > 0) {
     count = split(line, word, " ")
     if (word[4] == "round") round = word[5] + 0
-    if (word[4] == "begin") { begun[word[5]] = word[1]; ended[word[5]] = ""; on[word[5]] = word[2] " " word[3]; in_round[word[5]] = round }
-    if (word[4] == "valid") { begun[word[5]] = word[1]; ended[word[5]] = word[1]; end_status[word[5]] = 0; on[word[5]] = word[2] " " word[3]; in_round[word[5]] = round }
-    if (word[4] == "end") { ended[word[5]] = word[1]; end_status[word[5]] = word[6] }
+    if (word[4] == "begin") { begun[word[5]] = word[1]; ended[word[5]] = ""; delete cause[word[5]] }
+    if (word[4] == "valid") { begun[word[5]] = word[1]; ended[word[5]] = word[1]; delete cause[word[5]] }
+    if (word[4] == "end") ended[word[5]] = word[1]
     if (word[4] == "failed" || word[4] == "lost") {
       at = word[4] == "failed" ? 8 : 7
       cause[word[5]] = words_from(word, at, count)
@@ -91,9 +92,7 @@ function read_round(k,    line, at, count, drvs, path, state, how, list, word, a
   for (at = 0; at <= machines; at++) is_down[at] = 0
 
   any = 0
-  told = 0
   while ((getline line < (folder "/history." k)) > 0) {
-    told += 1
     count = split(line, word, " ")
     drv = word[2]
     if (word[1] == "chosen") { state[drv] = "leased"; place[drv] = word[3] " " word[4] }
@@ -106,12 +105,6 @@ function read_round(k,    line, at, count, drvs, path, state, how, list, word, a
   close(folder "/history." k)
   for (drv = 0; drv < drvs; drv++) {
     one = path[drv]
-    if (told == 0 && in_round[one] == k) {
-      # There is no history: what the agents noted.
-      place[drv] = on[one]
-      if (ended[one] == "") state[drv] = "leased"
-      else if (end_status[one] == 0) state[drv] = "built"
-    }
     if (state[drv] == "waiting") {
       count = inputs_of(kept[drv], list)
       for (at = 1; at <= count; at++) if (list[at] in barred) { state[drv] = "cancelled"; break }
@@ -142,6 +135,11 @@ function why(one,    words) {
   if (how_of[one] == "references") return "it refers to what it may not refer to"
   if (how_of[one] == "memory") return "the dispatcher had no memory for the lease"
   if (status_of[one] == "cancelled") return "it waited when another failed, or depends on one that did"
+  if (status_of[one] == "failed" && !(one in cause) && how_of[one] == "lost") {
+    # A lease that was started when all was killed, and whose machine isn't reached behind that.
+    split(place_of[one], where, " ")
+    if ((round_of[one], where[1]) in down_cause) return down_cause[round_of[one], where[1]]
+  }
   if (status_of[one] == "failed") return (one in cause) ? cause[one] : "the agent is gone"
   return ""
 }

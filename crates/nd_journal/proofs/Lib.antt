@@ -1,5 +1,5 @@
 pub mod LinesKept
 pub mod Reading
 pub mod OneAnswer
-pub mod Told
 pub mod Looked
+pub mod Told

@@ -1,5 +1,5 @@
 -- Lemmas on a run's fault and its cause.
-use Rattle.std.proofs.Common.{◌≡◌, ℕ, zero, suc, ◌+◌, ◌<◌, ◌⊎◌, inl, inr, Bool, true, false, ◌||◌, List, [], ◌∷◌, ◌++◌, length, drop, reverse, Option, Some, None, slice_get, Vec, refl, sym, ap, ◌∙◌, subst, arith}
+use Rattle.std.proofs.Common.{◌≡◌, ℕ, zero, suc, ◌<◌, ◌⊎◌, inl, inr, Bool, true, false, ◌||◌, List, [], ◌∷◌, ◌++◌, length, take, drop, reverse, Option, Some, None, slice_get, Vec, refl, sym, ap, ◌∙◌, subst, arith}
 use Rattle.std.proofs.Math.Logic.{∥∥₁_elim}
 use denote.Struct.Props.{props}
 use Rattle.std.proofs.lemmas.List.{reverse-append, reverse-reverse}
@@ -67,6 +67,20 @@ all_within i history new opened n legal is sized = record {
     reversed : (es : List Entry) → reverse (reverse es) ≡ es
     reversed es = reverse-reverse es
 
+before : (n : ℕ) (es : List Entry) (k : ℕ) (e : Entry) → slice_get (take n es) k ≡ Some e → slice_get es k ≡ Some e
+before zero es k e h = absurd (cc h)
+before (suc n) [] k e h = h
+before (suc n) (f ∷ es) zero e h = h
+before (suc n) (f ∷ es) (suc k) e h = before n es k e h
+
+pub all_before : (i : Premises) (history old : List Entry) (opened n : ℕ) → IsLegal i (reverse history) → old ≡ take opened history → n ≡ drvs_in i → AreWithin n old
+all_before i history old opened n legal is sized = record {
+  each = λ k d m s at.
+      let P : List Entry → Type 0 = λ es. slice_get es k ≡ Some (Chosen d m s) in
+      let R : ℕ → Type 0 = λ drvs. d < drvs in
+      subst R (sym sized) (ranged_at i (reverse history) k (Chosen d m s) legal (subst P (sym (reverse-reverse history)) (before opened history k (Chosen d m s) (subst P is at)))).0;
+}
+
 -- a run keeps the number of derivations
 pub drvs_kept : (o w : World) (n : ℕ) → RunsOn o w → n ≡ drvs_in o.inputs → n ≡ drvs_in w.inputs
 drvs_kept o w n runs sized = ∥∥₁_elim runs.merely (hlevel props) (λ run. sized ∙ sym (ap drvs_in run.inputs))
@@ -128,39 +142,39 @@ willing history y rest h = by (is_refused y.end) h
     by true h = absurd (cc h)
     by false h = (refl, h)
 
-pub sound_all : {T A B : Type 0} (history : List Entry) (stints : List (Stint T)) (workers : List (Seat T)) (receipts : List (Vec Receipt A)) (copies : List (Vec Entry B))
+pub sound_all : {T A B : Type 0} (opened : ℕ) (history : List Entry) (stints : List (Stint T)) (workers : List (Seat T)) (receipts : List (Vec Receipt A)) (copies : List (Vec Entry B))
     → AllZip (λ y x. (x.0 ≡ y.seat) × (x.1.items ≡ y.notes.receipts)) stints (zip workers receipts) → AllZip (λ y x. x.items ≡ y.notes.copies) stints copies → list_any (λ stint. is_refused stint.end) stints ≡ false
-    → AllZip (λ row beside. AllZip (IsNotedIn history) row.items beside.items) receipts copies → All (IsSound history) stints
-sound_all history [] workers receipts copies each beside none noted = All-nil (IsSound history)
-sound_all history (y ∷ stints) [] receipts copies each beside none noted = absurd each
-sound_all history (y ∷ stints) (w ∷ workers) [] copies each beside none noted = absurd each
-sound_all history (y ∷ stints) (w ∷ workers) (row ∷ receipts) [] each beside none noted = absurd beside
-sound_all {T = T} history (y ∷ stints) (w ∷ workers) (row ∷ receipts) (copy ∷ copies) each beside none noted =
+    → AllZip (λ row beside. AllZip (IsNotedIn opened history) row.items beside.items) receipts copies → All (IsSound opened history) stints
+sound_all opened history [] workers receipts copies each beside none noted = All-nil (IsSound opened history)
+sound_all opened history (y ∷ stints) [] receipts copies each beside none noted = absurd each
+sound_all opened history (y ∷ stints) (w ∷ workers) [] copies each beside none noted = absurd each
+sound_all opened history (y ∷ stints) (w ∷ workers) (row ∷ receipts) [] each beside none noted = absurd beside
+sound_all {T = T} opened history (y ∷ stints) (w ∷ workers) (row ∷ receipts) (copy ∷ copies) each beside none noted =
     let both = willing history y (list_any (λ (stint : Stint T). is_refused stint.end) stints) none in
-    let P : List Receipt → Type 0 = λ rs. AllZip (IsNotedIn history) rs copy.items in
-    let Q : List Entry → Type 0 = λ es. AllZip (IsNotedIn history) y.notes.receipts es in
-    All-cons (IsSound history) y stints
+    let P : List Receipt → Type 0 = λ rs. AllZip (IsNotedIn opened history) rs copy.items in
+    let Q : List Entry → Type 0 = λ es. AllZip (IsNotedIn opened history) y.notes.receipts es in
+    All-cons (IsSound opened history) y stints
     ((λ is. cc (both.0, ap is_refused is)), subst Q beside.0 (subst P each.0.1 noted.0))
-    (sound_all history stints workers receipts copies each.1 beside.1 both.1 noted.1)
+    (sound_all opened history stints workers receipts copies each.1 beside.1 both.1 noted.1)
 
 -- ---- references that were refused
 
-wrong_one : (i : Premises) (history : List Entry) (m : Misreports) (r : Receipt) (e : Entry) → AreMisreports i history m → IsNotedIn history r e → IsJudgedIn m r e → WereWrong i history r
-wrong_one i history m r e are noted judged = record {
+wrong_one : (i : Premises) (opened : ℕ) (history : List Entry) (m : Misreports) (r : Receipt) (e : Entry) → AreMisreports i history m → IsNotedIn opened history r e → IsJudgedIn m r e → WereWrong i history r
+wrong_one i opened history m r e are noted judged = record {
   each = λ d at.
       let same : Some e ≡ Some (Failed d BadReferences) = sym noted.at ∙ at in
       let is : e ≡ Failed d BadReferences = cc same in
       are.wrong r.index d r.refs (judged.each d is) at;
 }
 
-wrong_row : (i : Premises) (history : List Entry) (m : Misreports) (rs : List Receipt) (es : List Entry) → AreMisreports i history m → AllZip (IsNotedIn history) rs es → AllZip (IsJudgedIn m) rs es → All (WereWrong i history) rs
-wrong_row i history m [] es are noted judged = All-nil (WereWrong i history)
-wrong_row i history m (r ∷ rs) [] are noted judged = absurd noted
-wrong_row i history m (r ∷ rs) (e ∷ es) are noted judged = All-cons (WereWrong i history) r rs (wrong_one i history m r e are noted.0 judged.0) (wrong_row i history m rs es are noted.1 judged.1)
+wrong_row : (i : Premises) (opened : ℕ) (history : List Entry) (m : Misreports) (rs : List Receipt) (es : List Entry) → AreMisreports i history m → AllZip (IsNotedIn opened history) rs es → AllZip (IsJudgedIn m) rs es → All (WereWrong i history) rs
+wrong_row i opened history m [] es are noted judged = All-nil (WereWrong i history)
+wrong_row i opened history m (r ∷ rs) [] are noted judged = absurd noted
+wrong_row i opened history m (r ∷ rs) (e ∷ es) are noted judged = All-cons (WereWrong i history) r rs (wrong_one i opened history m r e are noted.0 judged.0) (wrong_row i opened history m rs es are noted.1 judged.1)
 
-pub wrong_rows : {A B : Type 0} (i : Premises) (history : List Entry) (m : Misreports) (rows : List (Vec Receipt A)) (copies : List (Vec Entry B))
-    → AreMisreports i history m → AllZip (λ row beside. AllZip (IsNotedIn history) row.items beside.items) rows copies → AllZip (λ row beside. AllZip (IsJudgedIn m) row.items beside.items) rows copies → AreAllWrong i history rows
-wrong_rows {A = A} i history m [] copies are noted judged = All-nil (λ (v : Vec Receipt A). All (WereWrong i history) v.items)
-wrong_rows i history m (row ∷ rows) [] are noted judged = absurd noted
-wrong_rows {A = A} i history m (row ∷ rows) (copy ∷ copies) are noted judged =
-    All-cons (λ (v : Vec Receipt A). All (WereWrong i history) v.items) row rows (wrong_row i history m row.items copy.items are noted.0 judged.0) (wrong_rows i history m rows copies are noted.1 judged.1)
+pub wrong_rows : {A B : Type 0} (i : Premises) (opened : ℕ) (history : List Entry) (m : Misreports) (rows : List (Vec Receipt A)) (copies : List (Vec Entry B))
+    → AreMisreports i history m → AllZip (λ row beside. AllZip (IsNotedIn opened history) row.items beside.items) rows copies → AllZip (λ row beside. AllZip (IsJudgedIn m) row.items beside.items) rows copies → AreAllWrong i history rows
+wrong_rows {A = A} i opened history m [] copies are noted judged = All-nil (λ (v : Vec Receipt A). All (WereWrong i history) v.items)
+wrong_rows i opened history m (row ∷ rows) [] are noted judged = absurd noted
+wrong_rows {A = A} i opened history m (row ∷ rows) (copy ∷ copies) are noted judged =
+    All-cons (λ (v : Vec Receipt A). All (WereWrong i history) v.items) row rows (wrong_row i opened history m row.items copy.items are noted.0 judged.0) (wrong_rows i opened history m rows copies are noted.1 judged.1)

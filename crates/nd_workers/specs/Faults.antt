@@ -29,8 +29,8 @@ pub record IsAlikeFrom {A : Type 0} (opened : ℕ) (now : World) (places : List 
   pub finished : IsFinished now.inputs (reverse now.history)
   -- no entry of a worker's own was refused
   pub willing : evidence.refused ≡ false
-  -- each receipt names the entry that its worker noted
-  pub noted : AreRowsNoted now.history receipts evidence.copies.items
+  -- each receipt names the entry that its worker noted, and says of its lease whether it was started before the run
+  pub noted : AreRowsNoted opened now.history receipts evidence.copies.items
   -- .. and has the references that were refused, if it is about such
   pub judged : AreRowsJudged evidence.misreports receipts evidence.copies.items
   -- the receipts are the entries that workers made

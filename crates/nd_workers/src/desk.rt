@@ -2,6 +2,7 @@
 //! and may not have, and how far the run's journal is.
 
 ghost use Rattle.std.specs.Prelude.{◌≡◌, ◌+◌, ◌<◌, ◌≤◌, drop, reverse, true, IfErr, OnOk, OnErr, IsTrue};
+ghost use Rattle.nd_history.specs.History.{is_started};
 ghost use Rattle.nd_ledger.specs.Moves.{IsEndRefused};
 ghost use Rattle.nd_receipts.specs.Made.{made, is_worker_cause};
 ghost use Rattle.nd_workers.specs.Steps.{IsUpheld};
@@ -14,7 +15,7 @@ use nd_history::{Entry, Why};
 use nd_leases::Ticket;
 use nd_ledger::{Dispatch, Job, Refusal, Refused};
 use nd_path::PathSet;
-use nd_receipts::Misreports;
+use nd_receipts::{Misreports, is_started};
 use std::alloc::{AllocError, Global};
 use std::sync::ledger::{Book, Share};
 
@@ -27,6 +28,8 @@ pub(crate) struct Desk<L: Opened> {
     pub(crate) manned: Vec<(u32, u32)>,
     pub(crate) misreports: Misreports,
     pub(crate) progress: Progress<L>,
+    /// How many entries the history had when the run began.
+    pub(crate) opened: usize,
     ghost counted: { made dispatch.history ≡ book.total },
     ghost upheld: { IsUpheld L.opening dispatch misreports progress.handed.entries progress.kept.entries },
 }
@@ -38,10 +41,10 @@ pub(crate) enum Next {
     Finished,
     /// Its slot has no lease.
     Wait,
-    /// Its slot's lease.
-    Serve(Job),
-    /// There was no memory for the job of its slot's lease.
-    Short(Ticket),
+    /// Its slot's lease, and whether it was started before the run.
+    Serve(Job, bool),
+    /// There was no memory for the job of its slot's lease. It may have been started before the run too.
+    Short(Ticket, bool),
 }
 
 impl<L: Opened> Desk<L> {
@@ -226,10 +229,21 @@ impl<L: Opened> Desk<L> {
         let Some(ticket) = self.dispatch.current(machine, slot) else {
             return Next::Wait;
         };
+        let again = self.was_started(ticket);
         match self.dispatch.job(alloc, &ticket) {
-            Ok(job) => Next::Serve(job),
-            Err(_) => Next::Short(ticket),
+            Ok(job) => Next::Serve(job, again),
+            Err(_) => Next::Short(ticket, again),
         }
+    }
+
+    /// Whether this lease, which its worker takes up, was started before the run.
+    fn was_started(&self, ticket: Ticket) -> bool
+        ensures { result ≡ true → is_started ticket.drv (reverse self.now.dispatch.history) ≡ true }
+    {
+        if ticket.serial >= self.opened {
+            return false;
+        }
+        is_started(self.dispatch.history(), ticket.drv)
     }
 }
 

@@ -4,6 +4,8 @@ ghost use Rattle.std.specs.Prelude.{◌≡◌, ◌+◌, ◌<◌, ◌≤◌, ◌�
 ghost use Rattle.std.specs.List.{list_any};
 ghost use Rattle.nd_history.specs.Standing.{drvs_in};
 ghost use Rattle.nd_receipts.specs.Dealt.{AreApart};
+ghost use Rattle.nd_receipts.specs.Noted.{AreRowsNoted};
+ghost use Rattle.nd_receipts.specs.Standing.{IsIdle};
 ghost use Rattle.nd_receipts.specs.Walks.{AreUnknown};
 ghost use Rattle.nd_workers.specs.Faults.{IsAlikeFrom, IsFaultBy, IsHalted, IsStopped};
 ghost use Rattle.nd_workers.specs.Runs.{AreReceiptedFrom};
@@ -13,9 +15,10 @@ use crate::desk::entries_since;
 use crate::run_end::{Evidence, RunFault};
 use crate::threads::Stint;
 use crate::working::End;
+use nd_history::Entry;
 use nd_ledger::Dispatch;
 use nd_receipts::{
-    Receipt, Tables, are_dealt, are_rows_judged, are_rows_noted, has_stop, is_quiet,
+    Receipt, Standing, Tables, are_dealt, are_rows_judged, are_rows_noted, has_stop, is_quiet,
 };
 use nd_transports::Transport;
 
@@ -44,7 +47,7 @@ pub(crate) fn count_threads<T: Transport>(stints: &[Stint<T>]) -> usize
 }
 
 /// Whether the entries that workers made behind the first `opened` are the receipts, each of one worker.
-#[tactic(auto, using(crate::proofs::Faulted::all_within))]
+#[tactic(auto, using(crate::proofs::Faulted::all_within, crate::proofs::Faulted::all_before))]
 fn are_receipted(
     opened: usize,
     dispatch: &Dispatch,
@@ -61,8 +64,26 @@ fn are_receipted(
     ensures unlike { result ≡ false → AreReceiptedFrom opened dispatch.now.history places.now receipts.now → ⊥ }
 {
     let history = dispatch.history();
-    let (_, new) = history.split_at(opened);
-    are_dealt(new, opened, places, receipts, tables)
+    let (old, new) = history.split_at(opened);
+    are_dealt(old, new, opened, places, receipts, tables)
+}
+
+/// Whether each receipt names the entry that its worker noted, in a run that began behind the first `opened`.
+#[tactic(auto, using(crate::proofs::Faulted::all_before))]
+fn are_noted(
+    opened: usize,
+    dispatch: &Dispatch,
+    receipts: &[Vec<Receipt>],
+    copies: &[Vec<Entry>],
+    standing: Standing,
+) -> bool
+    requires idle { IsIdle standing }
+    requires wide { length standing.leased.items ≡ drvs_in dispatch.now.inputs }
+    requires long { opened ≤ length dispatch.now.history }
+    ensures noted { result ≡ true → AreRowsNoted opened dispatch.now.history receipts.now copies.now }
+    ensures unlike { result ≡ false → AreRowsNoted opened dispatch.now.history receipts.now copies.now → ⊥ }
+{
+    are_rows_noted(dispatch.history(), opened, standing, receipts, copies)
 }
 
 /// Whether a stop is in the history, where fewer workers had a thread than there are.
@@ -93,11 +114,14 @@ pub(crate) fn is_alike(
     receipts: &[Vec<Receipt>],
     evidence: &Evidence,
     tables: Tables,
+    standing: Standing,
 ) -> bool
     requires apart { AreApart places.now }
     requires choices { AreUnknown (length places.now) tables.choices.items }
     requires sized { length tables.choices.items ≡ drvs_in dispatch.now.inputs }
     requires met { tables.met.items ≡ replicate (length places.now) 0 }
+    requires idle { IsIdle standing }
+    requires wide { length standing.leased.items ≡ drvs_in dispatch.now.inputs }
     requires long { opened ≤ length dispatch.now.history }
     ensures alike { result ≡ true → IsAlikeFrom opened dispatch.now places.now receipts.now evidence.now }
     ensures unlike { result ≡ false → IsAlikeFrom opened dispatch.now places.now receipts.now evidence.now → ⊥ }
@@ -114,10 +138,11 @@ pub(crate) fn is_alike(
     if !is_halted(dispatch, evidence.kept) {
         return false;
     }
-    if !are_rows_noted(dispatch.history(), receipts, evidence.copies.as_slice()) {
+    let copies = evidence.copies.as_slice();
+    if !are_noted(opened, dispatch, receipts, copies, standing) {
         return false;
     }
-    if !are_rows_judged(&evidence.misreports, receipts, evidence.copies.as_slice()) {
+    if !are_rows_judged(&evidence.misreports, receipts, copies) {
         return false;
     }
     are_receipted(opened, dispatch, places, receipts, tables)

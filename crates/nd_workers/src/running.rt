@@ -7,6 +7,7 @@ ghost use Rattle.nd_history.specs.Standing.{drvs_in};
 ghost use Rattle.nd_receipts.specs.Made.{made, is_quiet};
 ghost use Rattle.nd_receipts.specs.Judged.{AreMisreports};
 ghost use Rattle.nd_receipts.specs.Dealt.{AreApart};
+ghost use Rattle.nd_receipts.specs.Standing.{IsIdle};
 ghost use Rattle.nd_receipts.specs.Walks.{AreUnknown};
 ghost use Rattle.nd_workers.specs.Faults.{IsFaultFrom, IsFaultOf, AreAllWrong};
 ghost use Rattle.nd_workers.specs.Runs.{AreManned, IsRunRefused, Agrees, IsOver, AreServedIn, AreReceiptedSince, since};
@@ -15,22 +16,18 @@ ghost use Rattle.nd_workers.specs.Leaves.{IsFrontOf};
 ghost use Rattle.nd_workers.specs.Steps.{RunsOn, StopsAreTold};
 ghost use Rattle.nd_workers.specs.Written.{IsWritten, IsWrittenWhole};
 
-use crate::bells::Bells;
 use crate::desk::Desk;
-use crate::faults::{count_threads, fault_of, is_alike, is_any_refused};
 use crate::keeping::{Progress, Writing};
 use crate::leasing::Shared;
-use crate::manning::{are_manned, places_of};
 use crate::opened::Opened;
-use crate::run_end::{
-    Evidence, NotRun, NotWritten, Ran, Refused, RunEnd, RunError, RunFault, Written,
-};
+use crate::preparing::{Posts, prepare};
+use crate::run_end::{NotRun, NotWritten, Ran, Refused, RunEnd, RunError, RunFault, Written};
 use crate::seat::{Seat, Worker};
+use crate::settling::{Back, Plan, Served, make_back, settle};
 use crate::threads::{Ended, Joined, Ready, Running, Stint, in_scope};
-use nd_history::Entry;
 use nd_keeping::{Journal, NoJournal, Scribe};
 use nd_ledger::Dispatch;
-use nd_receipts::{Misreports, Receipt, Tables, count_made};
+use nd_receipts::{Misreports, count_made};
 use nd_transports::Transport;
 use std::alloc::{AllocError, Global};
 use std::marker::Brand;
@@ -41,23 +38,6 @@ use std::thread::Threads;
 /// The most slots of a run.
 pub const MOST_SLOTS: usize = 1024;
 
-/// The places that workers serve, and the bells of all places.
-#[derive(Drop)]
-struct Posts {
-    manned: Vec<(u32, u32)>,
-    bells: Bells,
-}
-
-/// What the end of a run is compared with.
-#[derive(Drop)]
-struct Plan {
-    opened: usize,
-    places: Vec<(u32, u32)>,
-    tables: Tables,
-    ghost apart: { AreApart places.items },
-    ghost met: { tables.met.items ≡ replicate (length places.items) 0 },
-}
-
 /// Room for what comes back of a run.
 #[derive(Drop)]
 struct Room<L: Opened, T: Transport> {
@@ -66,17 +46,6 @@ struct Room<L: Opened, T: Transport> {
     back: Back<T>,
     ghost no_threads: { vec_len running ≡ 0 },
     ghost no_stints: { vec_len stints ≡ 0 },
-}
-
-/// Room for the workers, their receipts and the copies beside them.
-#[derive(Drop)]
-struct Back<T> {
-    workers: Vec<Seat<T>>,
-    receipts: Vec<Vec<Receipt>>,
-    copies: Vec<Vec<Entry>>,
-    ghost no_workers: { vec_len workers ≡ 0 },
-    ghost no_receipts: { vec_len receipts ≡ 0 },
-    ghost no_copies: { vec_len copies ≡ 0 },
 }
 
 /// Room for so many workers.
@@ -109,245 +78,6 @@ fn make_room<L: Opened, T: Transport>(alloc: Global, count: usize) -> Result<Roo
     }
 }
 
-/// Room for so many workers, their receipts and the copies beside them.
-fn make_back<T: Transport>(alloc: Global, count: usize) -> Result<Back<T>, AllocError>
-    ensures workers { IfOk result (λ b. count ≤ vec_capacity b.workers) }
-    ensures receipts { IfOk result (λ b. count ≤ vec_capacity b.receipts) }
-    ensures copies { IfOk result (λ b. count ≤ vec_capacity b.copies) }
-{
-    let receipts = Vec::with_capacity(alloc, count)?;
-    let copies = Vec::with_capacity(alloc, count)?;
-    match Vec::with_capacity(alloc, count) {
-        Ok(workers) => Ok(Back {
-            workers,
-            receipts,
-            copies,
-        }),
-        Err(error) => {
-            drop(receipts);
-            drop(copies);
-            Err(error)
-        }
-    }
-}
-
-/// The places of these workers, where there is one for each slot of the park, and they aren't too many.
-#[tactic(auto, using(crate::proofs::Manned::manned_apart))]
-fn accepted_places<T>(
-    alloc: Global,
-    dispatch: &Dispatch,
-    seats: &[Seat<T>],
-) -> Result<Vec<(u32, u32)>, RunError>
-    ensures refused { IfErr result (IsRunRefused dispatch.now.inputs (places_served seats.now)) }
-    ensures places { IfOk result (λ v. v.items ≡ places_served seats.now) }
-    ensures manned { OnOk result (AreManned dispatch.now.inputs (places_served seats.now)) }
-    ensures apart { IfOk result (λ v. AreApart v.items) }
-    ensures few { OnOk result (length seats.now ≤ 1024) }
-{
-    let Ok(places) = places_of(alloc, seats) else {
-        return Err(RunError::Memory);
-    };
-    if !are_manned(dispatch, places.as_slice()) {
-        drop(places);
-        return Err(RunError::Slots);
-    }
-    if seats.len() > MOST_SLOTS {
-        drop(places);
-        return Err(RunError::TooManySlots);
-    }
-    Ok(places)
-}
-
-/// What the end of a run of this dispatch by workers on these places is compared with.
-fn make_plan(
-    alloc: Global,
-    dispatch: &Dispatch,
-    places: Vec<(u32, u32)>,
-) -> Result<Plan, AllocError>
-    requires { AreApart places.items }
-    ensures opened { IfOk result (λ p. p.opened ≡ length dispatch.now.history) }
-    ensures places { IfOk result (λ p. p.places.items ≡ places.items) }
-    ensures choices { IfOk result (λ p. AreUnknown (length places.items) p.tables.choices.items) }
-    ensures sized { IfOk result (λ p. length p.tables.choices.items ≡ drvs_in dispatch.now.inputs) }
-{
-    let tables = match Tables::new(alloc, dispatch.graph().len(), places.len()) {
-        Ok(tables) => tables,
-        Err(error) => {
-            drop(places);
-            return Err(error);
-        }
-    };
-    Ok(Plan {
-        opened: dispatch.history().len(),
-        places,
-        tables,
-    })
-}
-
-/// The places that workers serve, with the bells.
-fn make_posts<T>(
-    alloc: Global,
-    dispatch: &Dispatch,
-    seats: &[Seat<T>],
-) -> Result<Posts, AllocError> {
-    let manned = places_of(alloc, seats)?;
-    match Bells::new(alloc, dispatch) {
-        Ok(bells) => Ok(Posts { manned, bells }),
-        Err(error) => {
-            drop(manned);
-            Err(error)
-        }
-    }
-}
-
-/// The workers' posts, and what the end of the run is compared with.
-fn prepare<T>(
-    alloc: Global,
-    dispatch: &Dispatch,
-    seats: &[Seat<T>],
-) -> Result<(Posts, Plan), RunError>
-    ensures refused { IfErr result (IsRunRefused dispatch.now.inputs (places_served seats.now)) }
-    ensures manned { OnOk result (AreManned dispatch.now.inputs (places_served seats.now)) }
-    ensures few { OnOk result (length seats.now ≤ 1024) }
-    ensures opened { IfOk result (λ p. p.1.opened ≡ length dispatch.now.history) }
-    ensures places { IfOk result (λ p. p.1.places.items ≡ places_served seats.now) }
-    ensures choices { IfOk result (λ p. AreUnknown (length p.1.places.items) p.1.tables.choices.items) }
-    ensures sized { IfOk result (λ p. length p.1.tables.choices.items ≡ drvs_in dispatch.now.inputs) }
-{
-    let places = match accepted_places(alloc, dispatch, seats) {
-        Ok(places) => places,
-        Err(why) => return Err(why),
-    };
-    let Ok(posts) = make_posts(alloc, dispatch, seats) else {
-        drop(places);
-        return Err(RunError::Memory);
-    };
-    match make_plan(alloc, dispatch, places) {
-        Ok(plan) => Ok((posts, plan)),
-        Err(_) => {
-            drop(posts);
-            Err(RunError::Memory)
-        }
-    }
-}
-
-/// Takes the workers, their receipts and the copies beside them apart.
-#[tactic(auto, using(crate::proofs::Zips::zips))]
-fn take_apart<T: Transport>(
-    stints: Vec<Stint<T>>,
-    workers: &mut Vec<Seat<T>>,
-    receipts: &mut Vec<Vec<Receipt>>,
-    copies: &mut Vec<Vec<Entry>>,
-)
-    requires no_workers { vec_len workers.old ≡ 0 }
-    requires no_receipts { vec_len receipts.old ≡ 0 }
-    requires no_copies { vec_len copies.old ≡ 0 }
-    requires workers_room { vec_len stints ≤ vec_capacity workers.old }
-    requires receipts_room { vec_len stints ≤ vec_capacity receipts.old }
-    requires copies_room { vec_len stints ≤ vec_capacity copies.old }
-    ensures each { AllZip (λ y x. (x.0 ≡ y.seat) × (x.1.items ≡ y.notes.receipts)) stints.items (zip workers.new.items receipts.new.items) }
-    ensures workers { workers.new.items ≡ map (λ y. y.seat) stints.items }
-    ensures count { vec_len receipts.new ≡ vec_len stints }
-    ensures total { sum_by (λ v. vec_len v) receipts.new.items ≡ receipts_in stints.items }
-    ensures beside { AllZip (λ y x. x.items ≡ y.notes.copies) stints.items copies.new.items }
-{
-    'parting: for stint in stints {
-        let Stint {
-            seat,
-            notes,
-            end: _,
-            threaded: _,
-        } = stint;
-        let (mine, beside) = notes.into_parts();
-        workers.push_reserved(seat);
-        receipts.push_reserved(mine);
-        copies.push_reserved(beside);
-    }
-}
-
-/// Compares what came back with the history, and hands it back.
-fn settle<T: Transport>(served: Served<T>, plan: Plan, back: Back<T>) -> Ran<T>
-    requires choices { AreUnknown (length plan.places.items) plan.tables.choices.items }
-    requires sized { length plan.tables.choices.items ≡ drvs_in served.dispatch.inputs }
-    requires long { plan.opened ≤ length served.dispatch.history }
-    requires workers_room { vec_len served.stints ≤ vec_capacity back.workers }
-    requires receipts_room { vec_len served.stints ≤ vec_capacity back.receipts }
-    requires copies_room { vec_len served.stints ≤ vec_capacity back.copies }
-    ensures dispatch { result.dispatch ≡ served.dispatch }
-    ensures each { AllZip (λ y x. (x.0 ≡ y.seat) × (x.1.items ≡ y.notes.receipts)) served.stints.items (zip result.workers.items result.receipts.items) }
-    ensures workers { result.workers.items ≡ map (λ y. y.seat) served.stints.items }
-    ensures count { vec_len result.receipts ≡ vec_len served.stints }
-    ensures total { sum_by (λ v. vec_len v) result.receipts.items ≡ receipts_in served.stints.items }
-    ensures beside { AllZip (λ y x. x.items ≡ y.notes.copies) served.stints.items result.evidence.copies.items }
-    ensures misreports { result.evidence.misreports ≡ served.misreports }
-    ensures refused { result.evidence.refused ≡ list_any (λ stint. is_refused stint.end) served.stints.items }
-    ensures threads { result.evidence.threads ≡ count_by (λ stint. stint.threaded) served.stints.items }
-    ensures kept { result.evidence.kept ≡ served.kept }
-    ensures fault { IsFaultFrom plan.opened result.dispatch plan.places.items result.receipts.items result.evidence result.fault }
-{
-    let Served {
-        dispatch,
-        stints,
-        misreports,
-        kept,
-    } = served;
-    let Back {
-        mut workers,
-        mut receipts,
-        mut copies,
-    } = back;
-    let refused = is_any_refused(stints.as_slice());
-    let threads = count_threads(stints.as_slice());
-    take_apart(stints, &mut workers, &mut receipts, &mut copies);
-    let evidence = Evidence {
-        copies,
-        misreports,
-        refused,
-        threads,
-        kept,
-    };
-    let fault = judge(plan, &dispatch, receipts.as_slice(), &evidence);
-    Ran {
-        dispatch,
-        workers,
-        receipts,
-        evidence,
-        fault,
-    }
-}
-
-/// What a run of this plan ended with.
-#[tactic(auto, using(crate::proofs::Faulted::fault_by))]
-fn judge(
-    plan: Plan,
-    dispatch: &Dispatch,
-    receipts: &[Vec<Receipt>],
-    evidence: &Evidence,
-) -> Option<RunFault>
-    requires choices { AreUnknown (length plan.places.items) plan.tables.choices.items }
-    requires sized { length plan.tables.choices.items ≡ drvs_in dispatch.now.inputs }
-    requires long { plan.opened ≤ length dispatch.now.history }
-    ensures { IsFaultFrom plan.opened dispatch.now plan.places.items receipts.now evidence.now result }
-{
-    let Plan {
-        opened,
-        places,
-        tables,
-    } = plan;
-    let alike = is_alike(
-        opened,
-        dispatch,
-        places.as_slice(),
-        receipts,
-        evidence,
-        tables,
-    );
-    let workers = places.len();
-    drop(places);
-    let Evidence { threads, kept, .. } = evidence;
-    fault_of(opened, dispatch, alike, *kept, *threads, workers)
-}
-
 /// Refuses a run.
 fn refused<T, J: Journal>(
     why: RunError,
@@ -378,15 +108,6 @@ struct Paper<J: Journal> {
     keeps: bool,
 }
 
-/// What came of a run's leases.
-#[derive(Drop)]
-struct Served<T> {
-    dispatch: Dispatch,
-    stints: Vec<Stint<T>>,
-    misreports: Misreports,
-    kept: bool,
-}
-
 /// What came of a run's leases, and the scribe.
 #[derive(Drop)]
 struct Brought<T, J: Journal> {
@@ -410,11 +131,13 @@ fn open_desk<L: Opened, J: Journal>(
     requires handed { IsFrontOf scribe.now.handed.entries dispatch.history }
     requires durable { IsFrontOf scribe.now.kept.entries dispatch.history }
 {
+    let opened = dispatch.history().len();
     Desk {
         dispatch,
         book,
         manned,
         misreports: Misreports::new(alloc),
+        opened,
         progress: Progress::new(scribe),
     }
 }
@@ -525,6 +248,7 @@ fn close<L: Opened, J: Journal>(
         manned,
         misreports,
         progress,
+        opened: _,
     } = desk;
     book.audit(&mut all);
     drop(book);
@@ -606,7 +330,7 @@ fn run_in<
     ensures memory { result.run.fault ≡ Some RunFault.Memory → list_any is_stop result.run.dispatch.history ≡ true }
     ensures journal { result.run.fault ≡ Some RunFault.Journal → list_any is_stop result.run.dispatch.history ≡ true }
     ensures written { IsWritten paper.keeps result.run.evidence.kept result.scribe result.run.dispatch.history }
-    ensures calls { Agrees result.run.fault → AreServedIn T.state result.run.dispatch.history seats.items result.run.workers.items result.run.receipts.items }
+    ensures calls { Agrees result.run.fault → AreServedIn T.state (length dispatch.history) result.run.dispatch.history seats.items result.run.workers.items result.run.receipts.items }
     ensures judged { Agrees result.run.fault → AreAllWrong result.run.dispatch.inputs result.run.dispatch.history result.run.receipts.items }
     ensures misreports { AreMisreports result.run.dispatch.inputs result.run.dispatch.history result.run.evidence.misreports }
     ensures fault { IsFaultOf dispatch result.run.dispatch plan.places.items result.run.receipts.items result.run.evidence result.run.fault }
@@ -666,7 +390,7 @@ fn run_named<
     ensures memory { IfOk result (λ e. e.run.fault ≡ Some RunFault.Memory → list_any is_stop e.run.dispatch.history ≡ true) }
     ensures journal { IfOk result (λ e. e.run.fault ≡ Some RunFault.Journal → list_any is_stop e.run.dispatch.history ≡ true) }
     ensures written { IfOk result (λ e. IsWritten paper.keeps e.run.evidence.kept e.scribe e.run.dispatch.history) }
-    ensures calls { IfOk result (λ e. Agrees e.run.fault → AreServedIn T.state e.run.dispatch.history seats.items e.run.workers.items e.run.receipts.items) }
+    ensures calls { IfOk result (λ e. Agrees e.run.fault → AreServedIn T.state (length dispatch.history) e.run.dispatch.history seats.items e.run.workers.items e.run.receipts.items) }
     ensures judged { IfOk result (λ e. Agrees e.run.fault → AreAllWrong e.run.dispatch.inputs e.run.dispatch.history e.run.receipts.items) }
     ensures misreports { IfOk result (λ e. AreMisreports e.run.dispatch.inputs e.run.dispatch.history e.run.evidence.misreports) }
     ensures fault { IfOk result (λ e. IsFaultOf dispatch e.run.dispatch plan.places.items e.run.receipts.items e.run.evidence e.run.fault) }
@@ -678,9 +402,7 @@ fn run_named<
         let Paper { scribe, keeps: _ } = paper;
         return refused(RunError::Memory, dispatch, seats, scribe);
     };
-    Ok(run_in(
-        rt, alloc, dispatch, seats, posts, plan, room, blank, paper,
-    ))
+    Ok(run_in(rt, alloc, dispatch, seats, posts, plan, room, blank, paper))
 }
 
 /// As [`run`], by workers with transports of one type, where a run that `keeps` its history does so by the scribe.
@@ -710,7 +432,7 @@ pub(crate) fn run_by<T: Transport, J: Journal + Send + Drop, R: Threads + Wait +
     ensures memory { IfOk result (λ e. e.run.fault ≡ Some RunFault.Memory → list_any is_stop e.run.dispatch.history ≡ true) }
     ensures journal { IfOk result (λ e. e.run.fault ≡ Some RunFault.Journal → list_any is_stop e.run.dispatch.history ≡ true) }
     ensures written { IfOk result (λ e. IsWritten keeps e.run.evidence.kept e.scribe e.run.dispatch.history) }
-    ensures calls { IfOk result (λ e. Agrees e.run.fault → AreServedIn T.state e.run.dispatch.history workers.items e.run.workers.items e.run.receipts.items) }
+    ensures calls { IfOk result (λ e. Agrees e.run.fault → AreServedIn T.state (length dispatch.history) e.run.dispatch.history workers.items e.run.workers.items e.run.receipts.items) }
     ensures judged { IfOk result (λ e. Agrees e.run.fault → AreAllWrong e.run.dispatch.inputs e.run.dispatch.history e.run.receipts.items) }
     ensures misreports { IfOk result (λ e. AreMisreports e.run.dispatch.inputs e.run.dispatch.history e.run.evidence.misreports) }
     ensures fault { IfOk result (λ e. IsFaultOf dispatch e.run.dispatch (places_served workers.items) e.run.receipts.items e.run.evidence e.run.fault) }
@@ -748,7 +470,7 @@ pub fn run_with<T: Transport, R: Threads + Wait + Sync>(
     ensures thread { IfOk result (λ e. e.fault ≡ Some RunFault.Thread → list_any is_stop e.dispatch.history ≡ true) }
     ensures memory { IfOk result (λ e. e.fault ≡ Some RunFault.Memory → list_any is_stop e.dispatch.history ≡ true) }
     ensures unkept { IfOk result (λ e. e.fault ≡ Some RunFault.Journal → ⊥) }
-    ensures calls { IfOk result (λ e. Agrees e.fault → AreServedIn T.state e.dispatch.history workers.items e.workers.items e.receipts.items) }
+    ensures calls { IfOk result (λ e. Agrees e.fault → AreServedIn T.state (length dispatch.history) e.dispatch.history workers.items e.workers.items e.receipts.items) }
     ensures judged { IfOk result (λ e. Agrees e.fault → AreAllWrong e.dispatch.inputs e.dispatch.history e.receipts.items) }
     ensures misreports { IfOk result (λ e. AreMisreports e.dispatch.inputs e.dispatch.history e.evidence.misreports) }
     ensures fault { IfOk result (λ e. IsFaultOf dispatch e.dispatch (places_served workers.items) e.receipts.items e.evidence e.fault) }
@@ -781,7 +503,12 @@ pub fn run_with<T: Transport, R: Threads + Wait + Sync>(
 /// stands before that entry. `Receipts` (3) says that this isn't so, or that the run isn't over. However it ends,
 /// the workers that come back are on the places of those that were handed in, in their order, each with a list
 /// of receipts; each choice since the opening is the pump's step of its place in the history, and no machine was
-/// drained or enabled. No lease is to be live at the start: one that is may end in `Receipts`.
+/// drained or enabled.
+///
+/// A lease that is live at the start is taken up by the worker of its slot as any other. Where it was started
+/// before, no second start is recorded: its build is asked for again, and the lease ends as that build says. Where
+/// its machine isn't reached then, or the copy fails, it fails as `Lost`, since it can't be given back. Such an end
+/// has a receipt with `again`, and no other has.
 pub fn run<R: Threads + Wait + Sync>(
     rt: &R,
     dispatch: Dispatch,
@@ -802,7 +529,7 @@ pub fn run<R: Threads + Wait + Sync>(
     ensures thread { IfOk result (λ e. e.fault ≡ Some RunFault.Thread → list_any is_stop e.dispatch.history ≡ true) }
     ensures memory { IfOk result (λ e. e.fault ≡ Some RunFault.Memory → list_any is_stop e.dispatch.history ≡ true) }
     ensures unkept { IfOk result (λ e. e.fault ≡ Some RunFault.Journal → ⊥) }
-    ensures calls { IfOk result (λ e. Agrees e.fault → AreServedIn state e.dispatch.history workers.items e.workers.items e.receipts.items) }
+    ensures calls { IfOk result (λ e. Agrees e.fault → AreServedIn state (length dispatch.history) e.dispatch.history workers.items e.workers.items e.receipts.items) }
     ensures judged { IfOk result (λ e. Agrees e.fault → AreAllWrong e.dispatch.inputs e.dispatch.history e.receipts.items) }
     ensures misreports { IfOk result (λ e. AreMisreports e.dispatch.inputs e.dispatch.history e.evidence.misreports) }
     ensures fault { IfOk result (λ e. IsFaultOf dispatch e.dispatch (places_served workers.items) e.receipts.items e.evidence e.fault) }

@@ -12,6 +12,7 @@ use nd_history::Entry;
 use nd_keeping::Journal;
 use nd_leases::Ticket;
 use std::sync::Wait;
+use std::thread::yield_now;
 
 /// What the scribe found under the lock.
 #[derive(Clone, Copy, PartialEq, Eq)]
@@ -29,7 +30,9 @@ impl<L: Opened> Desk<L> {
     #[tactic(auto, using(crate::proofs::Fronts::begun_through, crate::proofs::Upheld::upheld_handed))]
     pub(crate) fn hand_over<J: Journal>(&mut self, writing: &mut Writing<L, J>) -> Found {
         let Desk {
-            dispatch, progress, ..
+            dispatch,
+            progress,
+            ..
         } = self;
         if progress.refused || !writing.scribe.handed().begins(&progress.handed) {
             return Found::Refused;
@@ -52,6 +55,13 @@ impl<L: Opened> Desk<L> {
         if writing.scribe.handed().begins(&progress.handed) {
             progress.kept = writing.scribe.kept();
         }
+    }
+
+    /// Whether entries came that weren't handed to the scribe, or none will come any more that it could keep.
+    fn has_news(&self) -> bool {
+        self.progress.refused
+            || self.progress.over
+            || self.dispatch.history().len() != self.progress.handed.len()
     }
 
     /// The journal has refused: nothing more is begun.
@@ -133,28 +143,55 @@ fn is_start_of(entry: &Entry, drv: u32) -> bool
     }
 }
 
-/// Waits until entries came that the scribe has not yet, which are handed to it; or until all workers have ended.
+/// How often the scribe looks whether further entries come, before it takes those that came.
+const LOOKS: u32 = 64;
+
+/// Waits until entries came that the scribe hasn't, or until there will be none.
+fn await_news<L: Opened, R: Wait>(rt: &R, shared: &Shared<L>) {
+    let mut desk = shared.desk.lock(rt);
+    for _ in rt.forever() {
+        if desk.has_news() {
+            return;
+        }
+        desk = shared.news.wait(rt, desk);
+    }
+}
+
+/// Lets workers that are about to make an entry make it, so that one sync serves them all.
+fn settle<L: Opened, R: Wait>(rt: &R, shared: &Shared<L>) {
+    let mut before = 0;
+    for _ in 0..LOOKS {
+        let now = shared.desk.lock(rt).dispatch.history().len();
+        if now == before {
+            return;
+        }
+        before = now;
+        yield_now();
+    }
+}
+
+/// Waits until entries came that the scribe hasn't, which are handed to it; or until all workers have ended.
 fn gather<L: Opened, J: Journal, R: Wait>(
     rt: &R,
     shared: &Shared<L>,
     writing: &mut Writing<L, J>,
 ) -> Found {
+    await_news(rt, shared);
+    settle(rt, shared);
     let mut desk = shared.desk.lock(rt);
-    for _ in rt.forever() {
-        let found = desk.hand_over(writing);
-        if found != Found::Nothing || desk.progress.over {
-            return found;
-        }
-        desk = shared.news.wait(rt, desk);
-    }
-    unreachable!()
+    desk.hand_over(writing)
 }
 
-/// What the scribe made durable is known under the lock, and to those who wait for it.
+/// What the scribe made durable is known under the lock, and then to those who wait for it.
 fn publish<L: Opened, J: Journal, R: Wait>(rt: &R, shared: &Shared<L>, writing: &Writing<L, J>) {
+    keep_in(rt, shared, writing);
+    shared.bells.ring_all();
+}
+
+/// What the scribe made durable is known under the lock.
+fn keep_in<L: Opened, J: Journal, R: Wait>(rt: &R, shared: &Shared<L>, writing: &Writing<L, J>) {
     let mut desk = shared.desk.lock(rt);
     desk.keep(writing);
-    shared.bells.ring_all();
 }
 
 /// The journal has refused, and nothing more is begun.
@@ -214,10 +251,7 @@ pub(crate) fn leave_for<L: Opened, R: Wait>(
             return None;
         }
         shared.tell();
-        desk = shared
-            .bells
-            .of(ticket.machine, ticket.slot)
-            .wait(rt, desk);
+        desk = shared.bells.of(ticket.machine, ticket.slot).wait(rt, desk);
     }
     unreachable!()
 }

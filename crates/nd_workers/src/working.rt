@@ -8,7 +8,7 @@ use crate::bells::Bells;
 use crate::calling::Guarded;
 use crate::desk::{Desk, Next, entries_since};
 use crate::hand::Hand;
-use crate::leasing::{Shared, give_up, serve};
+use crate::leasing::{Shared, fail, serve, uncalled};
 use crate::opened::Opened;
 use crate::seat::Seat;
 use nd_history::Why;
@@ -68,8 +68,8 @@ fn take<L: Opened, R: Wait>(
                 shared.bells.ring_all();
                 return Next::Finished;
             }
-            Next::Serve(job) => return Next::Serve(job),
-            Next::Short(ticket) => return Next::Short(ticket),
+            Next::Serve(job, again) => return Next::Serve(job, again),
+            Next::Short(ticket, again) => return Next::Short(ticket, again),
         }
         desk = shared.bells.of(machine, slot).wait(rt, desk);
     }
@@ -123,13 +123,14 @@ fn attend<L: Opened, T: Transport, R: Wait>(
 {
     match next {
         Next::Finished => End::Finished,
-        Next::Serve(job) => match serve(rt, alloc, shared, hand, transport, job) {
+        Next::Serve(job, again) => match serve(rt, alloc, shared, hand, transport, job, again) {
             Ok(true) => End::Again,
             Ok(false) => End::Left,
             Err(_) => End::Refused,
         },
-        Next::Short(ticket) => {
-            match give_up(rt, alloc, shared, hand, ticket, Why::Memory, 0) {
+        Next::Short(ticket, again) => {
+            let behind = uncalled(alloc, again);
+            match fail(rt, alloc, shared, hand, ticket, Why::Memory, behind) {
                 Ok(()) => End::Again,
                 Err(_) => End::Refused,
             }

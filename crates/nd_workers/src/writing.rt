@@ -47,7 +47,7 @@ pub fn run_kept_with<T: Transport, J: Journal + Send + Drop, R: Threads + Wait +
     ensures memory { IfOk result (λ e. e.run.fault ≡ Some RunFault.Memory → list_any is_stop e.run.dispatch.history ≡ true) }
     ensures journal { IfOk result (λ e. e.run.fault ≡ Some RunFault.Journal → list_any is_stop e.run.dispatch.history ≡ true) }
     ensures written { IfOk result (λ e. e.run.evidence.kept ≡ true → IsWrittenWhole e.scribe e.run.dispatch.history) }
-    ensures calls { IfOk result (λ e. Agrees e.run.fault → AreServedIn T.state e.run.dispatch.history workers.items e.run.workers.items e.run.receipts.items) }
+    ensures calls { IfOk result (λ e. Agrees e.run.fault → AreServedIn T.state (length dispatch.history) e.run.dispatch.history workers.items e.run.workers.items e.run.receipts.items) }
     ensures judged { IfOk result (λ e. Agrees e.run.fault → AreAllWrong e.run.dispatch.inputs e.run.dispatch.history e.run.receipts.items) }
     ensures misreports { IfOk result (λ e. AreMisreports e.run.dispatch.inputs e.run.dispatch.history e.run.evidence.misreports) }
     ensures fault { IfOk result (λ e. IsFaultOf dispatch e.run.dispatch (places_served workers.items) e.run.receipts.items e.run.evidence e.run.fault) }
@@ -90,7 +90,7 @@ pub fn run_kept<J: Journal + Send + Drop, R: Threads + Wait + Sync>(
     ensures memory { IfOk result (λ e. e.run.fault ≡ Some RunFault.Memory → list_any is_stop e.run.dispatch.history ≡ true) }
     ensures journal { IfOk result (λ e. e.run.fault ≡ Some RunFault.Journal → list_any is_stop e.run.dispatch.history ≡ true) }
     ensures written { IfOk result (λ e. e.run.evidence.kept ≡ true → IsWrittenWhole e.scribe e.run.dispatch.history) }
-    ensures calls { IfOk result (λ e. Agrees e.run.fault → AreServedIn state e.run.dispatch.history workers.items e.run.workers.items e.run.receipts.items) }
+    ensures calls { IfOk result (λ e. Agrees e.run.fault → AreServedIn state (length dispatch.history) e.run.dispatch.history workers.items e.run.workers.items e.run.receipts.items) }
     ensures judged { IfOk result (λ e. Agrees e.run.fault → AreAllWrong e.run.dispatch.inputs e.run.dispatch.history e.run.receipts.items) }
     ensures misreports { IfOk result (λ e. AreMisreports e.run.dispatch.inputs e.run.dispatch.history e.run.evidence.misreports) }
     ensures fault { IfOk result (λ e. IsFaultOf dispatch e.run.dispatch (places_served workers.items) e.run.receipts.items e.run.evidence e.run.fault) }

@@ -1,4 +1,4 @@
-use Rattle.std.proofs.Common.{◌+◌, ℕ, Bool, sym, subst, ap, ◌∙◌}
+use Rattle.std.proofs.Common.{◌+◌, ℕ, Bool, length, sym, subst, ap, ◌∙◌}
 use Rattle.nd_ledger.specs.Worlds.{World}
 use Rattle.nd_receipts.specs.Judged.{AreMisreports}
 use Rattle.nd_receipts.specs.Made.{made}
@@ -62,16 +62,17 @@ returns-clause-misreports g c =
 pub returns-clause-judged : goal.returns-clause-judged
 returns-clause-judged g c = λ agrees.
     let alike = alike_of _ _ _ _ _ _ c.settle-run.ensures.fault agrees in
-    wrong_rows _ _ _ _ _ (returns-clause-misreports g c) alike.noted.each alike.judged.each
+    wrong_rows _ _ _ _ _ _ (returns-clause-misreports g c) alike.noted.each alike.judged.each
 
 pub returns-clause-calls : goal.returns-clause-calls
 returns-clause-calls g c = λ agrees.
     let of : Seat g.row.T.Denot → Seated = seat_of g.T.Transport.state in
-    let alike = alike_of _ _ _ _ _ _ c.settle-run.ensures.fault agrees in
+    let alike = alike_of _ _ _ _ _ _ (returns-clause-fault g c) agrees in
     let history = c.settle-run.result.dispatch.history in
-    let sound = sound_all history _ _ _ _ c.settle-run.ensures.each c.settle-run.ensures.beside (sym c.settle-run.ensures.refused ∙ alike.willing) alike.noted.each in
-    zip_known_via {S = IsSound history} _ _ _ c.serve_leases-brought.ensures.each sound c.settle-run.ensures.each
-    (λ w y z p s q. subst (λ (x : Seat g.row.T.Denot). IsServedIn history (of w) (of x) z.1.items) (sym q.0) (served_in history (of w) (of y.seat) y.end y.notes z.1.items s.0 s.1 p q.1))
+    let opened : ℕ = length c.args.dispatch.history in
+    let sound = sound_all opened history _ _ _ _ c.settle-run.ensures.each c.settle-run.ensures.beside (sym c.settle-run.ensures.refused ∙ alike.willing) alike.noted.each in
+    zip_known_via {S = IsSound opened history} _ _ _ c.serve_leases-brought.ensures.each sound c.settle-run.ensures.each
+    (λ w y z p s q. subst (λ (x : Seat g.row.T.Denot). IsServedIn opened history (of w) (of x) z.1.items) (sym q.0) (served_in opened history (of w) (of y.seat) y.end y.notes z.1.items s.0 s.1 p q.1))
 
 pub returns-clause-total : goal.returns-clause-total
 returns-clause-total g c =

@@ -4,7 +4,7 @@ use Rattle.nd_receipts.specs.declared.receipt.Receipt.{Receipt}
 use Rattle.nd_workers.specs.declared.seat.Seat.{Seat}
 use Rattle.nd_workers.specs.declared.threads.Stint.{Stint}
 use Rattle.nd_workers.proofs.Zips.{zip_pair, zip_more, sum_last}
-use Rattle.nd_workers.proofs.running.take_apart.Goals as goal
+use Rattle.nd_workers.proofs.settling.take_apart.Goals as goal
 
 pub parting-preserved : goal.parting-preserved
 parting-preserved g c =

@@ -2,7 +2,7 @@ use Rattle.std.proofs.Common.{◌≡◌, ◌+◌, ◌≤◌, vec_len, vec_capaci
 use Rattle.std.specs.List.{AllZip, zip}
 use Rattle.std.specs.Vec.Iter.{into_iter_len}
 use Rattle.nd_workers.specs.Served.{receipts_in}
-use Rattle.nd_workers.proofs.running.take_apart.Given as goal
+use Rattle.nd_workers.proofs.settling.take_apart.Given as goal
 
 abbrev pub invariant-parting : goal.invariant-parting
 invariant-parting g l =
