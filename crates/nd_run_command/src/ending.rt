@@ -1,4 +1,4 @@
-//! What is written of a run, and its status.
+//! What is written of a run, its status, and why there is none.
 
 ghost use Rattle.std.specs.Prelude.{◌≡◌, ◌||◌, false, is_err, reverse, Some, None, IfOk, IfErr, OnOk, OnErr};
 ghost use Rattle.std.specs.Io.KnownBytes.{Keeps};

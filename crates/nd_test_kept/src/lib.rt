@@ -1,7 +1,13 @@
-//! Tests of what is done with the journal of a run: the report of the history that it tells, and the audit of it.
+//! Tests of runs with a journal, and of what is read of their journals: reports and audits.
 #![tactic(auto)]
 
 #[cfg(test)]
+mod journals;
+#[cfg(test)]
 mod opening;
 #[cfg(test)]
+mod refusals;
+#[cfg(test)]
 mod reports;
+#[cfg(test)]
+mod running;

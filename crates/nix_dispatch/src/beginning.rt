@@ -65,7 +65,12 @@ fn begin_kept<'a, R: Files<File = File> + Input + Threads + Sync>(
             return Err(Ending::Common(failure));
         }
     };
-    match take_journal(alloc, dispatch, found.bytes.as_slice(), options.get_flag("resume")) {
+    match take_journal(
+        alloc,
+        dispatch,
+        found.bytes.as_slice(),
+        options.get_flag("resume"),
+    ) {
         Ok(opened) => go_on(rt, opened, rules, found),
         Err(fault) => {
             drop(rules);
