@@ -1,6 +1,10 @@
-//! What is done with the journal of a run beside the run itself: the report of the history that it tells.
+//! Runs with a journal: the run and what is written of it, and the report of the history that a journal tells.
 #![tactic(auto)]
 
+pub mod engine;
+pub mod kept_end;
 pub mod reporting;
 
+pub use engine::run_kept_engine;
+pub use kept_end::KeptEnd;
 pub use reporting::report_engine;

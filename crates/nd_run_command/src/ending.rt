@@ -1,22 +1,23 @@
-//! What is written of a run, and its status.
+//! What is written of a run, its status, and why there is none.
 
 ghost use Rattle.std.specs.Prelude.{◌≡◌, ◌||◌, false, is_err, reverse, Some, None, IfOk, IfErr, OnOk, OnErr};
 ghost use Rattle.std.specs.Io.KnownBytes.{Keeps};
 ghost use Rattle.nd_history.specs.Legal.{IsLegal};
 ghost use Rattle.nd_run_command.specs.Ended.{WritesEnd, WritesEndPart, IsStatusOf, IsToldOf};
+ghost use Rattle.nd_run_command.specs.Ran.{IsRefusedAs};
 
 use nd_cli::CliFault;
 use nd_devices::{Told, WriteError};
 use nd_ledger::Dispatch;
 use nd_report::{write_history, write_report};
-use nd_workers::RunFault;
+use nd_workers::{RunError, RunFault};
 use std::io::Write;
 
 /// Writes the history, and then where asked the report; then it has the writer pass on what it holds
 /// back. It takes no memory.
 ///
 /// `Write`: the writer refused, and is marked; a part of the text, from its beginning, is out.
-pub(crate) fn write_end<W: Write>(
+pub fn write_end<W: Write>(
     dispatch: &Dispatch,
     report: bool,
     output: &mut Told<W>,
@@ -51,7 +52,7 @@ fn pass_on<W: Write>(output: &mut Told<W>) -> Result<(), WriteError>
 }
 
 /// 1 where a derivation failed or was cancelled, and else 0.
-fn exit_status(dispatch: &Dispatch) -> u8
+pub fn exit_status(dispatch: &Dispatch) -> u8
     ensures { IsStatusOf dispatch.now result }
 {
     let counts = dispatch.counts();
@@ -76,5 +77,17 @@ pub(crate) fn status_or_fault(dispatch: &Dispatch, fault: Option<RunFault>) -> R
         Some(RunFault::Memory) => Err(CliFault::Memory),
         Some(RunFault::Receipts) => Err(CliFault::Receipts),
         Some(RunFault::Journal) => unreachable!(),
+    }
+}
+
+/// The fault of a refused run, whose workers were one for each slot.
+pub fn refusal(why: RunError) -> CliFault
+    requires { why ≡ RunError.Slots → ⊥ }
+    ensures { IsRefusedAs why result }
+{
+    match why {
+        RunError::Slots => unreachable!(),
+        RunError::TooManySlots => CliFault::TooManySlots,
+        RunError::Memory => CliFault::Memory,
     }
 }

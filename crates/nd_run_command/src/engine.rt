@@ -3,13 +3,13 @@
 ghost use Rattle.std.specs.Prelude.{◌≡◌, ◌↔◌, false, reverse, map, vec_len, Some, IfOk, IfErr, IsTrue};
 ghost use Rattle.nd_history.specs.Legal.{IsLegal};
 ghost use Rattle.nd_workers.specs.Runs.{AreManned};
-ghost use Rattle.nd_run_command.specs.Ran.{RunsTo, IsRunFault, EndsIn, IsEndFault, IsRefusedAs};
+ghost use Rattle.nd_run_command.specs.Ran.{RunsTo, IsRunFault, EndsIn, IsEndFault};
 
-use crate::ending::{status_or_fault, write_end};
+use crate::ending::{refusal, status_or_fault, write_end};
 use nd_cli::CliFault;
 use nd_devices::Told;
 use nd_ledger::Dispatch;
-use nd_workers::{RunError, RunFault, Worker, run};
+use nd_workers::{RunFault, Worker, run};
 use std::io::Write;
 use std::mem;
 use std::sync::Wait;
@@ -70,17 +70,5 @@ fn write_and_answer<W: Write>(
     match write_end(dispatch, report, output) {
         Ok(()) => status_or_fault(dispatch, fault),
         Err(_) => Err(CliFault::Write),
-    }
-}
-
-/// The fault of a refused run, whose workers were one for each slot.
-fn refusal(why: RunError) -> CliFault
-    requires { why ≡ RunError.Slots → ⊥ }
-    ensures { IsRefusedAs why result }
-{
-    match why {
-        RunError::Slots => unreachable!(),
-        RunError::TooManySlots => CliFault::TooManySlots,
-        RunError::Memory => CliFault::Memory,
     }
 }

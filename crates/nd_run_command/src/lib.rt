@@ -2,11 +2,12 @@
 //! writes of a run with them on threads.
 #![tactic(auto)]
 
-mod ending;
+pub mod ending;
 pub mod engine;
 pub mod given;
 pub mod seating;
 
+pub use ending::{exit_status, refusal, write_end};
 pub use engine::run_engine;
 pub use given::{RunInputs, run_inputs};
 pub use seating::{places, stand_ins};

@@ -4,15 +4,18 @@
 
 ghost use Rattle.nd_workers.specs.Runs.{AreManned};
 
+use crate::beginning::{Begun, begin};
+use crate::endings::Ending;
+use crate::journal_files::Kept;
 use crate::running::run_workers;
-use crate::stand_ins::{inputs, run_stand_ins};
+use crate::stand_ins::run_stand_ins;
 use clap::ArgMatches;
 use nd_agents::Agent;
 use nd_cli::CliFault;
 use nd_command_line::placed;
 use nd_explain::{Failure, Source};
-use nd_ledger::Dispatch;
-use nd_run_command::{RunInputs, places};
+use nd_run_command::places;
+use nd_serve_command::Opened;
 use nd_workers::{Transport, Worker};
 use std::alloc::{AllocError, Global};
 use std::fs::{File, OpenOptions};
@@ -26,7 +29,7 @@ use std::thread::Threads;
 pub(crate) fn run_given<
     'a,
     R: Files<File = File> + Input + Print + AllocGlobal + Threads + Wait + Sync,
->(rt: &R, alloc: Global, options: &ArgMatches<'a>) -> Result<u8, Failure<'a>> {
+>(rt: &R, alloc: Global, options: &ArgMatches<'a>) -> Result<u8, Ending<'a>> {
     match options.get_str("agents") {
         Some(folder) => run_agents(rt, alloc, options, folder),
         None => run_stand_ins(rt, alloc, options),
@@ -34,27 +37,33 @@ pub(crate) fn run_given<
 }
 
 /// Runs what is given with the agents whose files lie in this folder. The files are opened once all inputs
-/// are accepted.
+/// are accepted, and so is the journal.
 fn run_agents<'a, R: Files<File = File> + Input + Print + AllocGlobal + Threads + Wait + Sync>(
     rt: &R,
     alloc: Global,
     options: &ArgMatches<'a>,
     folder: &'a str,
-) -> Result<u8, Failure<'a>> {
-    let RunInputs { dispatch, rules } = inputs(rt, alloc, options)?;
+) -> Result<u8, Ending<'a>> {
+    let Begun {
+        opened,
+        rules,
+        journal,
+    } = begin(rt, alloc, options)?;
     drop(rules);
-    match places(alloc, &dispatch) {
+    match places(alloc, &opened.dispatch) {
         Ok(places) => run_placed(
             rt,
             alloc,
-            dispatch,
+            opened,
             places,
             folder,
+            journal,
             options.get_flag("report"),
         ),
         Err(fault) => {
-            mem::forget(dispatch);
-            Err(placed(options, fault))
+            mem::forget(opened);
+            drop(journal);
+            Err(Ending::Common(placed(options, fault)))
         }
     }
 }
@@ -63,12 +72,13 @@ fn run_agents<'a, R: Files<File = File> + Input + Print + AllocGlobal + Threads 
 fn run_placed<'a, R: Files<File = File> + Print + AllocGlobal + Threads + Wait + Sync>(
     rt: &R,
     alloc: Global,
-    dispatch: Dispatch,
+    opened: Opened,
     places: Vec<(u32, u32)>,
     folder: &'a str,
+    journal: Kept<'a, File>,
     report: bool,
-) -> Result<u8, Failure<'a>>
-    requires { AreManned dispatch.inputs places.items }
+) -> Result<u8, Ending<'a>>
+    requires { AreManned opened.dispatch.inputs places.items }
 {
     let mut workers = Vec::new(alloc);
     for (machine, slot) in places {
@@ -76,8 +86,9 @@ fn run_placed<'a, R: Files<File = File> + Print + AllocGlobal + Threads + Wait +
             Ok(agent) => agent,
             Err(failure) => {
                 mem::forget(workers);
-                mem::forget(dispatch);
-                return Err(failure);
+                mem::forget(opened);
+                mem::forget(journal);
+                return Err(Ending::Common(failure));
             }
         };
         let transport: Box<dyn Transport + Send> = agent;
@@ -88,11 +99,12 @@ fn run_placed<'a, R: Files<File = File> + Print + AllocGlobal + Threads + Wait +
         };
         if workers.push(worker).is_err() {
             mem::forget(workers);
-            mem::forget(dispatch);
-            return Err(Failure::of(CliFault::Memory));
+            mem::forget(opened);
+            mem::forget(journal);
+            return Err(Ending::Common(Failure::of(CliFault::Memory)));
         }
     }
-    run_workers(rt, alloc, dispatch, workers, report)
+    run_workers(rt, alloc, opened, workers, journal, report)
 }
 
 /// The agent of this machine's slot, which is called by its file `M.S.calls` and answers by `M.S.answers`.

@@ -1,15 +1,20 @@
 //! What each command does with its words.
 
 use crate::agents::run_given;
+use crate::endings::{Ending, common, told_ending};
 use crate::listing::list_park;
+use crate::reporting::report;
 use crate::serving::serve;
 use clap::ArgMatches;
 use clap::error::{Error, ErrorKind};
-use nd_cli::{CliFault, ask_engine, path_engine};
-use nd_command_line::{answered, command_line, heard, path_failure, read_inputs, write_failure};
+use nd_cli::{CliFault, LIMIT, ask_engine, path_engine};
+use nd_command_line::{
+    answered, command_line, heard, history_option, path_failure, read_inputs, write_failure,
+};
 use nd_commands::{audit_engine, sim_engine};
 use nd_devices::Told;
 use nd_explain::{Failure, Heard};
+use nd_journal::history_of;
 use std::alloc::Global;
 use std::fmt;
 use std::fs::File;
@@ -42,9 +47,9 @@ pub(crate) fn run<
     drop(matches);
     match answer {
         Some(Ok(status)) => status,
-        Some(Err(failure)) => {
-            let status = told_why(rt, &failure, explain);
-            drop(failure);
+        Some(Err(ending)) => {
+            let status = told_ending(rt, &ending, explain);
+            drop(ending);
             status
         }
         None => not_understood(rt, "the command line names no command"),
@@ -67,27 +72,18 @@ fn refused_words<R: Print + Eprint>(rt: &R, error: Error) -> u8 {
 fn answer_to<
     'a,
     R: Files<File = File> + Input + Print + Eprint + AllocGlobal + Threads + Wait + Sync,
->(rt: &R, alloc: Global, matches: &ArgMatches<'a>) -> Option<Result<u8, Failure<'a>>> {
+>(rt: &R, alloc: Global, matches: &ArgMatches<'a>) -> Option<Result<u8, Ending<'a>>> {
     match matches.subcommand() {
-        Some(("path", options)) => Some(path(rt, alloc, options)),
-        Some(("ask", options)) => Some(ask(rt, alloc, options)),
-        Some(("sim", options)) => Some(sim(rt, alloc, options)),
-        Some(("audit", options)) => Some(audit(rt, alloc, options)),
-        Some(("serve", options)) => Some(Ok(serve(rt, alloc, options))),
+        Some(("path", options)) => Some(common(path(rt, alloc, options))),
+        Some(("ask", options)) => Some(common(ask(rt, alloc, options))),
+        Some(("sim", options)) => Some(common(sim(rt, alloc, options))),
+        Some(("audit", options)) => Some(common(audit(rt, alloc, options))),
+        Some(("serve", options)) => Some(serve(rt, alloc, options)),
         Some(("run", options)) => Some(run_given(rt, alloc, options)),
-        Some(("park", options)) => Some(list_park(rt, alloc, options)),
+        Some(("report", options)) => Some(report(rt, alloc, options)),
+        Some(("park", options)) => Some(common(list_park(rt, alloc, options))),
         _ => None,
     }
-}
-
-/// Says why a command gave no answer, where asked with what is known about it, and answers the exit
-/// status.
-pub(crate) fn told_why<R: Eprint>(rt: &R, failure: &Failure, explain: bool) -> u8 {
-    let status = told(rt, &failure.fault);
-    if explain {
-        say(rt, failure);
-    }
-    status
 }
 
 /// Says in one line on standard error why the command line isn't understood, and answers the exit
@@ -193,9 +189,9 @@ fn audit<'a, R: Files + Input + Print + AllocGlobal + Threads + Sync>(
     alloc: Global,
     options: &ArgMatches<'a>,
 ) -> Result<u8, Failure<'a>> {
-    let mut inputs = read_inputs(rt, alloc, options, Some("history"))?;
+    let mut inputs = read_inputs(rt, alloc, options, Some(history_option(options)))?;
     let mut output = Told::new(Heard::new(io::writer(rt)));
-    let history = inputs.own.as_slice();
+    let history = history_in(options, inputs.own.as_slice());
     let verdict = audit_engine(
         rt,
         alloc,
@@ -205,4 +201,16 @@ fn audit<'a, R: Files + Input + Print + AllocGlobal + Threads + Sync>(
         &mut output,
     );
     answered(alloc, options, inputs, verdict, output)
+}
+
+/// The history text of these bytes: of a journal what its whole lines tell, and of a history the bytes themselves. A
+/// journal of too many bytes is refused for these, as a history is.
+fn history_in<'b>(options: &ArgMatches, bytes: &'b [u8]) -> &'b [u8] {
+    if bytes.len() > LIMIT {
+        return bytes;
+    }
+    match options.get_str("journal") {
+        Some(_) => history_of(bytes),
+        None => bytes,
+    }
 }

@@ -1,4 +1,4 @@
-//! The journal of a session in a file.
+//! The journal of a session or of a run in a file.
 
 use nd_explain::Heard;
 use nd_keeping::Journal;
@@ -9,7 +9,7 @@ use std::io::{self, ErrorKind, Read, Write};
 use std::path::Path;
 use std::rt::Files;
 
-/// Where a session's entries are kept.
+/// Where the entries of a session or of a run are kept.
 #[derive(Drop)]
 pub(crate) enum Kept<'a, F> {
     /// Nowhere.
@@ -120,9 +120,29 @@ pub(crate) fn find_journal<'a, R: Files<File = File>>(
     }
 }
 
-/// Where the entries of a session go whose journal was found so: a file that isn't there is made. That its folder
-/// has it is durable then.
-pub(crate) fn begin_journal<'a, R: Files<File = File>>(
+/// The journal that was found so, once it is ready to be appended to: its file is made where it isn't there, and
+/// else cut to this many bytes. What stays of it and that its folder has it are durable then.
+pub(crate) fn ready_journal<'a, R: Files<File = File>>(
+    rt: &R,
+    found: Found<'a>,
+    length: usize,
+) -> Result<Kept<'a, File>, JournalFailure<'a>> {
+    let Found { name, file, bytes } = found;
+    let held = bytes.len();
+    drop(bytes);
+    let mut journal = match begin_journal(rt, name, file) {
+        Ok(journal) => journal,
+        Err(failure) => return Err(failure),
+    };
+    if held > 0 && journal.cut(length).is_err() {
+        return Err(journal.into_failure());
+    }
+    Ok(journal)
+}
+
+/// The journal of this name in this file, which is made where it isn't there. That its folder has it is durable
+/// then.
+fn begin_journal<'a, R: Files<File = File>>(
     rt: &R,
     name: Option<&'a str>,
     file: Option<File>,
@@ -160,7 +180,7 @@ fn in_folder<'a, R: Files<File = File>>(
     }
 }
 
-/// What is known of a file that isn't opened, locked, read or made: a lock that is another session's, and a file
+/// What is known of a file that isn't opened, locked, read or made: a lock that is another program's, and a file
 /// that was made since it was looked for, are told as being in use.
 fn failure_of(name: &str, error: io::Error) -> JournalFailure<'_> {
     let fault = match error.kind() {
@@ -168,6 +188,41 @@ fn failure_of(name: &str, error: io::Error) -> JournalFailure<'_> {
         _ => ServeFault::JournalFailed,
     };
     JournalFailure::of_file(fault, name, Some(error))
+}
+
+/// What the journal of this name holds, which may be another program's: it isn't locked, and has to be there.
+pub(crate) fn read_aside<'a, R: Files<File = File>>(
+    rt: &R,
+    alloc: Global,
+    name: &'a str,
+) -> Result<Vec<u8>, JournalFailure<'a>> {
+    let file = match fs::open(rt, name) {
+        Ok(file) => file,
+        Err(error) => return Err(JournalFailure::of_file(
+            ServeFault::JournalFailed,
+            name,
+            Some(error),
+        )),
+    };
+    match read_to_end(alloc, file) {
+        Ok(bytes) => Ok(bytes),
+        Err(error) => Err(JournalFailure::of_file(ServeFault::JournalFailed, name, Some(error))),
+    }
+}
+
+/// What this file holds.
+fn read_to_end(alloc: Global, file: File) -> io::Result<Vec<u8>> {
+    let mut file = file;
+    let mut bytes = Vec::new(alloc);
+    let answer = file.read_to_end(&mut bytes);
+    drop(file);
+    match answer {
+        Ok(_) => Ok(bytes),
+        Err(error) => {
+            drop(bytes);
+            Err(error)
+        }
+    }
 }
 
 /// Opens the file for appending, locks it and reads it whole, where it is there.

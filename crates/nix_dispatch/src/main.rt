@@ -2,13 +2,16 @@
 //! Nix's build hook does for one derivation at a time.
 //!
 //! The program itself reads the command line and the files that it names, and leaves the rest to
-//! the engines of `nd_cli`, `nd_commands`, `nd_park`, `nd_serve_command` and `nd_run_command`.
+//! the engines of `nd_cli`, `nd_commands`, `nd_park`, `nd_serve_command`, `nd_run_command` and `nd_kept_run`.
 #![tactic(auto)]
 
 mod agents;
+mod beginning;
 mod commands;
+mod endings;
 mod journal_files;
 mod listing;
+mod reporting;
 mod running;
 mod serving;
 mod stand_ins;

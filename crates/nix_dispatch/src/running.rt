@@ -3,39 +3,54 @@
 ghost use Rattle.std.specs.Prelude.{map};
 ghost use Rattle.nd_workers.specs.Runs.{AreManned};
 
+use crate::endings::{Ending, common};
+use crate::journal_files::Kept;
 use nd_cli::CliFault;
 use nd_command_line::write_failure;
 use nd_devices::Told;
 use nd_explain::{Failure, Heard};
-use nd_ledger::Dispatch;
+use nd_kept_run::{KeptEnd, run_kept_engine};
 use nd_run_command::run_engine;
+use nd_serve_command::{Opened, ServeFault};
 use nd_workers::Worker;
 use std::alloc::Global;
+use std::fs::File;
 use std::io::{self, BufWriter, Write};
 use std::mem;
 use std::sync::Wait;
 use std::thread::Threads;
 
-/// Runs a dispatch by these workers, who man its park, and writes the history to standard output, and where
-/// asked the report.
+/// Runs what was opened by these workers, who man its park, with this journal, and writes the history to standard
+/// output, and where asked the report.
 pub(crate) fn run_workers<'a, R: Print + AllocGlobal + Threads + Wait + Sync>(
     rt: &R,
     alloc: Global,
-    dispatch: Dispatch,
+    opened: Opened,
     workers: Vec<Worker>,
+    journal: Kept<'a, File>,
     report: bool,
-) -> Result<u8, Failure<'a>>
-    requires manned { AreManned dispatch.inputs (map (λ w. (w.machine, w.slot)) workers.items) }
+) -> Result<u8, Ending<'a>>
+    requires manned { AreManned opened.dispatch.inputs (map (λ w. (w.machine, w.slot)) workers.items) }
 {
     let Ok(buffer) = BufWriter::new(alloc, io::writer(rt)) else {
         // The process ends with the command.
         mem::forget(workers);
-        mem::forget(dispatch);
-        return Err(Failure::of(CliFault::Memory));
+        mem::forget(opened);
+        mem::forget(journal);
+        return Err(Ending::Common(Failure::of(CliFault::Memory)));
     };
     let mut output = Told::new(Heard::new(buffer));
-    let answer = run_engine(rt, dispatch, workers, report, &mut output);
-    ended(answer, output.into_inner())
+    match journal {
+        Kept::Nowhere => {
+            let Opened { dispatch, kept: _ } = opened;
+            let answer = run_engine(rt, dispatch, workers, report, &mut output);
+            common(ended(answer, output.into_inner()))
+        }
+        journal => {
+            let end = run_kept_engine(rt, opened, workers, journal, report, &mut output);
+            kept_ended(end, output.into_inner())
+        }
+    }
 }
 
 /// What a command answers: the status of its engine, and else what is known of the fault that it ended with over
@@ -57,6 +72,30 @@ fn ended<'a, W: Write + Drop>(
         Err(fault) => {
             drop(output);
             Err(Failure::of(fault))
+        }
+    }
+}
+
+/// The same, of a run with a journal.
+fn kept_ended<'a, W: Write + Drop>(
+    end: KeptEnd<Kept<'a, File>>,
+    output: Heard<W>,
+) -> Result<u8, Ending<'a>> {
+    let KeptEnd { answer, journal } = end;
+    match answer {
+        Ok(status) => {
+            drop(journal);
+            drop(output);
+            Ok(status)
+        }
+        Err(ServeFault::Cli(fault)) => {
+            drop(journal);
+            common(ended(Err(fault), output))
+        }
+        Err(fault) => {
+            drop(fault);
+            drop(output);
+            Err(Ending::Journal(journal.into_failure()))
         }
     }
 }

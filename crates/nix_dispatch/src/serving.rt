@@ -1,8 +1,8 @@
 //! The command `serve`: a session over standard input and output, with a journal in a file. What was opened is left
 //! to the system where the command ends early, since the process ends with it.
 
-use crate::commands::{say, told_why};
-use crate::journal_files::{Found, Kept, begin_journal, find_journal};
+use crate::endings::Ending;
+use crate::journal_files::{Kept, find_journal, ready_journal};
 use clap::ArgMatches;
 use nd_cli::CliFault;
 use nd_command_line::{read_inputs, write_failure};
@@ -15,45 +15,9 @@ use std::mem;
 use std::rt::Files;
 use std::thread::Threads;
 
-/// Why the command ended before its input did, with what is known about it.
-#[derive(Drop)]
-pub(crate) enum Ending<'a> {
-    /// As of the other commands.
-    Common(Failure<'a>),
-    /// The journal is refused, or failed.
-    Journal(JournalFailure<'a>),
-}
-
-/// Holds a session, and answers the exit status. A fault that it ends by is said here.
-pub(crate) fn serve<
-    'a,
-    R: Files<File = File> + Input + Print + Eprint + AllocGlobal + Threads + Sync,
->(rt: &R, alloc: Global, options: &ArgMatches<'a>) -> u8 {
-    let ending = match begin(rt, alloc, options) {
-        Ok(status) => return status,
-        Err(ending) => ending,
-    };
-    let explain = options.get_flag("explain");
-    let status = match &ending {
-        Ending::Common(failure) => told_why(rt, failure, explain),
-        Ending::Journal(failure) => told_of_journal(rt, failure, explain),
-    };
-    drop(ending);
-    status
-}
-
-/// Says why the journal is refused, or how it failed, where asked with what is known about it, and answers the
-/// exit status.
-fn told_of_journal<R: Eprint>(rt: &R, failure: &JournalFailure, explain: bool) -> u8 {
-    say(rt, &failure.fault);
-    if explain {
-        say(rt, failure);
-    }
-    failure.fault.status()
-}
-
-/// Looks at the journal, opens a session with it, and only then makes or changes anything of it.
-fn begin<'a, R: Files<File = File> + Input + Print + AllocGlobal + Threads + Sync>(
+/// Holds a session, and answers the exit status. It looks at the journal, opens the session with it, and only
+/// then makes or changes anything of it.
+pub(crate) fn serve<'a, R: Files<File = File> + Input + Print + AllocGlobal + Threads + Sync>(
     rt: &R,
     alloc: Global,
     options: &ArgMatches<'a>,
@@ -69,11 +33,8 @@ fn begin<'a, R: Files<File = File> + Input + Print + AllocGlobal + Threads + Syn
             return Err(ending);
         }
     };
-    let Found { name, file, bytes } = found;
-    let length = bytes.len();
-    drop(bytes);
-    match begin_journal(rt, name, file) {
-        Ok(kept) => hold(rt, alloc, opened, kept, length),
+    match ready_journal(rt, found, opened.kept) {
+        Ok(journal) => hold(rt, alloc, opened, journal),
         Err(failure) => {
             mem::forget(opened);
             Err(Ending::Journal(failure))
@@ -114,20 +75,13 @@ fn open<'a, R: Files + Input + Threads + Sync>(
     }
 }
 
-/// Cuts the journal to the whole lines that are gone on from, makes durable what stays, cut or not, and holds the
-/// session.
-fn hold<'a, R: Files + Input + Print + AllocGlobal>(
+/// Holds the session that was opened, with this journal.
+fn hold<'a, R: Files<File = File> + Input + Print + AllocGlobal>(
     rt: &R,
     alloc: Global,
     opened: Opened,
-    kept: Kept<'a, R::File>,
-    length: usize,
+    journal: Kept<'a, File>,
 ) -> Result<u8, Ending<'a>> {
-    let mut kept = kept;
-    if length > 0 && kept.cut(opened.kept).is_err() {
-        mem::forget(opened);
-        return Err(Ending::Journal(kept.into_failure()));
-    }
     let Ok(input) = BufReader::new(alloc, Heard::new(rt.reader())) else {
         mem::forget(opened);
         return Err(Ending::Common(Failure::of(CliFault::Memory)));
@@ -135,7 +89,7 @@ fn hold<'a, R: Files + Input + Print + AllocGlobal>(
     let mut devices = Devices {
         input,
         output: Heard::new(io::writer(rt)),
-        journal: kept,
+        journal,
     };
     let answer = serve_engine(alloc, opened, &mut devices);
     let Devices {

@@ -1,0 +1,55 @@
+//! A journal in memory that stops.
+
+ghost use Rattle.std.specs.Prelude.{◌≡◌, length};
+
+use nd_keeping::Journal;
+use std::io;
+
+/// A journal in memory that refuses its calls once it has granted a number of them.
+#[derive(Drop)]
+pub struct MemoryJournal {
+    /// What it holds.
+    pub bytes: Vec<u8>,
+    durable: usize,
+    grants: usize,
+}
+
+impl MemoryJournal {
+    /// A journal that holds these bytes, durable, and grants this number of calls.
+    pub fn holding(bytes: Vec<u8>, grants: usize) -> Self
+        ensures bytes { result.bytes ≡ bytes }
+        ensures durable { result.durable ≡ length bytes.items }
+    {
+        let durable = bytes.len();
+        MemoryJournal {
+            bytes,
+            durable,
+            grants,
+        }
+    }
+}
+
+impl Journal for MemoryJournal {
+    ghost use Rattle.std.specs.Prelude.{Some};
+
+    ghost stored = { λ j. Some (record { bytes = j.bytes.items; durable = j.durable }) };
+
+    fn append(&mut self, bytes: &[u8]) -> io::Result<()> {
+        // What a refused call is given may be there all the same.
+        self.bytes.extend_from_slice(bytes)?;
+        if self.grants == 0 {
+            return Err(io::Error::from(io::ErrorKind::Other));
+        }
+        self.grants -= 1;
+        Ok(())
+    }
+
+    fn sync(&mut self) -> io::Result<()> {
+        if self.grants == 0 {
+            return Err(io::Error::from(io::ErrorKind::Other));
+        }
+        self.grants -= 1;
+        self.durable = self.bytes.len();
+        Ok(())
+    }
+}
