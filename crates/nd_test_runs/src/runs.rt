@@ -367,6 +367,76 @@ fn drained_run(rt: HostRuntime) {
     assert!(rt; gives(&rt, alloc, drained, TWO, Stand::Plain, lines));
 }
 
+/// Leases the one node of a dispatch on slot 0 of machine 1, and starts the lease where asked to.
+fn lease_first(alloc: Global, opened: &mut Dispatch, started: bool) -> bool {
+    if opened.pump().is_err() {
+        return false;
+    }
+    let Some(ticket) = opened.current(1, 0) else {
+        return false;
+    };
+    if !started {
+        return true;
+    }
+    opened.started(alloc, ticket, PathSet::new(alloc)).is_ok()
+}
+
+/// The dispatch of one plain node whose lease is live, and started where asked.
+fn leased(alloc: Global, started: bool) -> Option<Dispatch> {
+    let mut opened = dispatch(alloc, PLAIN_1, "m")?;
+    if !lease_first(alloc, &mut opened, started) {
+        close(opened);
+        return None;
+    }
+    Some(opened)
+}
+
+/// Whether a run ended with these lines, and its one receipt is that of the third entry, the end of a lease that
+/// was started before, behind so many calls.
+fn is_taken_up(alloc: Global, end: Ran<StandIn>, calls: u8, lines: &str) -> bool {
+    let noted = match end.receipts.get(0) {
+        Some(row) => {
+            has_receipts(row.as_slice(), &[(2, calls)]) && row.iter().all(|receipt| receipt.again)
+        }
+        None => false,
+    };
+    is_end(alloc, end, lines) && noted
+}
+
+/// Whether a run that goes on from a started lease ends so.
+fn takes_up<R: Threads + Wait + Sync>(
+    rt: &R,
+    alloc: Global,
+    stand: Stand,
+    calls: u8,
+    lines: &str,
+) -> bool {
+    let Some(opened) = leased(alloc, true) else {
+        return false;
+    };
+    match ran(rt, opened, workers(alloc, ONE, stand)) {
+        Ok(end) => is_taken_up(alloc, end, calls, lines),
+        Err(refused) => {
+            close_refused(refused);
+            false
+        }
+    }
+}
+
+/// A lease that is live when a run begins is taken up; where it was started its build is asked for again, and it
+/// is lost where its machine isn't reached.
+#[test]
+fn taken_up(rt: HostRuntime) {
+    let alloc = rt.alloc();
+    let built = "chosen 0 1 0\nstarted 0\nbuilt 0 o\n";
+    let lost = "chosen 0 1 0\nstarted 0\nfailed 0 lost\n";
+    assert!(rt; gives(&rt, alloc, leased(alloc, false), ONE, Stand::Plain, built));
+    assert!(rt; takes_up(&rt, alloc, Stand::Plain, 3, built));
+    assert!(rt; takes_up(&rt, alloc, Stand::Lose, 3, lost));
+    assert!(rt; takes_up(&rt, alloc, Stand::NoCopy(1), 2, lost));
+    assert!(rt; takes_up(&rt, alloc, Stand::NoConnect(1), 1, lost));
+}
+
 /// The history of the stored run where so many calls pass.
 pub(crate) fn blown(passes: u32) -> &'static str {
     match passes {
