@@ -196,6 +196,9 @@ class Case:
 
     def look_at(self, what):
         """The entries of the journal, which has to be a legal one in which nothing starts or is built twice."""
+        if not os.path.exists(self.journal):
+            # it was killed before the file was made
+            return []
         held = self.whole()
         if held and not held.startswith(FIRST_LINE):
             fail(f"{what}: the journal begins with {held[:40]!r}")
@@ -508,7 +511,7 @@ def told(folder):
 
 
 def looked_at(folder):
-    case = Case(folder, layered(300, 60), 16, agents=Agents(folder, 16, 0.05))
+    case = Case(folder, layered(300, 60), 16, agents=Agents(folder, 16, 0.15))
     ended = []
     thread = threading.Thread(target=lambda: ended.append(case.run()))
     thread.start()
