@@ -98,7 +98,15 @@ fn source_of<'a>(options: &ArgMatches<'a>, place: Place) -> Source<'a> {
         Place::Info => file_of(options, "info"),
         Place::Script => file_of(options, "script"),
         Place::Stand => file_of(options, "stand"),
-        Place::History => file_of(options, "history"),
+        Place::History => file_of(options, history_option(options)),
+    }
+}
+
+/// The option that names the history: that of a journal where one is given.
+pub fn history_option(options: &ArgMatches) -> &'static str {
+    match options.get_str("journal") {
+        Some(_) => "journal",
+        None => "history",
     }
 }
 

@@ -8,6 +8,6 @@ mod inputs;
 mod words;
 
 pub use bundles::{Bundle, bundle_of, bundle_source};
-pub use failing::{Given, failure, heard, path_failure, placed, write_failure};
+pub use failing::{Given, failure, heard, history_option, path_failure, placed, write_failure};
 pub use inputs::{Inputs, answered, read_inputs};
 pub use words::command_line;

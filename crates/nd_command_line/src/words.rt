@@ -29,6 +29,8 @@ enum Bond {
     Without(&'static str),
     /// It isn't given without this one.
     With(&'static str),
+    /// Just one of it and this one is given.
+    Or(&'static str),
 }
 
 /// A word of a command: an option, or one that stands for itself.
@@ -73,12 +75,17 @@ const COMMANDS: &[Known] = &[
     Known {
         name: "serve",
         about: "Does one command of a script after another as it comes on standard input, and answers each",
-        words: &[BUNDLE_FILE, PARK, EXPLAIN, SESSION],
+        words: &[BUNDLE_FILE, PARK, EXPLAIN, SESSION, RESUME],
     },
     Known {
         name: "run",
         about: "Builds the bundle by agents, or with stand-ins for the machines, and writes the history",
-        words: &[BUNDLE, PARK, EXPLAIN, RUN],
+        words: &[BUNDLE, PARK, EXPLAIN, RUN, RESUME],
+    },
+    Known {
+        name: "report",
+        about: "Writes the report of the history that a journal tells, also while it is written",
+        words: &[BUNDLE, PARK, EXPLAIN, REPORT],
     },
     Known {
         name: "park",
@@ -180,31 +187,47 @@ const SCRIPT: &[Word] = &[Word {
     help: "The script: one command a line, as start 0, built 0, fail 0 1, down 0, stop, ask 1",
 }];
 
-/// The history of `audit`.
-const HISTORY: &[Word] = &[Word {
-    name: "history",
-    takes: Takes::Value("FILE"),
-    bond: Bond::Required,
-    help: "The history text that is audited",
-}];
-
-/// The journal of `serve`, and the flag of a session that goes on from it.
-const SESSION: &[Word] = &[
+/// The history of `audit`, or the journal that tells it.
+const HISTORY: &[Word] = &[
+    Word {
+        name: "history",
+        takes: Takes::Value("FILE"),
+        bond: Bond::Or("journal"),
+        help: "The history text that is audited",
+    },
     Word {
         name: "journal",
         takes: Takes::Value("FILE"),
         bond: Bond::Free,
-        help: "Where each entry is kept and made durable before it is answered",
-    },
-    Word {
-        name: "resume",
-        takes: Takes::Nothing,
-        bond: Bond::With("journal"),
-        help: "Goes on from the history that the journal holds",
+        help: "The journal whose whole lines are audited",
     },
 ];
 
-/// What `run` builds by, and whether it reports.
+/// The journal of `report`.
+const REPORT: &[Word] = &[Word {
+    name: "journal",
+    takes: Takes::Value("FILE"),
+    bond: Bond::Required,
+    help: "The journal whose whole lines tell the history",
+}];
+
+/// The journal of `serve`.
+const SESSION: &[Word] = &[Word {
+    name: "journal",
+    takes: Takes::Value("FILE"),
+    bond: Bond::Free,
+    help: "Where each entry is kept and made durable before it is answered",
+}];
+
+/// The flag of what goes on from its journal.
+const RESUME: &[Word] = &[Word {
+    name: "resume",
+    takes: Takes::Nothing,
+    bond: Bond::With("journal"),
+    help: "Goes on from the history that the journal holds",
+}];
+
+/// What `run` builds by, whether it reports, and its journal.
 const RUN: &[Word] = &[
     Word {
         name: "stand",
@@ -223,6 +246,12 @@ const RUN: &[Word] = &[
         takes: Takes::Nothing,
         bond: Bond::Free,
         help: "Writes the report behind the history",
+    },
+    Word {
+        name: "journal",
+        takes: Takes::Value("FILE"),
+        bond: Bond::Free,
+        help: "Where each entry is kept and made durable before anything is done for it",
     },
 ];
 
@@ -297,6 +326,15 @@ fn arg_of<'a>(alloc: Global, word: &Word) -> Result<Arg<'a>, AllocError> {
         Bond::Required => Ok(arg.required(true)),
         Bond::Without(other) => arg.conflicts_with(other),
         Bond::With(other) => arg.requires_arg(other),
+        Bond::Or(other) => alone(arg.required_unless_present(other), other),
+    }
+}
+
+/// A word that isn't given together with this other one.
+fn alone<'a>(arg: Result<Arg<'a>, AllocError>, other: &'a str) -> Result<Arg<'a>, AllocError> {
+    match arg {
+        Ok(arg) => arg.conflicts_with(other),
+        Err(refused) => Err(refused),
     }
 }
 

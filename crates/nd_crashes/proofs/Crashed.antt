@@ -35,7 +35,7 @@ sound_behind : (front behind : List Entry) → All IsSound (front ++ behind) →
 sound_behind [] behind sound = sound
 sound_behind (e ∷ front) behind sound = sound_behind front behind (All-tail IsSound e (front ++ behind) sound)
 
-sound_front : (front behind : List Entry) → All IsSound (front ++ behind) → All IsSound front
+pub sound_front : (front behind : List Entry) → All IsSound (front ++ behind) → All IsSound front
 sound_front [] behind sound = All-nil IsSound
 sound_front (e ∷ front) behind sound =
     All-cons IsSound e front (All-head IsSound e (front ++ behind) sound) (sound_front front behind (All-tail IsSound e (front ++ behind) sound))
@@ -84,11 +84,12 @@ whole_text : (start added : List Entry) (base first file : List ℕ) → base ++
 whole_text start added base first file begun cut =
     append_assoc base file cut.rest ∙ ap (λ (l : List ℕ). base ++ l) (sym cut.is) ∙ text_on start added base first begun
 
--- the bytes are gone on from with a legal history that begins with this one
-pub record HoldsFrom (i : Premises) (bytes : List ℕ) (history : List Entry) : Type 0 where
+-- the bytes are gone on from with a legal history that begins with this one, and is a beginning of all that was handed to the journal
+pub record HoldsFrom (i : Premises) (all : List Entry) (bytes : List ℕ) (history : List Entry) : Type 0 where
   pub entries : List Entry
   pub resumable : IsResumable i bytes entries
   pub begins : BeginsWith entries history
+  pub within : BeginsWith all entries
 
 -- what is known of a file and of what it lacks
 pub record IsCutFrom (i : Premises) (start added : List Entry) (base first file : List ℕ) : Type 0 where
@@ -99,7 +100,7 @@ pub record IsCutFrom (i : Premises) (start added : List Entry) (base first file 
 
 -- ---- nothing of a new journal is durable yet
 
-pub new_left : (i : Premises) (start added : List Entry) (base first file : List ℕ) → start ≡ [] → IsCutFrom i start added base first file → HoldsFrom i (base ++ file) start
+pub new_left : (i : Premises) (start added : List Entry) (base first file : List ℕ) → start ≡ [] → IsCutFrom i start added base first file → HoldsFrom i (start ++ added) (base ++ file) start
 new_left i start added base first file none from =
     let all = start ++ added in
     let text = whole_text start added base first file from.begun from.cut in
@@ -108,6 +109,7 @@ new_left i start added base first file none from =
         entries = [];
         resumable = record { read = inl (record { none = whole_none (base ++ file) silent; empty = refl }); legal = tt };
         begins = record { later = []; whole = sym none ∙ sym (append-nil start) };
+        within = record { later = all; whole = refl };
       }
       | inr found ↦
           let lines = lines_cut all found.more from.cut.rest from.sound found.left in
@@ -123,13 +125,14 @@ new_left i start added base first file none from =
               legal = legal_front i all lines.front lines.behind lines.parts from.legal;
             };
             begins = record { later = lines.front; whole = ap (λ (l : List Entry). l ++ lines.front) (sym none) };
+            within = record { later = lines.behind; whole = lines.parts };
           }
     ]
 
 -- ---- the lines of these entries are durable
 
 pub durable_left : (i : Premises) (start added kept : List Entry) (base first file : List ℕ) → IsCutFrom i start added base first file → All IsSound (start ++ kept)
-    → IsBeginning (first ++ flat_map line_of kept) file → HoldsFrom i (base ++ file) (start ++ kept)
+    → IsBeginning (first ++ flat_map line_of kept) file → HoldsFrom i (start ++ added) (base ++ file) (start ++ kept)
 durable_left i start added kept base first file from own durable =
     let all = start ++ added in
     let history = start ++ kept in
@@ -147,6 +150,8 @@ durable_left i start added kept base first file from own durable =
     let on = lines_go_on history all (durable.rest ++ lacks) own from.sound lines in
     let later = sound_behind history on.more (subst (All IsSound) on.parts from.sound) in
     let last = lines_cut on.more durable.rest lacks later on.left in
+    let parts : all ≡ (history ++ last.front) ++ last.behind =
+    on.parts ∙ ap (λ (l : List Entry). history ++ l) last.parts ∙ sym (append_assoc history last.front last.behind) in
     record {
       entries = history ++ last.front;
       resumable = record {
@@ -161,9 +166,8 @@ durable_left i start added kept base first file from own durable =
               (lines_through history durable.rest own ∙ ap (λ (l : List ℕ). flat_map line_of history ++ l) last.whole ∙ sym (flat_map-append line_of history last.front))
               ∙ sym (text_is (flat_map line_of (history ++ last.front)));
         });
-        legal =
-            legal_front i all (history ++ last.front) last.behind
-            (on.parts ∙ ap (λ (l : List Entry). history ++ l) last.parts ∙ sym (append_assoc history last.front last.behind)) from.legal;
+        legal = legal_front i all (history ++ last.front) last.behind parts from.legal;
       };
       begins = record { later = last.front; whole = refl };
+      within = record { later = last.behind; whole = parts };
     }

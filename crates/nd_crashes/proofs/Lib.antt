@@ -3,3 +3,4 @@ pub mod Crashed
 pub mod Reached
 pub mod Survived
 pub mod Begun
+pub mod RunsLeft

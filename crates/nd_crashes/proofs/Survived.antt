@@ -24,11 +24,11 @@ text_begun false base start holds = append-nil base ∙ holds
 
 -- nothing was answered yet
 start_left : (i : Premises) (fresh : Bool) (start added : List Entry) (base file : List ℕ) → HoldsAtFirst fresh base start → All IsSound start
-    → IsCutFrom i start added base (first_of fresh) file → HoldsFrom i (base ++ file) start
+    → IsCutFrom i start added base (first_of fresh) file → HoldsFrom i (start ++ added) (base ++ file) start
 start_left i true start added base file holds sound from = new_left i start added base (first_of true) file holds.1 from
 start_left i false start added base file holds sound from =
     let all : start ++ [] ≡ start = append-nil start in
-    subst (HoldsFrom i (base ++ file)) all
+    subst (HoldsFrom i (start ++ added) (base ++ file)) all
     (durable_left i start added [] base [] file from (subst (All IsSound) (sym all) sound) (record { rest = file; is = refl }))
 
 cut_from : (i : Premises) (fresh : Bool) (start : List Entry) (base : List ℕ) (events moment later : List Event) (file : List ℕ) → IsBegunWith i fresh base start
@@ -52,8 +52,8 @@ answer_kept i fresh start added base moment file begun from left there =
     let here : IsLeft (at.front ++ at.later) file = subst (λ (l : List Event). IsLeft l file) at.parts left in
     let durable : IsBeginning (first ++ flat_map line_of kept.added) file =
     subst (λ (l : List ℕ). IsBeginning l file) kept.bytes (session_durable i start first at.opening at.turns there.history at.front at.later file at.session here) in
-    let held : HoldsFrom i (base ++ file) there.history =
-    subst (HoldsFrom i (base ++ file)) (sym kept.grown)
+    let held : HoldsFrom i (start ++ added) (base ++ file) there.history =
+    subst (HoldsFrom i (start ++ added) (base ++ file)) (sym kept.grown)
     (durable_left i start added kept.added base first file from (All-append IsSound start kept.added begun.sound kept.sound) durable) in
     record { history = there.history; answers = inr at; entries = held.entries; resumable = held.resumable; begins = held.begins }
 

@@ -80,3 +80,22 @@ pub record SurvivesCrashes (i : Premises) (start : List Entry) (fresh : Bool) (b
   pub keeps :
       (moment later : List Event) (file : List ℕ) → events ≡ moment ++ later → IsLeft moment file
       → KeepsAnswers i start (first_of fresh) moment (base ++ file)
+
+-- ---- the journal of a run, of which at each moment some entries were handed to the journal, and some of these are durable
+
+-- a file that has all of the text of these entries; before there is one, not even the first line has to be there
+abbrev pub HasTextOf : List Entry → List ℕ → Type 0
+HasTextOf [] file = Unit {0}
+HasTextOf (e ∷ durable) file = IsBeginning (history_text Second (e ∷ durable)) file
+
+-- what a crash may leave: a beginning of the text of what was handed, with all of the text of what is durable
+pub record IsRunLeft (durable handed : List Entry) (file : List ℕ) : Type 0 where
+  pub beginning : IsBeginning file (history_text Second handed)
+  pub durable_there : HasTextOf durable file
+
+-- the file is gone on from with a legal history, which is a beginning of what was handed and has every entry that is durable
+pub record KeepsRun (i : Premises) (durable handed : List Entry) (file : List ℕ) : Type 0 where
+  pub entries : List Entry
+  pub resumable : IsResumable i file entries
+  pub begins : BeginsWith entries durable
+  pub within : BeginsWith handed entries

@@ -1,6 +1,6 @@
 //! Laws over what a journal holds after a crash. Each function does nothing, and its contract is the law.
 
-ghost use Rattle.nd_crashes.specs.CrashLaws.{SessionsSurvive, PartsSurvive, JournalsBegin};
+ghost use Rattle.nd_crashes.specs.CrashLaws.{SessionsSurvive, PartsSurvive, JournalsBegin, RunsSurvive};
 
 /// After a crash at any moment of a session that began with a durable journal, if the crash leaves what was made
 /// durable and a beginning of the rest: the journal is gone on from with a legal history, which begins with every
@@ -17,4 +17,11 @@ pub fn parts_survive()
 /// What can be gone on from, cut to its whole lines, is what such a session begins with, once it is durable.
 pub fn journals_begin()
     ensures { JournalsBegin }
+{}
+
+/// After a crash at any moment of a run, if the crash leaves the text of what is durable and a beginning of the rest
+/// of what was handed to the journal: the journal is gone on from with a legal history, which is a beginning of the
+/// run's and has every entry that is durable, so every one that something outside acted on.
+pub fn runs_survive()
+    ensures { RunsSurvive }
 {}

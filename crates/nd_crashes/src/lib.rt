@@ -1,4 +1,4 @@
-//! The journal of a session after a crash: what it holds then, and how a session goes on from it.
+//! The journal of a session or of a run after a crash: what it holds then, and what it is gone on from with.
 #![tactic(auto)]
 
 pub mod laws;

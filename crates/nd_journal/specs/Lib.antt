@@ -1,3 +1,4 @@
 pub mod WholeLines
 pub mod JournalTexts
 pub mod JournalLaws
+pub mod Tellings

@@ -1,5 +1,5 @@
 -- Lemmas on receipts that are compared with a history.
-use Rattle.std.proofs.Common.{◌≡◌, ℕ, ◌==◌, Bool, true, false, List, [], ◌∷◌, ◌++◌, reverse, take, refl, sym, ap, ◌∙◌, subst, eq-eqb, append_assoc, inl, inr}
+use Rattle.std.proofs.Common.{◌≡◌, ℕ, ◌==◌, Bool, true, false, List, [], ◌∷◌, ◌++◌, reverse, take, refl, sym, ap, ◌∙◌, subst, eq-eqb, append_assoc, inl, inr, Vec}
 use Rattle.std.specs.List.{AllZip}
 use Rattle.nd_history.specs.declared.entry.Entry.{Entry}
 use Rattle.nd_history.specs.declared.entry.Entry.TheVariants.{Chosen, NoBuilder, Started, Down, Built, Failed, Stop, Drain, Enable}
@@ -9,10 +9,12 @@ use Rattle.nd_history.specs.History.{is_started}
 use Rattle.nd_transports.specs.declared.kinds.Call.{Call}
 use Rattle.nd_transports.specs.declared.kinds.Call.TheVariants.{Build}
 use Rattle.nd_receipts.specs.declared.receipt.Receipt.{Receipt}
-use Rattle.nd_receipts.specs.Receipts.{AreCallsOfShortage, AreCallsOfFailure, AreCallsFor, AreCallsOf, AreCallsAt, AreCallsIn}
+use Rattle.nd_receipts.specs.declared.standing.Standing.{Standing}
+use Rattle.nd_receipts.specs.Receipts.{AreCallsOfShortage, AreCallsOfFailure, AreCallsFor, AreCallsBy, AreCallsOf, AreCallsAt, AreCallsIn}
 use Rattle.nd_receipts.specs.Receipts.AreCallsIn.{none, more}
-use Rattle.nd_receipts.specs.Noted.{AreLeases, IsNotedIn}
-use Rattle.nd_receipts.specs.Noted.AreLeases.{none as no_leases, unstarted, served}
+use Rattle.nd_receipts.specs.Noted.{AreLeases, IsNotedIn, AreRowsNotedBy, AreRowsNoted}
+use Rattle.nd_receipts.specs.Noted.AreLeases.{none as no_leases, unstarted, served, left}
+use Rattle.nd_receipts.specs.Standing.{is_building, is_flagged, Tells}
 
 -- ---- the entries before a receipt's
 
@@ -45,24 +47,52 @@ calls_for own past n paths refs Stop these h says = h
 calls_for own past n paths refs (Drain m) these h says = h
 calls_for own past n paths refs (Enable m) these h says = h
 
-calls_at : (history own : List Entry) (r : Receipt) (e : Entry) (these : List Call) → AreCallsOf own r e these → IsNotedIn history r e → AreCallsAt history r these
-calls_at history own r e these h noted = record {
+-- .. where the lease was started before the run, nothing is asked of them
+calls_by : (own past : List Entry) (n : ℕ) (paths : List (List ℕ)) (refs : List (List (List ℕ))) (e : Entry) (these : List Call) (again : Bool) → AreCallsBy again own n paths refs e these → ((d : ℕ) → e ≡ Failed d Memory → again ≡ false → (n == 1) ≡ is_started d past) → AreCallsBy again past n paths refs e these
+calls_by own past n paths refs e these true h says = h
+calls_by own past n paths refs e these false h says = calls_for own past n paths refs e these h (λ d is. says d is refl)
+
+calls_at : (opened : ℕ) (history own : List Entry) (r : Receipt) (e : Entry) (these : List Call) → AreCallsOf own r e these → IsNotedIn opened history r e → AreCallsAt opened history r these
+calls_at opened history own r e these h noted = record {
   entry = e;
   at = noted.at;
+  again = noted.again;
   calls = record {
     kind = h.kind;
-    calls = calls_for own (reverse (take r.index history)) r.calls r.paths r.refs e these h.calls noted.start.each;
+    calls = calls_by own (reverse (take r.index history)) r.calls r.paths r.refs e these r.again h.calls noted.start.each;
   };
 }
 
 -- ---- all receipts
 
 -- the history's entries in the place of the copies
-pub calls_in : (history : List Entry) (rs : List Receipt) (es : List Entry) (cs : List Call) → AreLeases rs es cs → AllZip (IsNotedIn history) rs es → AreCallsIn history rs cs
-calls_in history rs es cs no_leases all = none
-calls_in history rs es cs (unstarted r e these rest_rs rest_es rest h t) all = more r these rest_rs rest (calls_at history [] r e these h.calls all.0) (calls_in history rest_rs rest_es rest t all.1)
-calls_in history rs es cs (served r q start end these rest_rs rest_es rest h t) all =
+pub calls_in : (opened : ℕ) (history : List Entry) (rs : List Receipt) (es : List Entry) (cs : List Call) → AreLeases rs es cs → AllZip (IsNotedIn opened history) rs es → AreCallsIn opened history rs cs
+calls_in opened history rs es cs no_leases all = none
+calls_in opened history rs es cs (unstarted r e these rest_rs rest_es rest h t) all = more r these rest_rs rest (calls_at opened history [] r e these h.calls all.0) (calls_in opened history rest_rs rest_es rest t all.1)
+calls_in opened history rs es cs (served r q start end these rest_rs rest_es rest h t) all =
     let one : List Call = Build h.drv h.answer ∷ [] in
-    let P : List Call → Type 0 = λ calls. AreCallsIn history (r ∷ q ∷ rest_rs) calls in
-    let later : AreCallsIn history (q ∷ rest_rs) (one ++ rest) = more q one rest_rs rest (calls_at history (Started h.drv h.paths ∷ []) q end one h.finishes.calls all.1.0) (calls_in history rest_rs rest_es rest t all.1.1) in
-    subst P (sym (ap (λ calls. calls ++ rest) h.calls_are ∙ append_assoc h.fetched one rest)) (more r h.fetched (q ∷ rest_rs) (one ++ rest) (calls_at history [] r start h.fetched h.begins all.0) later)
+    let P : List Call → Type 0 = λ calls. AreCallsIn opened history (r ∷ q ∷ rest_rs) calls in
+    let later : AreCallsIn opened history (q ∷ rest_rs) (one ++ rest) = more q one rest_rs rest (calls_at opened history (Started h.drv h.paths ∷ []) q end one h.finishes.calls all.1.0) (calls_in opened history rest_rs rest_es rest t all.1.1) in
+    subst P (sym (ap (λ calls. calls ++ rest) h.calls_are ∙ append_assoc h.fetched one rest)) (more r h.fetched (q ∷ rest_rs) (one ++ rest) (calls_at opened history [] r start h.fetched h.begins all.0) later)
+calls_in opened history rs es cs (left r e these rest_rs rest_es rest h t) all = more r these rest_rs rest (calls_at opened history [] r e these h.begins all.0) (calls_in opened history rest_rs rest_es rest t all.1)
+
+-- ---- what was being built
+
+-- by the flags as by the entries that they tell of
+pub noted_by : {A B : Type 0} (s : Standing) (opened : ℕ) (history : List Entry) (rows : List (Vec Receipt A)) (copies : List (Vec Entry B)) → Tells s (reverse (take opened history)) → AreRowsNotedBy (λ d. is_flagged s d) history rows copies → AreRowsNoted opened history rows copies
+noted_by s opened history rows copies tells noted =
+    let P : (ℕ → Bool) → Type 0 = λ these. AreRowsNotedBy these history rows copies in
+    let flagged : ℕ → Bool = λ d. is_flagged s d in
+    let building : ℕ → Bool = λ d. is_building d (reverse (take opened history)) in
+    let same : flagged ≡ building = λ i. λ d. tells.each d i in
+    subst P same noted
+
+pub told_by : {A B : Type 0} (s : Standing) (opened : ℕ) (history : List Entry) (rows : List (Vec Receipt A)) (copies : List (Vec Entry B)) → Tells s (reverse (take opened history)) → AreRowsNoted opened history rows copies → AreRowsNotedBy (λ d. is_flagged s d) history rows copies
+told_by s opened history rows copies tells noted =
+    let P : (ℕ → Bool) → Type 0 = λ these. AreRowsNotedBy these history rows copies in
+    let flagged : ℕ → Bool = λ d. is_flagged s d in
+    let building : ℕ → Bool = λ d. is_building d (reverse (take opened history)) in
+    let same : building ≡ flagged = λ i. λ d. sym (tells.each d) i in
+    subst P same noted
+
+pub ruleset tellings = (noted_by, told_by)

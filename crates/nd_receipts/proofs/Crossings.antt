@@ -1,8 +1,8 @@
 -- Lemmas on going through the entries of a run.
 use Rattle.std.proofs.Common.{◌≡◌, ◌≢◌, ◌⊎◌, ℕ, zero, suc, ◌+◌, ◌<◌, ◌≤◌, Bool, true, false, ◌==◌, ◌&&◌, if◌then◌else◌, List, [], ◌∷◌, ◌++◌, map, reverse, length, take, drop, get_or, set, replicate, slice_get, Option, Some, None, option_map, refl, sym, ap, ◌∙◌, subst, arith, inl, inr}
 use Rattle.std.proofs.lemmas.Bool.{cases_eq, ne_eqb, eq-eqb, eqb-true}
-use Rattle.std.proofs.lemmas.List.{drop_all, drop_more, length-map, take_more}
-use Rattle.std.proofs.lemmas.Option.{none-some, same_Some, slice_get_past, slice_get_within, slice_get-map}
+use Rattle.std.proofs.lemmas.List.{drop_all, drop_more, length-map, take_all, take_more}
+use Rattle.std.proofs.lemmas.Option.{none-some, same_Some, slice_get_past, slice_get_within, slice_get-map, slice_get-get_or}
 use Rattle.std.specs.List.{AllZip, cons_option}
 use Rattle.nd_history.proofs.Following.{newest_first}
 use Rattle.nd_history.specs.declared.entry.Entry.{Entry}
@@ -11,7 +11,7 @@ use Rattle.nd_history.specs.declared.entry.Why.{Why}
 use Rattle.nd_receipts.specs.declared.receipt.Receipt.{Receipt}
 use Rattle.nd_receipts.specs.declared.receipt.Kind.{Kind}
 use Rattle.nd_receipts.specs.Dealt.{place_of, made_as, is_place, mark_by, marks_on, marks_of, AreApart, IsOnPlace, HaveWorkers, AreReceipted}
-use Rattle.nd_receipts.specs.Walks.{Knows, Follows, AreUnknown, IsMet, AreAllMet, AreMetBelow, AreLeft, IsDealt}
+use Rattle.nd_receipts.specs.Walks.{Knows, Follows, AreUnknown, IsMet, AreAllMet, AreMetBelow, AreLeft, IsDealt, AreWithin, Tracks, TracksOn}
 
 -- ---- lists
 
@@ -59,22 +59,42 @@ zip_by R (x ∷ xs) (y ∷ ys) same h = (h 0 x y refl refl, zip_by R xs ys (omeg
 -- ---- the place of a lease
 
 knows_chosen : (places : List (ℕ × ℕ)) (choices : List ℕ) (past : List Entry) (d m s w : ℕ) → Knows places choices past → slice_get places w ≡ Some (m, s) → Knows places (set choices d w) (Chosen d m s ∷ past)
-knows_chosen places choices past d m s w knows there = record { each = λ e v h. by e v h }
+knows_chosen places choices past d m s w knows there = record { each = λ e v p h at. by e v p h at }
   where
-    by : (e v : ℕ) → slice_get (set choices d w) e ≡ Some v → slice_get places v ≡ (if e == d then Some (m, s) else place_of e past)
-    by e v h = elim (cases_eq e d) [
+    by : (e v : ℕ) (p : ℕ × ℕ) → slice_get (set choices d w) e ≡ Some v → slice_get places v ≡ Some p → (if e == d then Some (m, s) else place_of e past) ≡ Some p
+    by e v p h at = elim (cases_eq e d) [
       | inl same ↦
           let Q : ℕ → Type 0 = λ n. slice_get (set choices d w) n ≡ Some v in
           let found : v ≡ w = get_set_same choices d w v (subst Q same h) in
-          ap (slice_get places) found ∙ there ∙ sym (ap (λ (b : Bool). if b then Some (m, s) else place_of e past) (eq-eqb e d same))
+          ap (λ (b : Bool). if b then Some (m, s) else place_of e past) (eq-eqb e d same) ∙ sym there ∙ sym (ap (slice_get places) found) ∙ at
       | inr other ↦
-          knows.each e v (sym (get_set_other choices d e w other) ∙ h) ∙ sym (ap (λ (b : Bool). if b then Some (m, s) else place_of e past) (ne_eqb e d other))
+          ap (λ (b : Bool). if b then Some (m, s) else place_of e past) (ne_eqb e d other) ∙ knows.each e v p (sym (get_set_other choices d e w other) ∙ h) at
+    ]
+
+-- a lease on the place of none
+knows_nobodys : (places : List (ℕ × ℕ)) (choices : List ℕ) (past : List Entry) (d m s : ℕ) → Knows places choices past → Knows places (set choices d (length places)) (Chosen d m s ∷ past)
+knows_nobodys places choices past d m s knows = record { each = λ e v p h at. by e v p h at }
+  where
+    by : (e v : ℕ) (p : ℕ × ℕ) → slice_get (set choices d (length places)) e ≡ Some v → slice_get places v ≡ Some p → (if e == d then Some (m, s) else place_of e past) ≡ Some p
+    by e v p h at = elim (cases_eq e d) [
+      | inl same ↦
+          let Q : ℕ → Type 0 = λ n. slice_get (set choices d (length places)) n ≡ Some v in
+          let found : v ≡ length places = get_set_same choices d (length places) v (subst Q same h) in
+          let lt : v < length places = slice_get_within places v p at in
+          absurd (omega (arith, found, lt))
+      | inr other ↦
+          ap (λ (b : Bool). if b then Some (m, s) else place_of e past) (ne_eqb e d other) ∙ knows.each e v p (sym (get_set_other choices d e (length places) other) ∙ h) at
     ]
 
 pub follows_chosen : (places : List (ℕ × ℕ)) (choices after : List ℕ) (d m s w : ℕ) → slice_get places w ≡ Some (m, s) → after ≡ set choices d w → Follows places choices after (Chosen d m s)
 follows_chosen places choices after d m s w there is =
     let P : List ℕ → Type 0 = λ xs. Follows places choices xs (Chosen d m s) in
     subst P (sym is) (record { each = λ past knows. knows_chosen places choices past d m s w knows there })
+
+pub follows_nobodys : (places : List (ℕ × ℕ)) (choices after : List ℕ) (d m s : ℕ) → after ≡ set choices d (length places) → Follows places choices after (Chosen d m s)
+follows_nobodys places choices after d m s is =
+    let P : List ℕ → Type 0 = λ xs. Follows places choices xs (Chosen d m s) in
+    subst P (sym is) (record { each = λ past knows. knows_nobodys places choices past d m s knows })
 
 pub follows_no_builder : (places : List (ℕ × ℕ)) (choices : List ℕ) (d : ℕ) → Follows places choices choices (NoBuilder d)
 follows_no_builder places choices d = record { each = λ past knows. record { each = knows.each } }
@@ -149,7 +169,7 @@ left_made : (places : List (ℕ × ℕ)) (rows : List (List Receipt)) (met now c
 left_made places rows met now choices i w q past es e d kind apart knows made choice there is h = record { each = λ k n p row a b c. by k n p row a b c }
   where
     place : place_of d past ≡ Some q
-    place = sym (knows.each d w choice) ∙ there
+    place = knows.each d w q choice there
 
     here : (k n : ℕ) (p : ℕ × ℕ) (row : List Receipt) → slice_get places k ≡ Some p → slice_get rows k ≡ Some row → slice_get met k ≡ Some n → k ≡ w → marks_of (drop n row) ≡ marks_on p i past (e ∷ es)
     here k n p row a b c same =
@@ -215,40 +235,82 @@ deals_made places rows i e choices after met now d w kind q apart made choice th
     one : (past : List Entry) → Knows places choices past → (f : ℕ) (sort : Kind) → made_as e ≡ Some (f, sort) → (worker : ℕ) × (p : ℕ × ℕ) × (slice_get places worker ≡ Some p) × (place_of f past ≡ Some p)
     one past knows f sort is =
         let same : (f, sort) ≡ (d, kind) = same_Some (f, sort) (d, kind) (sym is ∙ made) in
-        (w, q, there, ap (λ (x : ℕ × Kind). place_of x.0 past) same ∙ sym (knows.each d w choice) ∙ there)
+        (w, q, there, ap (λ (x : ℕ × Kind). place_of x.0 past) same ∙ knows.each d w q choice there)
 
 -- ---- all entries
 
--- what is known once k entries were gone over
-pub record HasWalked (places : List (ℕ × ℕ)) (rows : List (List Receipt)) (opening : ℕ) (new : List Entry) (k : ℕ) (choices met : List ℕ) : Type 0 where
-  pub knows : Knows places choices (reverse (take k new))
-  pub left : AreLeft places rows met (opening + k) (reverse (take k new)) (drop k new) → AllZip (λ p row. marks_of row ≡ marks_on p opening [] new) places rows
-  pub has : HaveWorkers places (reverse (take k new)) (drop k new) → HaveWorkers places [] new
+-- the newest of the first k + 1 entries is the one at place k
+pub turned_more : (es : List Entry) (k : ℕ) (e : Entry) → k < length es → e ≡ get_or es k e → reverse (take (k + 1) es) ≡ e ∷ reverse (take k es)
+turned_more es k e lt at = newest_first (take k es) (take (k + 1) es) e (take_more es k e lt ∙ ap (λ x. take k es ++ x ∷ []) (sym at))
 
-pub walk_first : {V : Type 0} (f : V → List Receipt) (vs : List V) (places : List (ℕ × ℕ)) (opening : ℕ) (new : List Entry) (choices met : List ℕ) → AreUnknown (length places) choices → met ≡ replicate (length places) 0 → length vs ≡ length places → HasWalked places (map f vs) opening new 0 choices met
-walk_first f vs places opening new choices met unknown zeros same = record {
-  knows = record { each = λ d w h. nowhere d w h };
-  left = λ h. zip_by (λ p row. marks_of row ≡ marks_on p opening [] new) places (map f vs) (length-map vs f ∙ same) (λ k p row a b. begun h k p row a b);
+-- what is known of the table once k of the entries before the run were gone over
+pub record HasSeeded (places : List (ℕ × ℕ)) (old : List Entry) (drvs k : ℕ) (choices : List ℕ) : Type 0 where
+  pub knows : Knows places choices (reverse (take k old))
+  pub sized : length choices ≡ drvs
+  pub tracks : AreWithin drvs old → Tracks places choices (reverse (take k old))
+
+pub seed_first : (places : List (ℕ × ℕ)) (old : List Entry) (choices : List ℕ) → AreUnknown (length places) choices → HasSeeded places old (length choices) 0 choices
+seed_first places old choices unknown = record {
+  knows = record { each = λ d w p h at. nowhere d w p h at };
+  sized = refl;
+  tracks = λ within. record { each = λ d w p leased at. absurd (none-some p leased) };
+}
+  where
+    nowhere : (d w : ℕ) (p : ℕ × ℕ) → slice_get choices d ≡ Some w → slice_get places w ≡ Some p → None ≡ Some p
+    nowhere d w p h at =
+        let past_end : w ≡ length places = replicate_at unknown.drvs (length places) w d (ap (λ xs. slice_get xs d) (sym unknown.are) ∙ h) in
+        let lt : w < length places = slice_get_within places w p at in
+        absurd (omega (arith, past_end, lt))
+
+pub seed_more : (places : List (ℕ × ℕ)) (old : List Entry) (drvs k : ℕ) (e : Entry) (choices after : List ℕ) → AreApart places → HasSeeded places old drvs k choices → k < length old → e ≡ get_or old k e → Follows places choices after e → TracksOn places choices after e → HasSeeded places old drvs (k + 1) after
+seed_more places old drvs k e choices after apart seeded lt at follows tracks =
+    let turned = turned_more old k e lt at in
+    let K : List Entry → Type 0 = λ xs. Knows places after xs in
+    let T : List Entry → Type 0 = λ xs. Tracks places after xs in
+    let C : ℕ → Type 0 = λ n. (d m s : ℕ) → e ≡ Chosen d m s → d < n in
+    let there = slice_get-get_or old k e lt ∙ ap (λ (x : Entry). Some x) (sym at) in
+    record {
+      knows = subst K (sym turned) (follows.each (reverse (take k old)) seeded.knows);
+      sized = tracks.long ∙ seeded.sized;
+      tracks = λ within. subst T (sym turned)
+          (tracks.each (reverse (take k old)) apart (subst C (sym seeded.sized) (λ d m s chosen. within.each k d m s (there ∙ ap (λ (x : Entry). Some x) chosen))) (seeded.tracks within));
+    }
+
+pub seeded_known : (places : List (ℕ × ℕ)) (old : List Entry) (drvs k : ℕ) (choices : List ℕ) → HasSeeded places old drvs k choices → length old ≤ k → Knows places choices (reverse old)
+seeded_known places old drvs k choices seeded le =
+    let P : List Entry → Type 0 = λ xs. Knows places choices (reverse xs) in
+    subst P (take_all k old le) seeded.knows
+
+pub seeded_tracks : (places : List (ℕ × ℕ)) (old : List Entry) (drvs k : ℕ) (choices : List ℕ) → HasSeeded places old drvs k choices → length old ≤ k → AreWithin drvs old → Tracks places choices (reverse old)
+seeded_tracks places old drvs k choices seeded le within =
+    let P : List Entry → Type 0 = λ xs. Tracks places choices (reverse xs) in
+    subst P (take_all k old le) (seeded.tracks within)
+
+-- what is known once k entries were gone over
+pub record HasWalked (places : List (ℕ × ℕ)) (rows : List (List Receipt)) (opening : ℕ) (past new : List Entry) (k : ℕ) (choices met : List ℕ) : Type 0 where
+  pub knows : Knows places choices (reverse (take k new) ++ past)
+  pub left : AreLeft places rows met (opening + k) (reverse (take k new) ++ past) (drop k new) → AllZip (λ p row. marks_of row ≡ marks_on p opening past new) places rows
+  pub has : HaveWorkers places (reverse (take k new) ++ past) (drop k new) → HaveWorkers places past new
+
+pub walk_first : {V : Type 0} (f : V → List Receipt) (vs : List V) (places : List (ℕ × ℕ)) (opening : ℕ) (past new : List Entry) (choices met : List ℕ) → Knows places choices past → met ≡ replicate (length places) 0 → length vs ≡ length places → HasWalked places (map f vs) opening past new 0 choices met
+walk_first f vs places opening past new choices met knows zeros same = record {
+  knows = knows;
+  left = λ h. zip_by (λ p row. marks_of row ≡ marks_on p opening past new) places (map f vs) (length-map vs f ∙ same) (λ k p row a b. begun h k p row a b);
   has = λ h. h;
 }
   where
-    nowhere : (d w : ℕ) → slice_get choices d ≡ Some w → slice_get places w ≡ None
-    nowhere d w h =
-        let past_end : w ≡ length places = replicate_at unknown.drvs (length places) w d (ap (λ xs. slice_get xs d) (sym unknown.are) ∙ h) in
-        slice_get_past places w (omega arith)
-
-    begun : AreLeft places (map f vs) met (opening + 0) [] new → (k : ℕ) (p : ℕ × ℕ) (row : List Receipt) → slice_get places k ≡ Some p → slice_get (map f vs) k ≡ Some row → marks_of row ≡ marks_on p opening [] new
+    begun : AreLeft places (map f vs) met (opening + 0) past new → (k : ℕ) (p : ℕ × ℕ) (row : List Receipt) → slice_get places k ≡ Some p → slice_get (map f vs) k ≡ Some row → marks_of row ≡ marks_on p opening past new
     begun h k p row a b =
         let lt : k < length places = slice_get_within places k p a in
         let at : slice_get met k ≡ Some 0 = ap (λ xs. slice_get xs k) zeros ∙ replicate_within (length places) 0 k lt in
         let same_start : opening + 0 ≡ opening = omega arith in
-        h.each k 0 p row a b at ∙ ap (λ (i : ℕ). marks_on p i [] new) same_start
+        h.each k 0 p row a b at ∙ ap (λ (i : ℕ). marks_on p i past new) same_start
 
-pub walk_more : (places : List (ℕ × ℕ)) (rows : List (List Receipt)) (opening index : ℕ) (new : List Entry) (k : ℕ) (e : Entry) (choices after met now : List ℕ) → HasWalked places rows opening new k choices met → k < length new → e ≡ get_or new k e → index ≡ opening + k → IsDealt places rows index e choices after met now → HasWalked places rows opening new (k + 1) after now
-walk_more places rows opening index new k e choices after met now walked lt at is dealt =
-    let past : List Entry = reverse (take k new) in
+pub walk_more : (places : List (ℕ × ℕ)) (rows : List (List Receipt)) (opening index : ℕ) (old new : List Entry) (k : ℕ) (e : Entry) (choices after met now : List ℕ) → HasWalked places rows opening old new k choices met → k < length new → e ≡ get_or new k e → index ≡ opening + k → IsDealt places rows index e choices after met now → HasWalked places rows opening old new (k + 1) after now
+walk_more places rows opening index old new k e choices after met now walked lt at is dealt =
+    let past : List Entry = reverse (take k new) ++ old in
     let rest : List Entry = drop (k + 1) new in
-    let turned : reverse (take (k + 1) new) ≡ e ∷ past = newest_first (take k new) (take (k + 1) new) e (take_more new k e lt ∙ ap (λ x. take k new ++ x ∷ []) (sym at)) in
+    let turned : reverse (take (k + 1) new) ++ old ≡ e ∷ past = ap (λ xs. xs ++ old) (turned_more new k e lt at) in
     let cut : drop k new ≡ e ∷ rest = drop_more new k e lt ∙ ap (λ x. x ∷ rest) (sym at) in
     let next : index + 1 ≡ opening + (k + 1) = omega arith in
     let K : List Entry → Type 0 = λ xs. Knows places after xs in
@@ -264,11 +326,11 @@ walk_more places rows opening index new k e choices after met now walked lt at i
       has = λ h. walked.has (subst J (sym cut) (dealt.has past walked.knows, subst H turned h));
     }
 
-pub walk_last : (places : List (ℕ × ℕ)) (rows : List (List Receipt)) (opening : ℕ) (new : List Entry) (k : ℕ) (choices met : List ℕ) → HasWalked places rows opening new k choices met → length new ≤ k → AreAllMet rows met → AreReceipted places opening new rows
-walk_last places rows opening new k choices met walked le all =
+pub walk_last : (places : List (ℕ × ℕ)) (rows : List (List Receipt)) (opening : ℕ) (past new : List Entry) (k : ℕ) (choices met : List ℕ) → HasWalked places rows opening past new k choices met → length new ≤ k → AreAllMet rows met → AreReceipted places opening past new rows
+walk_last places rows opening past new k choices met walked le all =
     let over : drop k new ≡ [] = drop_all k new le in
-    let L : List Entry → Type 0 = λ xs. AreLeft places rows met (opening + k) (reverse (take k new)) xs in
-    let H : List Entry → Type 0 = λ xs. HaveWorkers places (reverse (take k new)) xs in
+    let L : List Entry → Type 0 = λ xs. AreLeft places rows met (opening + k) (reverse (take k new) ++ past) xs in
+    let H : List Entry → Type 0 = λ xs. HaveWorkers places (reverse (take k new) ++ past) xs in
     record {
       each = walked.left (subst L (sym over) (record { each = λ j n p row a b c. ap marks_of (drop_all n row (all.each j n row b c)) }));
       all = walked.has (subst H (sym over) tt);
@@ -300,4 +362,4 @@ met_last f rows met m below all = record {
   each = λ k n row b c. below.each k n row (let lt = slice_get_within (map f rows) k row b in let long = length-map rows f in omega arith) b c;
 }
 
-pub ruleset walks = (follows_chosen, follows_no_builder, follows_started, follows_down, follows_built, follows_failed, follows_stop, follows_drain, follows_enable, met_by, deals_other, deals_made, walk_first, walk_more, walk_last, met_first, met_more, met_last)
+pub ruleset walks = (follows_chosen, follows_nobodys, follows_no_builder, follows_started, follows_down, follows_built, follows_failed, follows_stop, follows_drain, follows_enable, met_by, deals_other, deals_made, seed_first, seed_more, seeded_known, seeded_tracks, walk_first, walk_more, walk_last, met_first, met_more, met_last)

@@ -1,6 +1,6 @@
 -- Lemmas on what rows of receipts mean.
 use Rattle.std.proofs.Common.{◌≡◌, ℕ, zero, suc, ◌+◌, ◌<◌, Bool, true, false, if◌then◌else◌, List, [], ◌∷◌, ◌++◌, reverse, take, slice_get, Option, Some, None, option_map, refl, sym, ap, ◌∙◌, subst, append_assoc, arith}
-use Rattle.std.proofs.lemmas.List.{append-nil, reverse-append}
+use Rattle.std.proofs.lemmas.List.{reverse-append}
 use Rattle.std.proofs.lemmas.Option.{none-some, same_Some, slice_get_past, slice_get-map}
 use Rattle.std.specs.List.{AllZip, cons_option}
 use Rattle.nd_history.specs.declared.entry.Entry.{Entry}
@@ -142,26 +142,26 @@ marked_at p (x ∷ es) i past (suc n) e f there made place = by (mark_by p i pas
 row_mark : (row : List Receipt) (k : ℕ) (r : Receipt) → slice_get row k ≡ Some r → slice_get (marks_of row) k ≡ Some (r.index, r.kind)
 row_mark row k r h = slice_get-map (λ (x : Receipt). (x.index, x.kind)) row k ∙ ap (option_map (λ (x : Receipt). (x.index, x.kind))) h
 
-row_marks : (places : List (ℕ × ℕ)) (opening : ℕ) (new : List Entry) (rows : List (List Receipt)) (worker : ℕ) (p : ℕ × ℕ) (row : List Receipt) → AreReceipted places opening new rows → slice_get places worker ≡ Some p → slice_get rows worker ≡ Some row → marks_of row ≡ marks_on p opening [] new
-row_marks places opening new rows worker p row are a b = zip_here (λ q r. marks_of r ≡ marks_on q opening [] new) places rows worker p row are.each a b
+row_marks : (places : List (ℕ × ℕ)) (opening : ℕ) (past new : List Entry) (rows : List (List Receipt)) (worker : ℕ) (p : ℕ × ℕ) (row : List Receipt) → AreReceipted places opening past new rows → slice_get places worker ≡ Some p → slice_get rows worker ≡ Some row → marks_of row ≡ marks_on p opening past new
+row_marks places opening past new rows worker p row are a b = zip_here (λ q r. marks_of r ≡ marks_on q opening past new) places rows worker p row are.each a b
 
-row_at : (places : List (ℕ × ℕ)) (opening : ℕ) (new : List Entry) (rows : List (List Receipt)) (worker turn : ℕ) (p : ℕ × ℕ) (row : List Receipt) (r : Receipt) → AreReceipted places opening new rows → slice_get places worker ≡ Some p → slice_get rows worker ≡ Some row → slice_get row turn ≡ Some r → slice_get (marks_on p opening [] new) turn ≡ Some (r.index, r.kind)
-row_at places opening new rows worker turn p row r are a b c = ap (λ ms. slice_get ms turn) (sym (row_marks places opening new rows worker p row are a b)) ∙ row_mark row turn r c
+row_at : (places : List (ℕ × ℕ)) (opening : ℕ) (past new : List Entry) (rows : List (List Receipt)) (worker turn : ℕ) (p : ℕ × ℕ) (row : List Receipt) (r : Receipt) → AreReceipted places opening past new rows → slice_get places worker ≡ Some p → slice_get rows worker ≡ Some row → slice_get row turn ≡ Some r → slice_get (marks_on p opening past new) turn ≡ Some (r.index, r.kind)
+row_at places opening past new rows worker turn p row r are a b c = ap (λ ms. slice_get ms turn) (sym (row_marks places opening past new rows worker p row are a b)) ∙ row_mark row turn r c
 
-row_place : (places : List (ℕ × ℕ)) (opening : ℕ) (new : List Entry) (rows : List (List Receipt)) (worker : ℕ) (row : List Receipt) → AreReceipted places opening new rows → slice_get rows worker ≡ Some row → (p : ℕ × ℕ) × (slice_get places worker ≡ Some p)
-row_place places opening new rows worker row are b = zip_left (λ q r. marks_of r ≡ marks_on q opening [] new) places rows worker row are.each b
+row_place : (places : List (ℕ × ℕ)) (opening : ℕ) (past new : List Entry) (rows : List (List Receipt)) (worker : ℕ) (row : List Receipt) → AreReceipted places opening past new rows → slice_get rows worker ≡ Some row → (p : ℕ × ℕ) × (slice_get places worker ≡ Some p)
+row_place places opening past new rows worker row are b = zip_left (λ q r. marks_of r ≡ marks_on q opening past new) places rows worker row are.each b
 
 pub rows_rise : RowsRise
-rows_rise places opening new rows worker row are b =
-    let p = row_place places opening new rows worker row are b in
+rows_rise places opening past new rows worker row are b =
+    let p = row_place places opening past new rows worker row are b in
     record {
       each = λ j k r q lt g h.
-          marks_rise p.0 new opening [] j k (r.index, r.kind) (q.index, q.kind) lt (row_at places opening new rows worker j p.0 row r are p.1 b g) (row_at places opening new rows worker k p.0 row q are p.1 b h);
+          marks_rise p.0 new opening past j k (r.index, r.kind) (q.index, q.kind) lt (row_at places opening past new rows worker j p.0 row r are p.1 b g) (row_at places opening past new rows worker k p.0 row q are p.1 b h);
     }
 
 pub receipts_name : ReceiptsName
-receipts_name places opening new rows worker turn p row r are a b c =
-    let m = marks_name p new opening [] turn (r.index, r.kind) (row_at places opening new rows worker turn p row r are a b c) in
+receipts_name places opening past new rows worker turn p row r are a b c =
+    let m = marks_name p new opening past turn (r.index, r.kind) (row_at places opening past new rows worker turn p row r are a b c) in
     record {
       before = m.before;
       entry = m.entry;
@@ -169,19 +169,19 @@ receipts_name places opening new rows worker turn p row r are a b c =
       number = m.number;
       there = m.there;
       made = m.made;
-      place = ap (place_of m.drv) (sym (append-nil (reverse (take m.before new)))) ∙ m.place;
+      place = m.place;
     }
 
 -- two receipts with one number name one entry
-same_place : (p q : ℕ × ℕ) (opening : ℕ) (new : List Entry) (r s : Receipt) → Names p opening new r → Names q opening new s → r.index ≡ s.index → p ≡ q
-same_place p q opening new r s a b same =
+same_place : (p q : ℕ × ℕ) (opening : ℕ) (past new : List Entry) (r s : Receipt) → Names p opening past new r → Names q opening past new s → r.index ≡ s.index → p ≡ q
+same_place p q opening past new r s a b same =
     let first = a.number in
     let second = b.number in
     let before : a.before ≡ b.before = omega arith in
     let entry : a.entry ≡ b.entry = same_Some a.entry b.entry (sym a.there ∙ ap (slice_get new) before ∙ b.there) in
     let made : (a.drv, r.kind) ≡ (b.drv, s.kind) = same_Some (a.drv, r.kind) (b.drv, s.kind) (sym a.made ∙ ap made_as entry ∙ b.made) in
     let drv : a.drv ≡ b.drv = ap (λ (x : ℕ × Kind). x.0) made in
-    same_Some p q (sym a.place ∙ ap (λ d. place_of d (reverse (take a.before new))) drv ∙ ap (λ (n : ℕ). place_of b.drv (reverse (take n new))) before ∙ b.place)
+    same_Some p q (sym a.place ∙ ap (λ d. place_of d (reverse (take a.before new) ++ past)) drv ∙ ap (λ (n : ℕ). place_of b.drv (reverse (take n new) ++ past)) before ∙ b.place)
 
 once_in : (row : List Receipt) (m n : ℕ) (r q : Receipt) → AreRising row → slice_get row m ≡ Some r → slice_get row n ≡ Some q → r.index ≡ q.index → m ≡ n
 once_in row m n r q rising g h same = sides m n less more
@@ -199,14 +199,14 @@ once_in row m n r q rising g h same = sides m n less more
     sides (suc a) (suc b) f g = ap suc (sides a b (λ lt. f (omega arith)) (λ lt. g (omega arith)))
 
 pub numbers_are_once : NumbersAreOnce
-numbers_are_once places opening new rows j k m n row other r q apart are b d c e same =
-    let p = row_place places opening new rows j row are b in
-    let s = row_place places opening new rows k other are d in
-    let one : p.0 ≡ s.0 = same_place p.0 s.0 opening new r q (receipts_name places opening new rows j m p.0 row r are p.1 b c) (receipts_name places opening new rows k n s.0 other q are s.1 d e) same in
+numbers_are_once places opening past new rows j k m n row other r q apart are b d c e same =
+    let p = row_place places opening past new rows j row are b in
+    let s = row_place places opening past new rows k other are d in
+    let one : p.0 ≡ s.0 = same_place p.0 s.0 opening past new r q (receipts_name places opening past new rows j m p.0 row r are p.1 b c) (receipts_name places opening past new rows k n s.0 other q are s.1 d e) same in
     let worker : j ≡ k = apart.each j k s.0 (p.1 ∙ ap Some one) s.1 in
     let rows_same : other ≡ row = same_Some other row (sym d ∙ ap (slice_get rows) (sym worker) ∙ b) in
     let there : slice_get row n ≡ Some q = ap (λ xs. slice_get xs n) (sym rows_same) ∙ e in
-    (worker, once_in row m n r q (rows_rise places opening new rows j row are b) c there same)
+    (worker, once_in row m n r q (rows_rise places opening past new rows j row are b) c there same)
 
 worker_at : (places : List (ℕ × ℕ)) (es : List Entry) (past : List Entry) (n : ℕ) (e : Entry) → HaveWorkers places past es → slice_get es n ≡ Some e → HasWorker places (reverse (take n es) ++ past) e
 worker_at places [] past n e have there = absurd (nowhere n e there)
@@ -219,11 +219,11 @@ mark_row (r ∷ row) zero m h = (r, refl, same_Some (r.index, r.kind) m h)
 mark_row (r ∷ row) (suc k) m h = mark_row row k m h
 
 pub entries_have_receipts : EntriesHaveReceipts
-entries_have_receipts places opening new rows n d e kind are there made =
-    let w = (worker_at places new [] n e are.all there).each d kind made in
-    let row = zip_right (λ q r. marks_of r ≡ marks_on q opening [] new) places rows w.0 w.1 are.each w.2 in
-    let mark = marked_at w.1 new opening [] n e (d, kind) there made w.3 in
-    let found = mark_row row.0 mark.0 (opening + n, kind) (ap (λ ms. slice_get ms mark.0) (row_marks places opening new rows w.0 w.1 row.0 are w.2 row.1) ∙ mark.1) in
+entries_have_receipts places opening past new rows n d e kind are there made =
+    let w = (worker_at places new past n e are.all there).each d kind made in
+    let row = zip_right (λ q r. marks_of r ≡ marks_on q opening past new) places rows w.0 w.1 are.each w.2 in
+    let mark = marked_at w.1 new opening past n e (d, kind) there made w.3 in
+    let found = mark_row row.0 mark.0 (opening + n, kind) (ap (λ ms. slice_get ms mark.0) (row_marks places opening past new rows w.0 w.1 row.0 are w.2 row.1) ∙ mark.1) in
     record {
       worker = w.0;
       turn = mark.0;

@@ -1,10 +1,9 @@
 -- Lemmas on entries of a run that aren't the receipts, which are found by going through them.
 use Rattle.std.proofs.Common.{◌≡◌, ◌⊎◌, ◌≢◌, ℕ, zero, suc, ◌+◌, ◌<◌, ◌≤◌, Bool, true, false, ◌==◌, if◌then◌else◌, List, [], ◌∷◌, ◌++◌, map, reverse, length, take, drop, get_or, set, replicate, slice_get, Option, Some, None, option_map, refl, sym, ap, ◌∙◌, subst, arith, inl, inr}
 use Rattle.std.proofs.lemmas.Bool.{cases_eq, ne_eqb, eq-eqb}
-use Rattle.std.proofs.lemmas.List.{drop_all, drop_more, length-map, take_more, length-set}
+use Rattle.std.proofs.lemmas.List.{drop_all, drop_more, length-map, length-set}
 use Rattle.std.proofs.lemmas.Option.{none-some, same_Some, slice_get_past, slice_get_within, slice_get-map, slice_get-get_or}
 use Rattle.std.specs.List.{AllZip, cons_option}
-use Rattle.nd_history.proofs.Following.{newest_first}
 use Rattle.nd_history.specs.declared.entry.Entry.{Entry}
 use Rattle.nd_history.specs.declared.entry.Entry.TheVariants.{Chosen, NoBuilder, Started, Down, Built, Failed, Stop, Drain, Enable}
 use Rattle.nd_history.specs.declared.entry.Why.{Why}
@@ -12,7 +11,7 @@ use Rattle.nd_receipts.specs.declared.receipt.Receipt.{Receipt}
 use Rattle.nd_receipts.specs.declared.receipt.Kind.{Kind}
 use Rattle.nd_receipts.specs.Dealt.{place_of, made_as, mark_by, marks_on, marks_of, AreApart, IsOnPlace, HasWorker, HaveWorkers, AreReceipted}
 use Rattle.nd_receipts.specs.Walks.{IsMet, AreLeft, IsNoPlace, IsNoPlaceBelow, IsNobodys, AreWithin, Tracks, TracksOn, IsUnmet, IsDealtOn, IsUndealt, AreUnmet}
-use Rattle.nd_receipts.proofs.Crossings.{get_set_within, get_set_other, replicate_at, drop_at, marks_more, place_self, place_other}
+use Rattle.nd_receipts.proofs.Crossings.{get_set_within, get_set_other, replicate_at, drop_at, marks_more, place_self, place_other, turned_more}
 
 -- ---- lists
 
@@ -112,6 +111,22 @@ tracks_on_chosen places choices after d m s w there is =
       long = length-set choices d w;
       each = λ past apart within tracks. tracks_chosen places choices past d m s w apart (within d m s refl) tracks there;
     })
+
+-- a lease on the place of none
+pub tracks_on_nobodys : (places : List (ℕ × ℕ)) (choices after : List ℕ) (d m s : ℕ) → IsNoPlace places m s → after ≡ set choices d (length places) → TracksOn places choices after (Chosen d m s)
+tracks_on_nobodys places choices after d m s nobody is =
+    let P : List ℕ → Type 0 = λ xs. TracksOn places choices xs (Chosen d m s) in
+    subst P (sym is) (record {
+      long = length-set choices d (length places);
+      each = λ past apart within tracks. record { each = λ e v p leased at. by past tracks e v p leased at (cases_eq e d) };
+    })
+  where
+    by : (past : List Entry) → Tracks places choices past → (e v : ℕ) (p : ℕ × ℕ) → (if e == d then Some (m, s) else place_of e past) ≡ Some p → slice_get places v ≡ Some p → (e ≡ d) ⊎ (e ≡ d → ⊥) → slice_get (set choices d (length places)) e ≡ Some v
+    by past tracks e v p leased at (inl same) =
+        let found : Some (m, s) ≡ Some p = sym (ap (λ (b : Bool). if b then Some (m, s) else place_of e past) (eq-eqb e d same)) ∙ leased in
+        absurd (nobody.each v (at ∙ sym found))
+    by past tracks e v p leased at (inr other) =
+        get_set_other choices d e (length places) other ∙ tracks.each e v p (sym (ap (λ (b : Bool). if b then Some (m, s) else place_of e past) (ne_eqb e d other)) ∙ leased) at
 
 -- an entry that leases nothing
 pub record LeasesNone (e : Entry) : Type 0 where
@@ -284,41 +299,44 @@ dealt_on_made places rows i e choices after met now d w kind q made choice there
 -- ---- all entries
 
 -- what is known once k entries were gone over, where the receipts are those of the entries
-pub record HasWalkedOn (places : List (ℕ × ℕ)) (rows : List (List Receipt)) (opening drvs : ℕ) (new : List Entry) (k : ℕ) (choices met : List ℕ) : Type 0 where
+pub record HasWalkedOn (places : List (ℕ × ℕ)) (rows : List (List Receipt)) (opening drvs : ℕ) (old new : List Entry) (k : ℕ) (choices met : List ℕ) : Type 0 where
   pub long : length met ≡ length places
   pub sized : length choices ≡ drvs
-  pub tracks : AreWithin drvs new → Tracks places choices (reverse (take k new))
-  pub left : AreWithin drvs new → AreReceipted places opening new rows → AreLeft places rows met (opening + k) (reverse (take k new)) (drop k new)
-  pub has : AreReceipted places opening new rows → HaveWorkers places (reverse (take k new)) (drop k new)
+  pub tracks : AreWithin drvs old → AreWithin drvs new → Tracks places choices (reverse (take k new) ++ reverse old)
+  pub left : AreWithin drvs old → AreWithin drvs new → AreReceipted places opening (reverse old) new rows → AreLeft places rows met (opening + k) (reverse (take k new) ++ reverse old) (drop k new)
+  pub has : AreReceipted places opening (reverse old) new rows → HaveWorkers places (reverse (take k new) ++ reverse old) (drop k new)
 
 length_replicate : (n a : ℕ) → length (replicate n a) ≡ n
 length_replicate zero a = refl
 length_replicate (suc n) a = ap suc (length_replicate n a)
 
-pub walk_on_first : (places : List (ℕ × ℕ)) (rows : List (List Receipt)) (opening drvs : ℕ) (new : List Entry) (choices met : List ℕ) → met ≡ replicate (length places) 0 → drvs ≡ length choices → HasWalkedOn places rows opening drvs new 0 choices met
-walk_on_first places rows opening drvs new choices met zeros sized = record {
+pub walk_on_first : (places : List (ℕ × ℕ)) (rows : List (List Receipt)) (opening drvs : ℕ) (old new : List Entry) (choices met : List ℕ) → met ≡ replicate (length places) 0 → length choices ≡ drvs → (AreWithin drvs old → Tracks places choices (reverse old)) → HasWalkedOn places rows opening drvs old new 0 choices met
+walk_on_first places rows opening drvs old new choices met zeros sized tracks = record {
   long = ap length zeros ∙ length_replicate (length places) 0;
-  sized = sym sized;
-  tracks = λ within. record { each = λ d w p leased at. absurd (none-some p leased) };
-  left = λ within h. record { each = λ k n p row a b c. begun h k n p row a b c };
+  sized = sized;
+  tracks = λ before within. tracks before;
+  left = λ before within h. record { each = λ k n p row a b c. begun h k n p row a b c };
   has = λ h. h.all;
 }
   where
-    begun : AreReceipted places opening new rows → (k n : ℕ) (p : ℕ × ℕ) (row : List Receipt) → slice_get places k ≡ Some p → slice_get rows k ≡ Some row → slice_get met k ≡ Some n → marks_of (drop n row) ≡ marks_on p (opening + 0) [] new
+    past : List Entry
+    past = reverse old
+
+    begun : AreReceipted places opening past new rows → (k n : ℕ) (p : ℕ × ℕ) (row : List Receipt) → slice_get places k ≡ Some p → slice_get rows k ≡ Some row → slice_get met k ≡ Some n → marks_of (drop n row) ≡ marks_on p (opening + 0) past new
     begun h k n p row a b c =
         let none : n ≡ 0 = replicate_at (length places) 0 n k (ap (λ xs. slice_get xs k) (sym zeros) ∙ c) in
         let same_start : opening ≡ opening + 0 = omega arith in
-        ap (λ (x : ℕ). marks_of (drop x row)) none ∙ zip_at (λ p row. marks_of row ≡ marks_on p opening [] new) places rows k p row h.each a b ∙ ap (λ (i : ℕ). marks_on p i [] new) same_start
+        ap (λ (x : ℕ). marks_of (drop x row)) none ∙ zip_at (λ p row. marks_of row ≡ marks_on p opening past new) places rows k p row h.each a b ∙ ap (λ (i : ℕ). marks_on p i past new) same_start
 
 -- the entry at place k
 entry_there : (new : List Entry) (k : ℕ) (e : Entry) → k < length new → e ≡ get_or new k e → slice_get new k ≡ Some e
 entry_there new k e lt at = slice_get-get_or new k e lt ∙ ap (λ (x : Entry). Some x) (sym at)
 
-pub walk_on_more : (places : List (ℕ × ℕ)) (rows : List (List Receipt)) (opening drvs index : ℕ) (new : List Entry) (k : ℕ) (e : Entry) (choices after met now : List ℕ) → AreApart places → HasWalkedOn places rows opening drvs new k choices met → k < length new → e ≡ get_or new k e → index ≡ opening + k → IsDealtOn places rows index e choices after met now → HasWalkedOn places rows opening drvs new (k + 1) after now
-walk_on_more places rows opening drvs index new k e choices after met now apart walked lt at is dealt =
-    let past : List Entry = reverse (take k new) in
+pub walk_on_more : (places : List (ℕ × ℕ)) (rows : List (List Receipt)) (opening drvs index : ℕ) (old new : List Entry) (k : ℕ) (e : Entry) (choices after met now : List ℕ) → AreApart places → HasWalkedOn places rows opening drvs old new k choices met → k < length new → e ≡ get_or new k e → index ≡ opening + k → IsDealtOn places rows index e choices after met now → HasWalkedOn places rows opening drvs old new (k + 1) after now
+walk_on_more places rows opening drvs index old new k e choices after met now apart walked lt at is dealt =
+    let past : List Entry = reverse (take k new) ++ reverse old in
     let rest : List Entry = drop (k + 1) new in
-    let turned : reverse (take (k + 1) new) ≡ e ∷ past = newest_first (take k new) (take (k + 1) new) e (take_more new k e lt ∙ ap (λ x. take k new ++ x ∷ []) (sym at)) in
+    let turned : reverse (take (k + 1) new) ++ reverse old ≡ e ∷ past = ap (λ xs. xs ++ reverse old) (turned_more new k e lt at) in
     let cut : drop k new ≡ e ∷ rest = drop_more new k e lt ∙ ap (λ x. x ∷ rest) (sym at) in
     let next : index + 1 ≡ opening + (k + 1) = omega arith in
     let T : List Entry → Type 0 = λ xs. Tracks places after xs in
@@ -333,39 +351,41 @@ walk_on_more places rows opening drvs index new k e choices after met now apart 
     record {
       long = dealt.long ∙ walked.long;
       sized = dealt.tracks.long ∙ walked.sized;
-      tracks = λ within. subst T (sym turned) (dealt.tracks.each past apart (subst C (sym walked.sized) (λ d m s chosen. within.each k d m s (there ∙ ap (λ (x : Entry). Some x) chosen))) (walked.tracks within));
-      left = λ within h. subst L (sym turned) (subst M next (dealt.left past rest apart (walked.tracks within) (subst J cut (walked.has h)).0 (subst N (sym is) (subst O cut (walked.left within h)))));
+      tracks = λ before within. subst T (sym turned) (dealt.tracks.each past apart (subst C (sym walked.sized) (λ d m s chosen. within.each k d m s (there ∙ ap (λ (x : Entry). Some x) chosen))) (walked.tracks before within));
+      left = λ before within h. subst L (sym turned) (subst M next (dealt.left past rest apart (walked.tracks before within) (subst J cut (walked.has h)).0 (subst N (sym is) (subst O cut (walked.left before within h)))));
       has = λ h. subst H (sym turned) (subst J cut (walked.has h)).1;
     }
 
-pub walk_stops : (places : List (ℕ × ℕ)) (rows : List (List Receipt)) (opening drvs index : ℕ) (new : List Entry) (k : ℕ) (e : Entry) (choices met : List ℕ) → length rows ≡ length places → HasWalkedOn places rows opening drvs new k choices met → k < length new → e ≡ get_or new k e → index ≡ opening + k → IsUndealt places rows index e choices met → AreWithin drvs new → AreReceipted places opening new rows → ⊥
-walk_stops places rows opening drvs index new k e choices met wide walked lt at is undealt within h =
-    let past : List Entry = reverse (take k new) in
+pub walk_stops : (places : List (ℕ × ℕ)) (rows : List (List Receipt)) (opening drvs index : ℕ) (old new : List Entry) (k : ℕ) (e : Entry) (choices met : List ℕ) → length rows ≡ length places → HasWalkedOn places rows opening drvs old new k choices met → k < length new → e ≡ get_or new k e → index ≡ opening + k → IsUndealt places rows index e choices met
+    → AreWithin drvs old → AreWithin drvs new → AreReceipted places opening (reverse old) new rows → ⊥
+walk_stops places rows opening drvs index old new k e choices met wide walked lt at is undealt before within h =
+    let past : List Entry = reverse (take k new) ++ reverse old in
     let rest : List Entry = drop (k + 1) new in
     let cut : drop k new ≡ e ∷ rest = drop_more new k e lt ∙ ap (λ x. x ∷ rest) (sym at) in
     let N : ℕ → Type 0 = λ i. AreLeft places rows met i past (e ∷ rest) in
     let O : List Entry → Type 0 = λ xs. AreLeft places rows met (opening + k) past xs in
     let J : List Entry → Type 0 = λ xs. HaveWorkers places past xs in
-    undealt.each past rest wide walked.long (walked.tracks within) (subst J cut (walked.has h)).0 (subst N (sym is) (subst O cut (walked.left within h)))
+    undealt.each past rest wide walked.long (walked.tracks before within) (subst J cut (walked.has h)).0 (subst N (sym is) (subst O cut (walked.left before within h)))
 
-pub walk_ends : (places : List (ℕ × ℕ)) (rows : List (List Receipt)) (opening drvs : ℕ) (new : List Entry) (k : ℕ) (choices met : List ℕ) → length rows ≡ length places → HasWalkedOn places rows opening drvs new k choices met → length new ≤ k → AreUnmet rows met → AreWithin drvs new → AreReceipted places opening new rows → ⊥
-walk_ends places rows opening drvs new k choices met wide walked le unmet within h =
+pub walk_ends : (places : List (ℕ × ℕ)) (rows : List (List Receipt)) (opening drvs : ℕ) (old new : List Entry) (k : ℕ) (choices met : List ℕ) → length rows ≡ length places → HasWalkedOn places rows opening drvs old new k choices met → length new ≤ k → AreUnmet rows met → AreWithin drvs old → AreWithin drvs new → AreReceipted places opening (reverse old) new rows → ⊥
+walk_ends places rows opening drvs old new k choices met wide walked le unmet before within h =
     let over : drop k new ≡ [] = drop_all k new le in
-    let L : List Entry → Type 0 = λ xs. AreLeft places rows met (opening + k) (reverse (take k new)) xs in
-    let left = subst L over (walked.left within h) in
-    unmet.each (walked.long ∙ sym wide) (record { each = λ j n row b c. all left j n row b c })
+    let past : List Entry = reverse (take k new) ++ reverse old in
+    let L : List Entry → Type 0 = λ xs. AreLeft places rows met (opening + k) past xs in
+    let left = subst L over (walked.left before within h) in
+    unmet.each (walked.long ∙ sym wide) (record { each = λ j n row b c. all past left j n row b c })
   where
-    all : AreLeft places rows met (opening + k) (reverse (take k new)) [] → (j n : ℕ) (row : List Receipt) → slice_get rows j ≡ Some row → slice_get met j ≡ Some n → length row ≤ n
-    all left j n row b c =
+    all : (past : List Entry) → AreLeft places rows met (opening + k) past [] → (j n : ℕ) (row : List Receipt) → slice_get rows j ≡ Some row → slice_get met j ≡ Some n → length row ≤ n
+    all past left j n row b c =
         let lt : j < length rows = slice_get_within rows j row b in
         let p = some_at places j (omega (arith, wide, lt)) in
         drop_long n row (none_long (drop n row) (sym (marks_long (drop n row)) ∙ ap length (left.each j n p.0 row p.1 b c)))
 
 -- there is a row for each place
-pub as_many : (places : List (ℕ × ℕ)) (rows : List (List Receipt)) (opening : ℕ) (new : List Entry) → AreReceipted places opening new rows → length rows ≡ length places
-as_many places rows opening new h = by places rows h.each
+pub as_many : (places : List (ℕ × ℕ)) (rows : List (List Receipt)) (opening : ℕ) (past new : List Entry) → AreReceipted places opening past new rows → length rows ≡ length places
+as_many places rows opening past new h = by places rows h.each
   where
-    by : (ps : List (ℕ × ℕ)) (qs : List (List Receipt)) → AllZip (λ p row. marks_of row ≡ marks_on p opening [] new) ps qs → length qs ≡ length ps
+    by : (ps : List (ℕ × ℕ)) (qs : List (List Receipt)) → AllZip (λ p row. marks_of row ≡ marks_on p opening past new) ps qs → length qs ≡ length ps
     by [] [] all = refl
     by [] (q ∷ qs) all = absurd all
     by (p ∷ ps) [] all = absurd all
@@ -383,7 +403,7 @@ unmet_unknown f rows met worker lt none = record {
   each = λ long all. (let wide = length-map rows f in let count = some_at met worker (omega (arith, long, wide, lt)) in none-some count.0 (sym none ∙ count.1));
 }
 
-pub ruleset stops = (no_place_first, no_place_more, no_place_last, on_place, nobodys, tracks_on_chosen, none_no_builder, none_started, none_down, none_built, none_failed, none_stop, none_drain, none_enable, on_no_place, tracks_on_none)
+pub ruleset stops = (no_place_first, no_place_more, no_place_last, on_place, nobodys, tracks_on_chosen, tracks_on_nobodys, none_no_builder, none_started, none_down, none_built, none_failed, none_stop, none_drain, none_enable, on_no_place, tracks_on_none)
 
 pub ruleset dealings = (undealt_choice, undealt_place, undealt_unmet, undealt_nobodys, dealt_on_other, dealt_on_made)
 

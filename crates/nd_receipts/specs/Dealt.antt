@@ -1,4 +1,5 @@
--- Which entries of a run are whose. The entries `past` of these definitions are those since the run began, newest first.
+-- Which entries of a run are whose. The entries `past` of these definitions are those before, newest first, and the first of the
+-- history among them: a lease that was taken up was made before the run.
 -- This project's own choice. Public clauses cite this.
 use Rattle.std.specs.Prelude.{◌≡◌, ℕ, ◌+◌, ◌==◌, Bool, false, if◌then◌else◌, List, [], ◌∷◌, map, Option, Some, None, slice_get}
 use Rattle.std.specs.List.{AllZip, cons_option}
@@ -70,8 +71,8 @@ abbrev pub HaveWorkers : List (ℕ × ℕ) → List Entry → List Entry → Typ
 HaveWorkers places past [] = Unit {0}
 HaveWorkers places past (e ∷ es) = HasWorker places past e × HaveWorkers places (e ∷ past) es
 
--- the receipts of each worker are the entries that the worker of its place makes, in their order; and every lease, and every
--- entry that a worker makes, is on the place of a worker
-pub record AreReceipted (places : List (ℕ × ℕ)) (opening : ℕ) (new : List Entry) (rows : List (List Receipt)) : Type 0 where
-  pub each : AllZip (λ p row. marks_of row ≡ marks_on p opening [] new) places rows
-  pub all : HaveWorkers places [] new
+-- the receipts of each worker are the entries that the worker of its place makes behind `past`, in their order; and every lease
+-- there, and every entry that a worker makes, is on the place of a worker
+pub record AreReceipted (places : List (ℕ × ℕ)) (opening : ℕ) (past new : List Entry) (rows : List (List Receipt)) : Type 0 where
+  pub each : AllZip (λ p row. marks_of row ≡ marks_on p opening past new) places rows
+  pub all : HaveWorkers places past new

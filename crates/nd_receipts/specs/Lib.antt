@@ -5,4 +5,5 @@ pub mod Meaning
 pub mod Noted
 pub mod NotesKept
 pub mod Receipts
+pub mod Standing
 pub mod Walks

@@ -13,6 +13,7 @@ use Rattle.nd_transports.specs.declared.kinds.Call.TheVariants.{Connect, Copy, B
 use Rattle.nd_receipts.specs.declared.receipt.Receipt.{Receipt}
 use Rattle.nd_receipts.specs.declared.receipt.Kind.{Kind}
 use Rattle.nd_receipts.specs.declared.receipt.Kind.TheVariants.{Started as KindStarted, Down as KindDown, Built as KindBuilt, Failed as KindFailed}
+use Rattle.nd_receipts.specs.Standing.{ends_build}
 
 -- the one call is a build of d that ended with its outputs, or for whose answer there was no memory
 pub record IsOneShort (d : ℕ) (n : ℕ) (calls : List Call) : Type 0 where
@@ -52,6 +53,47 @@ AreCallsFor past n paths reported Stop calls = ⊥
 AreCallsFor past n paths reported (Drain m) calls = ⊥
 AreCallsFor past n paths reported (Enable m) calls = ⊥
 
+-- ---- a lease that was started before the run
+
+-- the machine was reached, these paths were copied to it, and d was built there, which ended with this answer
+abbrev pub whole_build : List (List ℕ) → ℕ → Answer → List Call
+whole_build paths d answer = Connect true ∷ Copy paths true ∷ Build d answer ∷ []
+
+-- the three calls are those of a build of d that ended with its outputs, or for whose answer there was no memory
+pub record IsWholeShort (d : ℕ) (n : ℕ) (paths : List (List ℕ)) (calls : List Call) : Type 0 where
+  pub answer : Answer
+  pub either : ((refs : List (List (List ℕ))) × (answer ≡ AnswerBuilt refs)) ⊎ (answer ≡ AnswerMemory)
+  pub three : n ≡ 3
+  pub is : calls ≡ whole_build paths d answer
+
+-- the calls behind a failure of a lease that was started before the run: its build was asked for again, or, where it is lost, the machine
+-- wasn't reached or the copy failed, and where memory was wanting, there may be no call
+abbrev pub AreCallsOfFailureAgain : ℕ → List (List ℕ) → List (List (List ℕ)) → ℕ → Why → List Call → Type 0
+AreCallsOfFailureAgain n paths refs d (Status code) calls = (n ≡ 3) × (calls ≡ whole_build paths d (AnswerStatus code))
+AreCallsOfFailureAgain n paths refs d Lost calls = AreCallsOfDown n paths calls ⊎ ((n ≡ 3) × (calls ≡ whole_build paths d AnswerLost))
+AreCallsOfFailureAgain n paths refs d BadReferences calls = (n ≡ 3) × (calls ≡ whole_build paths d (AnswerBuilt refs))
+AreCallsOfFailureAgain n paths refs d Memory calls = ((n ≡ 0) × (calls ≡ [])) ⊎ IsWholeShort d n paths calls
+AreCallsOfFailureAgain n paths refs d NoWorker calls = ⊥
+
+-- n calls, with the paths of a copy and the references of a build, behind the end of a lease that was started before the run
+abbrev pub AreCallsAgain : ℕ → List (List ℕ) → List (List (List ℕ)) → Entry → List Call → Type 0
+AreCallsAgain n paths reported (Built d refs) calls = (n ≡ 3) × (calls ≡ whole_build paths d (AnswerBuilt refs))
+AreCallsAgain n paths reported (Failed d why) calls = AreCallsOfFailureAgain n paths reported d why calls
+AreCallsAgain n paths reported (Started d copied) calls = ⊥
+AreCallsAgain n paths reported (Down d) calls = ⊥
+AreCallsAgain n paths reported (Chosen d m s) calls = ⊥
+AreCallsAgain n paths reported (NoBuilder d) calls = ⊥
+AreCallsAgain n paths reported Stop calls = ⊥
+AreCallsAgain n paths reported (Drain m) calls = ⊥
+AreCallsAgain n paths reported (Enable m) calls = ⊥
+
+-- ---- receipts
+
+-- the calls behind an entry, where its lease was started before the run, or wasn't
+abbrev pub AreCallsBy : Bool → List Entry → ℕ → List (List ℕ) → List (List (List ℕ)) → Entry → List Call → Type 0
+AreCallsBy true past n paths reported e calls = AreCallsAgain n paths reported e calls
+AreCallsBy false past n paths reported e calls = AreCallsFor past n paths reported e calls
+
 -- the entry is of this kind
 abbrev pub IsOfKind : Kind → Entry → Type 0
 IsOfKind kind (Started d copied) = kind ≡ KindStarted
@@ -67,15 +109,17 @@ IsOfKind kind (Enable m) = ⊥
 -- these are the calls of a receipt whose entry e came after `past`, newest first
 pub record AreCallsOf (past : List Entry) (r : Receipt) (e : Entry) (these : List Call) : Type 0 where
   pub kind : IsOfKind r.kind e
-  pub calls : AreCallsFor past r.calls r.paths r.refs e these
+  pub calls : AreCallsBy r.again past r.calls r.paths r.refs e these
 
--- these are the calls of a receipt, for the entry of the history that it names and what stands before that entry
-pub record AreCallsAt (history : List Entry) (r : Receipt) (these : List Call) : Type 0 where
+-- these are the calls of a receipt, for the entry of the history that it names and what stands before that entry; the receipt is of
+-- a lease that was started before exactly where the entry ends a build that was going on behind the first `opened` entries
+pub record AreCallsAt (opened : ℕ) (history : List Entry) (r : Receipt) (these : List Call) : Type 0 where
   pub entry : Entry
   pub at : slice_get history r.index ≡ Some entry
+  pub again : r.again ≡ ends_build (reverse (take opened history)) entry
   pub calls : AreCallsOf (reverse (take r.index history)) r entry these
 
--- these are the calls of the receipts, one after another
-pub data AreCallsIn (history : List Entry) : List Receipt → List Call → Type 0 where
-  none : AreCallsIn history [] []
-  more : (r : Receipt) (these : List Call) (rs : List Receipt) (rest : List Call) → AreCallsAt history r these → AreCallsIn history rs rest → AreCallsIn history (r ∷ rs) (these ++ rest)
+-- these are the calls of the receipts, one after another, of a run that began behind the first `opened` entries
+pub data AreCallsIn (opened : ℕ) (history : List Entry) : List Receipt → List Call → Type 0 where
+  none : AreCallsIn opened history [] []
+  more : (r : Receipt) (these : List Call) (rs : List Receipt) (rest : List Call) → AreCallsAt opened history r these → AreCallsIn opened history rs rest → AreCallsIn opened history (r ∷ rs) (these ++ rest)

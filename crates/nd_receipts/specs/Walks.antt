@@ -1,16 +1,16 @@
 -- What is known while the entries of a run are gone through. No public clause but that of `are_dealt` and of `Tables` cites
 -- these definitions; the rest serves proofs.
-use Rattle.std.specs.Prelude.{◌≡◌, ℕ, suc, ◌+◌, ◌==◌, ◌<◌, ◌≤◌, Bool, true, false, if◌then◌else◌, List, ◌∷◌, Option, Some, None, drop, length, replicate, slice_get, slice_set}
+use Rattle.std.specs.Prelude.{◌≡◌, ℕ, suc, ◌+◌, ◌<◌, ◌≤◌, List, ◌∷◌, Some, drop, length, replicate, slice_get, slice_set}
 use Rattle.nd_history.specs.declared.entry.Entry.{Entry}
-use Rattle.nd_history.specs.declared.entry.Entry.TheVariants.{Chosen, NoBuilder, Started, Down, Built, Failed, Stop, Drain, Enable}
+use Rattle.nd_history.specs.declared.entry.Entry.TheVariants.{Chosen}
 use Rattle.nd_receipts.specs.declared.receipt.Receipt.{Receipt}
 use Rattle.nd_receipts.specs.declared.receipt.Kind.{Kind}
 use Rattle.nd_receipts.specs.declared.tables.Tables.{Tables}
 use Rattle.nd_receipts.specs.Dealt.{place_of, marks_of, marks_on, AreApart, HasWorker}
 
--- for each derivation of the table: the worker on whose place it was leased last
+-- where the table has a worker for a derivation, it was leased last on that worker's place
 pub record Knows (places : List (ℕ × ℕ)) (choices : List ℕ) (past : List Entry) : Type 0 where
-  pub each : (d w : ℕ) → slice_get choices d ≡ Some w → slice_get places w ≡ place_of d past
+  pub each : (d w : ℕ) (p : ℕ × ℕ) → slice_get choices d ≡ Some w → slice_get places w ≡ Some p → place_of d past ≡ Some p
 
 -- one more entry keeps it so
 pub record Follows (places : List (ℕ × ℕ)) (choices after : List ℕ) (e : Entry) : Type 0 where
@@ -105,15 +105,3 @@ pub record IsUndealt (places : List (ℕ × ℕ)) (rows : List (List Receipt)) (
 -- some receipt was not met
 pub record AreUnmet (rows : List (List Receipt)) (met : List ℕ) : Type 0 where
   pub each : length met ≡ length rows → AreAllMet rows met → ⊥
-
--- what an entry says of whether derivation d is started: its start that it is, its choice that it isn't
-abbrev pub start_said : ℕ → Entry → Option Bool
-start_said d (Started e paths) = if d == e then Some true else None
-start_said d (Chosen e m s) = if d == e then Some false else None
-start_said d (NoBuilder e) = None
-start_said d (Down e) = None
-start_said d (Built e refs) = None
-start_said d (Failed e why) = None
-start_said d Stop = None
-start_said d (Drain m) = None
-start_said d (Enable m) = None

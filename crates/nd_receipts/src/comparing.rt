@@ -4,48 +4,24 @@ ghost use Rattle.std.specs.Prelude.{◌≡◌, reverse, true, false};
 ghost use Rattle.std.specs.List.{AllZip, list_any, list_all};
 ghost use Rattle.nd_history.specs.History.{is_started, is_stop};
 ghost use Rattle.nd_receipts.specs.Made.{made, is_made, is_quiet};
-ghost use Rattle.nd_receipts.specs.Noted.{TellsStart, IsNotedIn};
-ghost use Rattle.nd_receipts.specs.Walks.{start_said};
+ghost use Rattle.nd_receipts.specs.Noted.{TellsStart, IsNotedBy};
+ghost use Rattle.nd_receipts.specs.Standing.{ends_one, is_flagged};
 
 use crate::receipt::Receipt;
+use crate::standing::{Standing, start_said};
 use nd_history::{Entry, Why, is_same_entry};
-
-/// What an entry says of whether this derivation is started: its start that it is, its choice that it isn't.
-fn start_said(entry: &Entry, drv: u32) -> Option<bool>
-    ensures { result ≡ start_said drv entry.now }
-{
-    match entry {
-        Entry::Started { drv: d, .. } => {
-            if drv == *d {
-                return Some(true);
-            }
-            None
-        }
-        Entry::Chosen { drv: d, .. } => {
-            if drv == *d {
-                return Some(false);
-            }
-            None
-        }
-        Entry::NoBuilder { .. }
-        | Entry::Down { .. }
-        | Entry::Built { .. }
-        | Entry::Failed { .. }
-        | Entry::Stop
-        | Entry::Drain { .. }
-        | Entry::Enable { .. } => None,
-    }
-}
 
 /// Whether the derivation was started since its last choice among these entries.
 #[tactic(auto, using(crate::proofs::Starts::starts))]
-fn is_started(past: &[Entry], drv: u32) -> bool
+pub fn is_started(past: &[Entry], drv: u32) -> bool
     ensures { result ≡ is_started drv (reverse past.now) }
 {
     let mut rest = past;
     'searching: while let Some((entry, earlier)) = rest.split_last() {
-        if let Some(started) = start_said(entry, drv) {
-            return started;
+        if let Some((about, started)) = start_said(entry) {
+            if drv == about {
+                return started;
+            }
         }
         rest = earlier;
     }
@@ -53,11 +29,15 @@ fn is_started(past: &[Entry], drv: u32) -> bool
 }
 
 /// Whether the receipt of a failure for want of memory tells of its lease's start what these entries before
-/// it do: one call, the build, stands behind it exactly where the lease was started.
+/// it do: one call, the build, stands behind it exactly where the lease was started. Of a lease that was
+/// started before the run nothing is asked.
 fn tells_start(past: &[Entry], receipt: &Receipt, copy: &Entry) -> bool
     ensures told { result ≡ true → TellsStart past.now receipt.now copy.now }
     ensures untold { result ≡ false → TellsStart past.now receipt.now copy.now → ⊥ }
 {
+    if receipt.again {
+        return true;
+    }
     match copy {
         Entry::Failed { drv, why } => {
             if *why != Why::Memory {
@@ -69,11 +49,28 @@ fn tells_start(past: &[Entry], receipt: &Receipt, copy: &Entry) -> bool
     }
 }
 
+/// Whether the entry is the end of a lease of a derivation that was being built.
+fn ends_one(standing: &Standing, entry: &Entry) -> bool
+    ensures { result ≡ ends_one (λ d. is_flagged standing.now d) entry.now }
+{
+    match entry {
+        Entry::Down { drv } => standing.is_building(*drv),
+        Entry::Built { drv, .. } => standing.is_building(*drv),
+        Entry::Failed { drv, .. } => standing.is_building(*drv),
+        Entry::Chosen { .. }
+        | Entry::NoBuilder { .. }
+        | Entry::Started { .. }
+        | Entry::Stop
+        | Entry::Drain { .. }
+        | Entry::Enable { .. } => false,
+    }
+}
+
 /// Whether the entry that was noted stands where its receipt says, and the receipt tells of its lease's
-/// start what stands before it.
-fn is_at(history: &[Entry], receipt: &Receipt, copy: &Entry) -> bool
-    ensures noted { result ≡ true → IsNotedIn history.now receipt.now copy.now }
-    ensures unlike { result ≡ false → IsNotedIn history.now receipt.now copy.now → ⊥ }
+/// start what stands before it, and what stood before the run.
+fn is_at(history: &[Entry], standing: &Standing, receipt: &Receipt, copy: &Entry) -> bool
+    ensures noted { result ≡ true → IsNotedBy (λ d. is_flagged standing.now d) history.now receipt.now copy.now }
+    ensures unlike { result ≡ false → IsNotedBy (λ d. is_flagged standing.now d) history.now receipt.now copy.now → ⊥ }
 {
     let Some(entry) = history.get(receipt.index) else {
         return false;
@@ -81,15 +78,24 @@ fn is_at(history: &[Entry], receipt: &Receipt, copy: &Entry) -> bool
     if !is_same_entry(entry, copy) {
         return false;
     }
+    if receipt.again != ends_one(standing, copy) {
+        return false;
+    }
     let (past, _) = history.split_at(receipt.index);
     tells_start(past, receipt, copy)
 }
 
-/// Whether each receipt names the place of the entry that was noted beside it, and those of failures for
-/// want of memory tell whether the lease was started.
-pub fn are_as_noted(history: &[Entry], receipts: &[Receipt], copies: &[Entry]) -> bool
-    ensures noted { result ≡ true → AllZip (IsNotedIn history.now) receipts.now copies.now }
-    ensures unlike { result ≡ false → AllZip (IsNotedIn history.now) receipts.now copies.now → ⊥ }
+/// Whether each receipt names the place of the entry that was noted beside it, those of failures for want of
+/// memory tell whether the lease was started, and those say that the lease was started before the run whose
+/// entries end a lease of a derivation that was being built then.
+pub fn are_as_noted(
+    history: &[Entry],
+    standing: &Standing,
+    receipts: &[Receipt],
+    copies: &[Entry],
+) -> bool
+    ensures noted { result ≡ true → AllZip (IsNotedBy (λ d. is_flagged standing.now d) history.now) receipts.now copies.now }
+    ensures unlike { result ≡ false → AllZip (IsNotedBy (λ d. is_flagged standing.now d) history.now) receipts.now copies.now → ⊥ }
 {
     let mut rest = receipts;
     let mut left = copies;
@@ -97,7 +103,7 @@ pub fn are_as_noted(history: &[Entry], receipts: &[Receipt], copies: &[Entry]) -
         let Some((copy, behind)) = left.split_first() else {
             return false;
         };
-        if !is_at(history, receipt, copy) {
+        if !is_at(history, standing, receipt, copy) {
             return false;
         }
         rest = more;

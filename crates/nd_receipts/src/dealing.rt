@@ -1,8 +1,8 @@
 //! Whether the entries that workers made in a run are their receipts, each of one worker and in order.
 
-ghost use Rattle.std.specs.Prelude.{◌≡◌, ◌+◌, ◌^◌, ◌<◌, ℕ, List, [], ◌∷◌, map, true, false, length, replicate, slice_get, slice_set, Some, None, IfSome, IfNone};
+ghost use Rattle.std.specs.Prelude.{◌≡◌, ◌+◌, ◌^◌, ◌<◌, ℕ, List, [], ◌∷◌, map, true, false, length, replicate, reverse, slice_get, slice_set, Some, None, IfSome, IfNone};
 ghost use Rattle.nd_receipts.specs.Dealt.{made_as, AreApart, IsOnPlace, AreReceipted};
-ghost use Rattle.nd_receipts.specs.Walks.{Follows, AreUnknown, IsMet, AreAllMet, IsDealtBetween, IsNoPlace, IsNobodys, AreWithin, TracksOn, IsUnmet, IsDealtOnBetween, IsUndealt, AreUnmet};
+ghost use Rattle.nd_receipts.specs.Walks.{Follows, AreUnknown, IsMet, AreAllMet, IsDealtBetween, IsNoPlace, IsNobodys, AreWithin, Knows, Tracks, TracksOn, IsUnmet, IsDealtOnBetween, IsUndealt, AreUnmet};
 
 use crate::receipt::{Kind, Receipt};
 use crate::tables::Tables;
@@ -54,18 +54,19 @@ fn put(numbers: &mut Vec<usize>, place: usize, number: usize)
     }
 }
 
-/// Follows over one more entry on which worker's place each derivation was leased last. It answers no
-/// where a lease is on the place of none.
+/// Follows over one more entry on which worker's place each derivation was leased last. The number behind
+/// the last worker is put for a lease on the place of none, and the answer is no.
 #[tactic(auto, using(crate::proofs::Crossings::walks, crate::proofs::Refusals::stops))]
 fn follow(choices: &mut Vec<usize>, places: &[(u32, u32)], entry: &Entry) -> bool
-    ensures follows { result ≡ true → Follows places.now choices.old.items choices.new.items entry.now }
+    ensures follows { Follows places.now choices.old.items choices.new.items entry.now }
+    ensures tracks { TracksOn places.now choices.old.items choices.new.items entry.now }
     ensures placed { result ≡ true → IsOnPlace places.now entry.now }
-    ensures tracks { result ≡ true → TracksOn places.now choices.old.items choices.new.items entry.now }
     ensures nobody { result ≡ false → IsNobodys places.now entry.now }
 {
     match entry {
         Entry::Chosen { drv, machine, slot } => {
             let Some(worker) = worker_on(places, *machine, *slot) else {
+                put(choices, *drv as usize, places.len());
                 return false;
             };
             put(choices, *drv as usize, worker);
@@ -79,6 +80,20 @@ fn follow(choices: &mut Vec<usize>, places: &[(u32, u32)], entry: &Entry) -> boo
         | Entry::Stop
         | Entry::Drain { .. }
         | Entry::Enable { .. } => true,
+    }
+}
+
+/// Follows over the entries before the run, in which a lease may be on the place of none.
+#[tactic(auto, using(crate::proofs::Crossings::walks))]
+fn follow_all(choices: &mut Vec<usize>, places: &[(u32, u32)], old: &[Entry])
+    requires apart { AreApart places.now }
+    requires choices { AreUnknown (length places.now) choices.old.items }
+    ensures knows { Knows places.now choices.new.items (reverse old.now) }
+    ensures sized { length choices.new.items ≡ length choices.old.items }
+    ensures tracks { AreWithin (length choices.old.items) old.now → Tracks places.now choices.new.items (reverse old.now) }
+{
+    'following: for entry in old {
+        let _placed = follow(choices, places, entry);
     }
 }
 
@@ -162,11 +177,13 @@ fn are_all_met(met: &[usize], rows: &[Vec<Receipt>]) -> bool
     true
 }
 
-/// Whether the receipts of each worker are the entries, the first of which has the number `opening`, that
-/// the worker of its place made, in their order, and every lease, and every entry that a worker made, is
-/// on the place of a worker. The tables have a place for each derivation that is leased.
+/// Whether the receipts of each worker are the entries behind `old`, the first of which has the number
+/// `opening`, that the worker of its place made, in their order, and every lease among them, and every entry
+/// that a worker made, is on the place of a worker: a lease may have been made among the `old` ones. The
+/// tables have a place for each derivation that is leased.
 #[tactic(auto, using(crate::proofs::Crossings::walks, crate::proofs::Refusals::walks_on))]
 pub fn are_dealt(
+    old: &[Entry],
     new: &[Entry],
     opening: usize,
     places: &[(u32, u32)],
@@ -177,13 +194,15 @@ pub fn are_dealt(
     requires apart { AreApart places.now }
     requires choices { AreUnknown (length places.now) tables.choices.items }
     requires met { tables.met.items ≡ replicate (length places.now) 0 }
-    ensures dealt { result ≡ true → AreReceipted places.now opening new.now (map (λ v. v.items) rows.now) }
-    ensures undealt { result ≡ false → AreWithin (length tables.choices.items) new.now → AreReceipted places.now opening new.now (map (λ v. v.items) rows.now) → ⊥ }
+    ensures dealt { result ≡ true → AreReceipted places.now opening (reverse old.now) new.now (map (λ v. v.items) rows.now) }
+    ensures undealt { result ≡ false → AreWithin (length tables.choices.items) old.now → AreWithin (length tables.choices.items) new.now → AreReceipted places.now opening (reverse old.now) new.now (map (λ v. v.items) rows.now) → ⊥ }
 {
     if rows.len() != places.len() {
         return false;
     }
-    let mut tables = tables;
+    let Tables { mut choices, met } = tables;
+    follow_all(&mut choices, places, old);
+    let mut tables = Tables { choices, met };
     let mut index = opening;
     'dealing: for entry in new {
         if !deal(&mut tables, places, rows, index, entry) {

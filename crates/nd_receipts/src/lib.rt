@@ -9,12 +9,14 @@ pub mod laws;
 pub mod notes;
 pub mod receipt;
 pub mod rows;
+pub mod standing;
 pub mod tables;
 
-pub use comparing::{are_as_noted, count_made, has_stop, is_quiet};
+pub use comparing::{are_as_noted, count_made, has_stop, is_quiet, is_started};
 pub use dealing::are_dealt;
 pub use judging::{Misreports, are_as_judged};
 pub use notes::Notes;
-pub use receipt::{Kind, Receipt};
+pub use receipt::{Behind, Kind, Receipt};
 pub use rows::{are_rows_judged, are_rows_noted};
+pub use standing::Standing;
 pub use tables::Tables;

@@ -30,4 +30,18 @@ pub struct Receipt {
     /// The references that a build among these calls reported and may not have, where the entry is the failure
     /// that says so.
     pub refs: Refs,
+    /// Whether the lease was started before the run: the entry is its end then, behind a build that was asked
+    /// for again.
+    pub again: bool,
+}
+
+/// What a worker did for an entry since its last receipt.
+#[derive(Drop, Debug)]
+pub struct Behind {
+    /// How many calls of the transport it made.
+    pub calls: u8,
+    /// The paths of a copy among these calls that the entry doesn't hold.
+    pub paths: PathSet,
+    /// Whether the lease was started before the run.
+    pub again: bool,
 }

@@ -8,7 +8,7 @@ use Rattle.nd_history.specs.Premises.{Premises}
 use Rattle.nd_ledger.specs.Worlds.{World}
 use Rattle.nd_receipts.specs.Made.{is_quiet}
 use Rattle.nd_workers.specs.declared.run_end.RunFault.{RunFault}
-use Rattle.nd_workers.specs.declared.run_end.RunFault.TheVariants.{Thread as NoThread, Memory as NoMemory, Receipts as OtherReceipts}
+use Rattle.nd_workers.specs.declared.run_end.RunFault.TheVariants.{Thread as NoThread, Memory as NoMemory, Receipts as OtherReceipts, Journal as NoJournal}
 use Rattle.nd_workers.specs.declared.run_end.RunError.{RunError}
 use Rattle.nd_workers.specs.declared.run_end.RunError.TheVariants.{Slots, TooManySlots as TooManyWorkers, Memory as NoRoom}
 use Rattle.nd_workers.specs.Runs.{AreManned, IsRunRefused, IsOver}
@@ -24,13 +24,20 @@ never_slots i places TooManyWorkers refused manned is = cc
 never_slots i places NoRoom refused manned is = cc
 
 -- what `run` says of what came back, by the fault that it ended with
+pub came_back_kept : (before after : World) (fault : Option RunFault) → IsLegalWorld after → RunsOn before after → ((fault ≡ Some OtherReceipts → ⊥) → IsOver before after)
+    → (fault ≡ None → list_all is_quiet (drop (length before.history) after.history) ≡ true) → (fault ≡ Some NoThread → list_any is_stop after.history ≡ true)
+    → (fault ≡ Some NoMemory → list_any is_stop after.history ≡ true) → (fault ≡ Some NoJournal → list_any is_stop after.history ≡ true) → CameBack fault before after
+came_back_kept before after None legal runs over quiet thread memory journal = record { legal = legal; over = over (λ is. cc); quiet = quiet refl }
+came_back_kept before after (Some NoThread) legal runs over quiet thread memory journal = record { legal = legal; over = over (λ is. cc); stopped = thread refl }
+came_back_kept before after (Some NoMemory) legal runs over quiet thread memory journal = record { legal = legal; over = over (λ is. cc); stopped = memory refl }
+came_back_kept before after (Some NoJournal) legal runs over quiet thread memory journal = record { legal = legal; over = over (λ is. cc); stopped = journal refl }
+came_back_kept before after (Some OtherReceipts) legal runs over quiet thread memory journal = record { legal = legal; runs = runs }
+
+-- .. of a run that keeps no journal
 pub came_back : (before after : World) (fault : Option RunFault) → IsLegalWorld after → RunsOn before after → ((fault ≡ Some OtherReceipts → ⊥) → IsOver before after)
     → (fault ≡ None → list_all is_quiet (drop (length before.history) after.history) ≡ true) → (fault ≡ Some NoThread → list_any is_stop after.history ≡ true)
-    → (fault ≡ Some NoMemory → list_any is_stop after.history ≡ true) → CameBack fault before after
-came_back before after None legal runs over quiet thread memory = record { legal = legal; over = over (λ is. cc); quiet = quiet refl }
-came_back before after (Some NoThread) legal runs over quiet thread memory = record { legal = legal; over = over (λ is. cc); stopped = thread refl }
-came_back before after (Some NoMemory) legal runs over quiet thread memory = record { legal = legal; over = over (λ is. cc); stopped = memory refl }
-came_back before after (Some OtherReceipts) legal runs over quiet thread memory = record { legal = legal; runs = runs }
+    → (fault ≡ Some NoMemory → list_any is_stop after.history ≡ true) → (fault ≡ Some NoJournal → ⊥) → CameBack fault before after
+came_back before after fault legal runs over quiet thread memory journal = came_back_kept before after fault legal runs over quiet thread memory (λ is. absurd (journal is))
 
 -- a status is that of a run without a fault
 pub runs_to : (before after : World) (fault : Option RunFault) (report : Bool) (status : ℕ) (old new : Option (List ℕ)) → CameBack fault before after → EndsIn after fault report status old new

@@ -1,5 +1,5 @@
 -- What is written at the end of a run: the history of the dispatch that came back, and where it was asked for the report. The
--- contract of `run_engine` cites it by way of `RunsTo` and `IsRunFault`, but for `told_as` and `IsToldOf`, which serve proofs.
+-- contract of `run_engine` cites it by way of `RunsTo` and `IsRunFault`, but for `IsToldOf`, which serves proofs.
 use Rattle.std.specs.Prelude.{◌≡◌, ◌⊎◌, ℕ, Bool, true, false, List, Option, Some, None, reverse}
 use Rattle.std.specs.Io.KnownBytes.{Appends, Keeps}
 use Rattle.nd_devices.specs.Written.{WritesPart}
@@ -7,7 +7,7 @@ use Rattle.nd_history.specs.Statuses.{IsExitStatus}
 use Rattle.nd_ledger.specs.Worlds.{World}
 use Rattle.nd_cli.specs.declared.fault.CliFault.{CliFault}
 use Rattle.nd_workers.specs.declared.run_end.RunFault.{RunFault}
-use Rattle.nd_workers.specs.declared.run_end.RunFault.TheVariants.{Thread, Memory, Receipts}
+use Rattle.nd_workers.specs.declared.run_end.RunFault.TheVariants.{Thread, Memory, Receipts, Journal}
 use Rattle.nd_history_text.specs.HistoryTexts.{written_text}
 use Rattle.nd_report.specs.Reports.{Reports, ReportsPart}
 
@@ -41,13 +41,10 @@ WritesEndPart w report old new = WritesPart old new (written_text w.history) ⊎
 abbrev pub IsStatusOf : World → ℕ → Type 0
 IsStatusOf w status = IsExitStatus w.inputs (reverse w.history) status
 
--- what the program says of a run's fault
-abbrev pub told_as : RunFault → CliFault
-told_as Thread = CliFault.Thread
-told_as Memory = CliFault.Memory
-told_as Receipts = CliFault.Receipts
-
--- .. of a run that ended with one
+-- what the program says of a run's fault, where the run keeps no journal
 abbrev pub IsToldOf : Option RunFault → CliFault → Type 0
 IsToldOf None e = ⊥
-IsToldOf (Some fault) e = e ≡ told_as fault
+IsToldOf (Some Thread) e = e ≡ CliFault.Thread
+IsToldOf (Some Memory) e = e ≡ CliFault.Memory
+IsToldOf (Some Receipts) e = e ≡ CliFault.Receipts
+IsToldOf (Some Journal) e = ⊥

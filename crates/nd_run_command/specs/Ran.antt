@@ -8,7 +8,7 @@ use Rattle.nd_history.specs.Legal.{IsLegal}
 use Rattle.nd_ledger.specs.Worlds.{World}
 use Rattle.nd_receipts.specs.Made.{is_quiet}
 use Rattle.nd_workers.specs.declared.run_end.RunFault.{RunFault}
-use Rattle.nd_workers.specs.declared.run_end.RunFault.TheVariants.{Thread as NoThread, Memory as NoMemory, Receipts as OtherReceipts}
+use Rattle.nd_workers.specs.declared.run_end.RunFault.TheVariants.{Thread as NoThread, Memory as NoMemory, Receipts as OtherReceipts, Journal as NoJournal}
 use Rattle.nd_workers.specs.declared.run_end.RunError.{RunError}
 use Rattle.nd_workers.specs.declared.run_end.RunError.TheVariants.{Slots, TooManySlots as TooManyWorkers, Memory as NoRoom}
 use Rattle.nd_workers.specs.Runs.{IsOver}
@@ -44,6 +44,7 @@ abbrev pub CameBack : Option RunFault → World → World → Type 0
 CameBack None before after = IsDone before after
 CameBack (Some NoThread) before after = IsStopped before after
 CameBack (Some NoMemory) before after = IsStopped before after
+CameBack (Some NoJournal) before after = IsStopped before after
 CameBack (Some OtherReceipts) before after = IsUnreceipted before after
 
 -- the run ended without a fault; all of what came back was written, and this is its status

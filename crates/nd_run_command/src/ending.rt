@@ -1,6 +1,6 @@
 //! What is written of a run, and its status.
 
-ghost use Rattle.std.specs.Prelude.{◌≡◌, ◌||◌, false, is_err, reverse, None, IfOk, IfErr, OnOk, OnErr};
+ghost use Rattle.std.specs.Prelude.{◌≡◌, ◌||◌, false, is_err, reverse, Some, None, IfOk, IfErr, OnOk, OnErr};
 ghost use Rattle.std.specs.Io.KnownBytes.{Keeps};
 ghost use Rattle.nd_history.specs.Legal.{IsLegal};
 ghost use Rattle.nd_run_command.specs.Ended.{WritesEnd, WritesEndPart, IsStatusOf, IsToldOf};
@@ -64,8 +64,9 @@ fn exit_status(dispatch: &Dispatch) -> u8
     0
 }
 
-/// The status of a run that ended without a fault, and else the fault.
+/// The status of a run that ended without a fault, and else the fault, of one that keeps no journal.
 pub(crate) fn status_or_fault(dispatch: &Dispatch, fault: Option<RunFault>) -> Result<u8, CliFault>
+    requires { fault ≡ Some RunFault.Journal → ⊥ }
     ensures status { IfOk result (λ status. (fault ≡ None) × IsStatusOf dispatch.now status) }
     ensures fault { IfErr result (IsToldOf fault) }
 {
@@ -74,5 +75,6 @@ pub(crate) fn status_or_fault(dispatch: &Dispatch, fault: Option<RunFault>) -> R
         Some(RunFault::Thread) => Err(CliFault::Thread),
         Some(RunFault::Memory) => Err(CliFault::Memory),
         Some(RunFault::Receipts) => Err(CliFault::Receipts),
+        Some(RunFault::Journal) => unreachable!(),
     }
 }

@@ -1,6 +1,6 @@
 //! A run, and what is written of it.
 
-ghost use Rattle.std.specs.Prelude.{◌≡◌, ◌↔◌, false, reverse, map, vec_len, IfOk, IfErr, IsTrue};
+ghost use Rattle.std.specs.Prelude.{◌≡◌, ◌↔◌, false, reverse, map, vec_len, Some, IfOk, IfErr, IsTrue};
 ghost use Rattle.nd_history.specs.Legal.{IsLegal};
 ghost use Rattle.nd_workers.specs.Runs.{AreManned};
 ghost use Rattle.nd_run_command.specs.Ran.{RunsTo, IsRunFault, EndsIn, IsEndFault, IsRefusedAs};
@@ -60,7 +60,8 @@ fn write_and_answer<W: Write>(
     report: bool,
     output: &mut Told<W>,
 ) -> Result<u8, CliFault>
-    requires { output.old.is_marked ≡ false }
+    requires writer { output.old.is_marked ≡ false }
+    requires unkept { fault ≡ Some RunFault.Journal → ⊥ }
     ensures legal { IsLegal dispatch.now.inputs (reverse dispatch.now.history) }
     ensures answer { IfOk result (λ status. EndsIn dispatch.now fault report status (W.contents output.old.device) (W.contents output.new.device)) }
     ensures fault { IfErr result (IsEndFault dispatch.now fault report (W.contents output.old.device) (W.contents output.new.device)) }

@@ -1,6 +1,5 @@
 pub mod JobLines
 pub mod JobRows
-pub mod Looked
 pub mod Prepares
 pub mod Told
 pub mod Serving

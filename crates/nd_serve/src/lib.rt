@@ -3,7 +3,6 @@
 #![tactic(auto)]
 
 mod asking;
-mod entries;
 mod jobs;
 pub mod laws;
 mod preparing;

@@ -8,11 +8,10 @@ ghost use Rattle.nd_serve.specs.Turns.{ready_line, unknown_line};
 ghost use Rattle.nd_serve.specs.Steps.{AreLinesSince, IsRequestNamed, IsAnswer, IsPrepared, IsOpeningAnswer, PreparesOpening, RepliesBetween};
 
 use crate::asking::read_request;
-use crate::entries::look_at;
 use crate::jobs::write_job;
 use crate::request::Request;
 use nd_devices::{Fault, Told, WriteError};
-use nd_journal::first_line;
+use nd_journal::{first_line, look_at};
 use nd_ledger::Dispatch;
 use nd_report::write_report;
 use nd_sim::{pump, turn, write_added};

@@ -1,19 +1,25 @@
 -- What a session begins with.
-use Rattle.std.proofs.Common.{◌≡◌, ◌∙◌, ◌==◌, ℕ, ◌<◌, Bool, true, false, List, [], ◌∷◌, length, refl, sym, subst, arith, eqb-true, true≢false}
+use Rattle.std.proofs.Common.{◌≡◌, ◌∙◌, ◌==◌, ℕ, ◌<◌, Bool, true, false, List, [], ◌∷◌, length, Option, refl, sym, ap, subst, arith, eqb-true, true≢false, inl, inr}
 use Rattle.std.proofs.lemmas.Bool.{eqb-false}
 use Rattle.nd_history.specs.declared.entry.Entry.{Entry}
 use Rattle.nd_history.specs.declared.rule.Rule.{Rule}
 use Rattle.nd_history.specs.Premises.{Premises}
 use Rattle.nd_ledger.specs.Worlds.{World}
 use Rattle.nd_journal.specs.WholeLines.{whole_lines}
+use Rattle.nd_journal.proofs.Reading.{not_empty}
 use Rattle.nd_resume.specs.Resumes.{IsResumable, IsResumeRefused}
 use Rattle.nd_resume.specs.declared.resume_error.ResumeError.{ResumeError}
 use Rattle.nd_resume.specs.declared.resume_error.ResumeError.TheVariants.{BadLine, Illegal, Memory as NoRoom}
 use Rattle.nd_crashes.specs.Crashes.{IsBegunWith}
 use Rattle.nd_crashes.proofs.Begun.{journals_begin}
 use Rattle.nd_serve_command.specs.Faults.{fault_of_journal}
-use Rattle.nd_serve_command.specs.Sessions.{MayHold, HoldsSome, IsJournalFault}
+use Rattle.nd_cli.specs.Asked.{IsAskFault}
+use Rattle.nd_cli.specs.declared.options.ParkOptions.{ParkOptions}
+use Rattle.nd_commands.specs.Opened.{HasInputs, ReadsInputs}
+use Rattle.nd_devices.specs.Watched.{Watched}
+use Rattle.nd_serve_command.specs.Sessions.{MayHold, HoldsSome, IsJournalFault, BeginsSession, IsOpenFault}
 use Rattle.nd_serve_command.specs.declared.fault.ServeFault.{ServeFault}
+use Rattle.nd_serve_command.specs.declared.fault.ServeFault.TheVariants.{Cli, NotEmpty, InUse, Journal, JournalFailed}
 
 pub may_resume : (resumes : Bool) (journal : List ℕ) → resumes ≡ true → MayHold resumes journal
 may_resume true journal same = tt
@@ -42,6 +48,13 @@ journal_begun i j journal history kept inputs resumable is =
     subst (λ (n : ℕ). IsBegunWith j (n == 0) (whole_lines journal) history) (sym is)
     (journals_begin j journal history (subst (λ (p : Premises). IsResumable p journal history) (sym inputs) resumable))
 
+-- .. nothing, before it has a line
+pub unbegun_none : (i : Premises) (journal : List ℕ) (history : List Entry) (kept : ℕ) → IsResumable i journal history → kept ≡ length (whole_lines journal) → kept ≡ 0 → length history ≡ 0
+unbegun_none i journal history kept resumable is none = elim resumable.read [
+  | inl nothing ↦ ap length nothing.empty
+  | inr text ↦ absurd (not_empty journal (whole_lines journal) history refl (sym is ∙ none) text)
+]
+
 -- ---- why a journal isn't begun with
 
 bad_line : (number : ℕ) → BadLine number ≡ NoRoom → ⊥
@@ -64,3 +77,25 @@ fault_refused i journal resumes e fault may refused same = subst (IsJournalFault
 
 pub same_world : (one other : World) → one.inputs ≡ other.inputs → one.history ≡ other.history → one ≡ other
 same_world one other inputs history = λ j. record { inputs = inputs j; history = history j }
+
+-- ---- a session begins, or its journal is refused
+
+pub session_begun : (options : ParkOptions) (journal : List ℕ) (resumes : Bool) (unread left : Option (List ℕ)) (i : Premises) (world : World) → ReadsInputs options unread left i → world.inputs ≡ i
+    → MayHold resumes journal → IsResumable i journal world.history → BeginsSession options journal resumes unread left world
+session_begun options journal resumes unread left i world reads same may resumable = record {
+  text = reads.text;
+  read = reads.read;
+  accepts = record {
+    inputs = subst (HasInputs options reads.text) (sym same) reads.has;
+    may = may;
+    history = subst (λ (p : Premises). IsResumable p journal world.history) (sym same) resumable;
+  };
+}
+
+pub session_refused : {R : Type 0} (options : ParkOptions) (journal : List ℕ) (resumes : Bool) (remaining : R → Option (List ℕ)) (reader reader_after : Watched R) (i : Premises) (fault : ServeFault)
+    → ReadsInputs options (remaining reader.device) (remaining reader_after.device) i → IsJournalFault i journal resumes fault → IsOpenFault options journal resumes remaining reader reader_after fault
+session_refused options journal resumes remaining reader reader_after i (Cli fault) reads refused = subst (IsAskFault options remaining reader reader_after false) (sym refused) tt
+session_refused options journal resumes remaining reader reader_after i NotEmpty reads refused = record { inputs = i; reads = reads; refused = refused }
+session_refused options journal resumes remaining reader reader_after i InUse reads refused = refused
+session_refused options journal resumes remaining reader reader_after i (Journal e) reads refused = record { inputs = i; reads = reads; refused = refused }
+session_refused options journal resumes remaining reader reader_after i JournalFailed reads refused = refused

@@ -32,7 +32,7 @@ advice_words NotEmpty = (
 )
 advice_words InUse = (
   codes "another program has a lock on the journal, or has made it meanwhile",
-  codes "wait until that session has ended, or name another file",
+  codes "wait until that program has ended, or name another file",
 )
 advice_words (Journal refusal) = advice_words_of_journal refusal
 advice_words JournalFailed = (

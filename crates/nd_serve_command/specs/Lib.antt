@@ -2,4 +2,3 @@ pub mod Faults
 pub mod Lines
 pub mod Sessions
 pub mod Advised
-pub mod Stored

@@ -1,5 +1,5 @@
 -- What `serve` begins with, and what it comes to. Histories stand oldest first.
--- Public clauses cite this, but for `IsJournalFault`, `HoldsSome`, `ReadsAccepted` and `TakesResumable`, which serve private ones.
+-- Public clauses cite this, but for `HoldsSome` and `ReadsAccepted`, which serve private ones.
 use Rattle.std.specs.Prelude.{◌≡◌, ◌≢◌, ℕ, ◌<◌, Bool, true, false, List, [], ◌++◌, length, reverse, Option, Some, Result, Ok, Err, MatchResult}
 use Rattle.nd_desk.specs.declared.event.Event.{Event}
 use Rattle.nd_desk.specs.declared.fault.SessionFault.{SessionFault}
@@ -24,7 +24,7 @@ use Rattle.nd_commands.specs.Opened.{HasInputs, ReadsInputs}
 use Rattle.nd_serve_command.specs.Faults.{fault_of}
 use Rattle.nd_serve_command.specs.declared.fault.ServeFault.{ServeFault}
 use Rattle.nd_serve_command.specs.declared.fault.ServeFault.TheVariants.{Cli, NotEmpty, InUse, Journal, JournalFailed}
-use Rattle.nd_serve_command.specs.declared.opening.Opened.{Opened}
+use Rattle.nd_serve_command.specs.declared.opened.Opened.{Opened}
 
 -- ---- the opening
 

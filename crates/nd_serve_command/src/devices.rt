@@ -2,13 +2,13 @@
 
 ghost use Rattle.std.specs.Prelude.{◌≡◌, ◌↔◌, IsTrue, is_ok, IfErr, IfOk, OnOk};
 ghost use Rattle.std.specs.Io.KnownBytes.{Appends};
+ghost use Rattle.nd_keeping.specs.Stored.{IsAppended, IsSynced};
 ghost use Rattle.nd_serve_command.specs.Lines.{IsLineRead};
-ghost use Rattle.nd_serve_command.specs.Stored.{IsAppended, IsSynced};
 
-use crate::journals::Journal;
 use crate::lines::next_line;
 use nd_bytes::ByteString;
 use nd_desk::{Desk, DeskFault};
+use nd_keeping::Journal;
 use std::alloc::Global;
 use std::io::{self, BufRead, Write};
 

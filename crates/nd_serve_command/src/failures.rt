@@ -113,7 +113,7 @@ pub fn journal_advice(fault: &ServeFault) -> Advice
         },
         ServeFault::InUse => Advice {
             cause: "another program has a lock on the journal, or has made it meanwhile",
-            cure: "wait until that session has ended, or name another file",
+            cure: "wait until that program has ended, or name another file",
         },
         ServeFault::Journal(refusal) => of_journal(refusal),
         ServeFault::JournalFailed => Advice {

@@ -1,4 +1,4 @@
-//! Why `serve` ends before its input does, and the line that the program then writes on standard error.
+//! Why a command with a journal ends early, and the line that the program then writes on standard error.
 
 ghost use Rattle.std.specs.Prelude.{◌≡◌};
 ghost use Rattle.nd_serve_command.specs.Faults.{fault_status, fault_of, fault_of_journal};
@@ -8,24 +8,26 @@ use nd_desk::SessionFault;
 use nd_resume::ResumeError;
 use thiserror::Error;
 
-/// Why `serve` ended before its input did. `Display` writes the fault's line, without its newline.
+/// Why `serve`, `report` or a run with a journal gave no status. `Display` writes the fault's line, without its
+/// newline.
 #[derive(Debug, Drop, Error)]
 pub enum ServeFault {
-    /// As of the other commands: the bundle or the park is refused, status 3; or the input or the output
-    /// of the session or a file failed, or the memory, status 5.
+    /// As of the other commands: the bundle or the park is refused, status 3; or the input, the output or a
+    /// file failed, or the memory or the run itself, status 5.
     #[error("{0}")]
     Cli(CliFault),
     /// The journal holds something, and isn't to be gone on from. Status 3.
     #[error("nix-dispatch: journal: NotEmpty")]
     NotEmpty,
-    /// Another session has the journal. Status 3.
+    /// Another session or run has the journal. Status 3.
     #[error("nix-dispatch: journal: InUse")]
     InUse,
     /// The journal that is to be gone on from is none. Status 3.
     #[error("nix-dispatch: journal: {0}")]
     Journal(ResumeError),
     /// The journal can't be opened, or refused to be read, cut, appended to or made durable, for whatever
-    /// cause. Nothing of the turn that it ends is answered; its entries may stand in the journal. Status 5.
+    /// cause. Nothing of the turn that it ends is answered, and nothing of a run is begun behind it; the entries
+    /// that it refused may stand in it. Status 5.
     #[error("nix-dispatch: journal failed")]
     JournalFailed,
 }

@@ -1,12 +1,13 @@
 //! The engine of the command `serve`: what a session is given, the devices that it speaks to, and the session
-//! itself, as functions over readers, a writer and a journal.
+//! itself, as functions over readers, a writer and a journal. Journals, what is gone on from and what they fail
+//! by are those of runs too.
 #![tactic(auto)]
 
 pub mod devices;
 pub mod failures;
 pub mod fault;
-pub mod journals;
 mod lines;
+pub mod opened;
 pub mod opening;
 mod reading;
 pub mod session;
@@ -14,6 +15,6 @@ pub mod session;
 pub use devices::Devices;
 pub use failures::{JournalFailure, journal_advice};
 pub use fault::ServeFault;
-pub use journals::{Journal, NoJournal};
-pub use opening::{Opened, open_session};
+pub use opened::Opened;
+pub use opening::{open_session, take_journal};
 pub use session::serve_engine;

@@ -1,4 +1,4 @@
-//! What a session begins with.
+//! What a session begins with, and a run that is kept.
 
 ghost use Rattle.std.specs.Prelude.{◌≡◌, ◌==◌, [], false, length, IfOk, IfErr, OnOk, MatchBool};
 ghost use Rattle.nd_crashes.specs.Crashes.{IsBegunWith};
@@ -8,6 +8,7 @@ ghost use Rattle.nd_serve_command.specs.Sessions.{AnswersAcceptedSession, OpensS
 ghost use Rattle.nd_serve_command.specs.Sessions.{HoldsSome, IsJournalFault, MayHold, TakesResumable};
 
 use crate::fault::{ServeFault, journal_fault};
+use crate::opened::Opened;
 use crate::reading::read_dispatch;
 use nd_cli::ParkOptions;
 use nd_commands::close_dispatch;
@@ -18,16 +19,6 @@ use std::alloc::Global;
 use std::io::Read;
 use std::thread::Threads;
 
-/// What a session begins with, once all of it is accepted.
-#[derive(Drop)]
-pub struct Opened {
-    /// The derivations and the park, with the history of the journal.
-    pub dispatch: Dispatch,
-    /// How many bytes of the journal are gone on from: its whole lines. A file is to be cut to these, and
-    /// what stays made durable, before the session begins.
-    pub kept: usize,
-}
-
 /// Reads the bundle on the input and what the options name, and then the journal with these bytes, which
 /// has to be empty where it isn't to be resumed from. The journal itself isn't touched. Cut to the bytes
 /// that are gone on from, it is what a session of [`serve_engine`](crate::serve_engine) begins with.
@@ -35,6 +26,7 @@ pub struct Opened {
 /// The first refusal in this order is answered: `Read`; `TooLarge` or `Drvs` for the bundle; `TooLarge` or
 /// `Builders` for the builders list; `TooLarge` or `Info` for the info text; `NotEmpty`, or else `BadLine`
 /// or `Illegal`, for the journal. `Memory` may come at any point. The reader is marked exactly at `Read`.
+#[tactic(auto, using(crate::proofs::Begun::session_refused))]
 pub fn open_session<R: Read>(
     rt: &(impl Threads + Sync),
     alloc: Global,
@@ -61,8 +53,13 @@ pub fn open_session<R: Read>(
     }
 }
 
-/// Gives a dispatch the history of the journal.
-fn take_journal(
+/// Gives a dispatch without a history the one of the journal with these bytes, which has to be empty where it
+/// isn't to be resumed from. The journal itself isn't touched.
+///
+/// Refuses with `NotEmpty` where the journal holds something and isn't to be resumed from, or else with `BadLine`
+/// or `Illegal`, as [`ResumeError`](nd_resume::ResumeError) says. `Memory` may come at any point. The dispatch is
+/// gone then.
+pub fn take_journal(
     alloc: Global,
     dispatch: Dispatch,
     journal: &[u8],
@@ -73,6 +70,7 @@ fn take_journal(
     ensures may { OnOk result (MayHold resumes journal.now) }
     ensures history { IfOk result (λ opened. IsResumable dispatch.inputs journal.now opened.dispatch.history) }
     ensures kept { IfOk result (λ opened. opened.kept ≡ length (whole_lines journal.now)) }
+    ensures begun { IfOk result (λ opened. IsBegunWith opened.dispatch.inputs (opened.kept == 0) (whole_lines journal.now) opened.dispatch.history) }
     ensures refused { IfErr result (IsJournalFault dispatch.inputs journal.now resumes) }
     ensures exactly { TakesResumable dispatch.inputs journal.now resumes result }
 {

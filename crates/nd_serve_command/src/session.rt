@@ -4,7 +4,7 @@ ghost use Rattle.std.specs.Prelude.{◌≡◌, ◌==◌, IfOk, IfErr};
 ghost use Rattle.nd_serve_command.specs.Sessions.{EndsSession, CutsSession};
 
 use crate::fault::{ServeFault, session_fault};
-use crate::opening::Opened;
+use crate::opened::Opened;
 use nd_commands::{close_dispatch, exit_status};
 use nd_desk::Desk;
 use nd_serve::serve;

@@ -1,6 +1,8 @@
 //! A journal and an output in memory that stop.
 
-use nd_serve_command::Journal;
+ghost use Rattle.std.specs.Prelude.{◌≡◌, [], length};
+
+use nd_keeping::Journal;
 use std::alloc::Global;
 use std::io::{self, Write};
 
@@ -15,7 +17,10 @@ pub struct MemoryJournal {
 
 impl MemoryJournal {
     /// A journal that holds these bytes, durable, and grants this number of calls.
-    pub fn holding(bytes: Vec<u8>, grants: usize) -> Self {
+    pub fn holding(bytes: Vec<u8>, grants: usize) -> Self
+        ensures bytes { result.bytes.items ≡ bytes.items }
+        ensures durable { result.durable ≡ length bytes.items }
+    {
         let durable = bytes.len();
         MemoryJournal {
             bytes,
@@ -25,7 +30,10 @@ impl MemoryJournal {
     }
 
     /// A journal that holds nothing and grants this number of calls.
-    pub fn empty(alloc: Global, grants: usize) -> Self {
+    pub fn empty(alloc: Global, grants: usize) -> Self
+        ensures bytes { result.bytes.items ≡ [] }
+        ensures durable { result.durable ≡ 0 }
+    {
         MemoryJournal::holding(Vec::new(alloc), grants)
     }
 

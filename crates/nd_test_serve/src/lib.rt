@@ -1,5 +1,5 @@
 //! Tests of the command `serve`: conversations, a driver's among them, lines that are no commands, and what a
-//! crash leaves of a journal.
+//! crash leaves of a journal; and of the scribe of a run.
 #![tactic(auto)]
 
 #[cfg(test)]
@@ -14,6 +14,8 @@ mod driving;
 mod holding;
 #[cfg(test)]
 mod journals;
+#[cfg(test)]
+mod keeping;
 #[cfg(test)]
 mod lines;
 #[cfg(test)]

@@ -1,5 +1,5 @@
 -- Lemmas on what came back of the workers, compared with a history.
-use Rattle.std.proofs.Common.{◌≡◌, List, [], reverse, refl, sym, subst}
+use Rattle.std.proofs.Common.{◌≡◌, ℕ, List, [], reverse, refl, sym, subst}
 use Rattle.std.specs.List.{AllZip}
 use Rattle.nd_history.specs.declared.entry.Entry.{Entry}
 use Rattle.nd_receipts.specs.declared.receipt.Receipt.{Receipt}
@@ -21,18 +21,18 @@ goes_on Finished s t good ends = ends
 goes_on Left s t good ends = ends
 goes_on Refused s t good ends = absurd (good refl)
 
-pub served_in : (history : List Entry) (before after : Seated) (how : End) (notes : Noted) (receipts : List Receipt) → (how ≡ Refused → ⊥) → AllZip (IsNotedIn history) notes.receipts notes.copies → IsServed before how after notes → receipts ≡ notes.receipts → IsServedIn history before after receipts
-served_in history before after how notes receipts good all served same =
+pub served_in : (opened : ℕ) (history : List Entry) (before after : Seated) (how : End) (notes : Noted) (receipts : List Receipt) → (how ≡ Refused → ⊥) → AllZip (IsNotedIn opened history) notes.receipts notes.copies → IsServed before how after notes → receipts ≡ notes.receipts → IsServedIn opened history before after receipts
+served_in opened history before after how notes receipts good all served same =
     let on = goes_on how (record { receipts = []; copies = []; calls = before.calls }) (track notes after.calls) good served.goes in
-    let P : List Receipt → Type 0 = λ rs. AllZip (IsNotedIn history) rs on.copies in
-    let Q : List Entry → Type 0 = λ es. AllZip (IsNotedIn history) notes.receipts es in
-    let R : List Receipt → Type 0 = λ rs. AreCallsIn history rs on.calls in
+    let P : List Receipt → Type 0 = λ rs. AllZip (IsNotedIn opened history) rs on.copies in
+    let Q : List Entry → Type 0 = λ es. AllZip (IsNotedIn opened history) notes.receipts es in
+    let R : List Receipt → Type 0 = λ rs. AreCallsIn opened history rs on.calls in
     record {
       machine = served.machine;
       slot = served.slot;
       calls = on.calls;
       grown = on.calls_are;
-      agree = subst R (sym same) (subst R (sym on.receipts_are) (calls_in history on.receipts on.copies on.calls on.agree (subst P on.receipts_are (subst Q on.copies_are all))));
+      agree = subst R (sym same) (subst R (sym on.receipts_are) (calls_in opened history on.receipts on.copies on.calls on.agree (subst P on.receipts_are (subst Q on.copies_are all))));
     }
 
 pub is_over : (opening now : World) → RunsOn opening now → IsFinished now.inputs (reverse now.history) → IsOver opening now

@@ -1,6 +1,7 @@
 pub mod Compared
 pub mod Counts
 pub mod Faulted
+pub mod Fronts
 pub mod Going
 pub mod Kept
 pub mod Leaving

@@ -12,12 +12,16 @@ use Rattle.nd_receipts.specs.Made.{is_quiet}
 use Rattle.nd_receipts.specs.Noted.{AreRowsNoted}
 use Rattle.nd_workers.specs.declared.run_end.Evidence.{Evidence}
 use Rattle.nd_workers.specs.declared.run_end.RunFault.{RunFault}
-use Rattle.nd_workers.specs.declared.run_end.RunFault.TheVariants.{Thread, Memory, Receipts}
+use Rattle.nd_workers.specs.declared.run_end.RunFault.TheVariants.{Thread, Memory, Receipts, Journal}
 use Rattle.nd_workers.specs.Runs.{AreReceiptedFrom}
 
 -- a stop is in the history, where fewer workers had a thread than there are
 abbrev pub IsStopped : ℕ → ℕ → List Entry → Type 0
 IsStopped threads workers history = threads < workers → list_any is_stop history ≡ true
+
+-- a stop is in the history, where the journal doesn't hold all of it
+abbrev pub IsHalted : Bool → List Entry → Type 0
+IsHalted kept history = kept ≡ false → list_any is_stop history ≡ true
 
 -- what came back of a run that began behind the first entries of its history, by workers on these places, is what the history says
 pub record IsAlikeFrom {A : Type 0} (opened : ℕ) (now : World) (places : List (ℕ × ℕ)) (receipts : List (Vec Receipt A)) (evidence : Evidence) : Type 0 where
@@ -25,28 +29,33 @@ pub record IsAlikeFrom {A : Type 0} (opened : ℕ) (now : World) (places : List 
   pub finished : IsFinished now.inputs (reverse now.history)
   -- no entry of a worker's own was refused
   pub willing : evidence.refused ≡ false
-  -- each receipt names the entry that its worker noted
-  pub noted : AreRowsNoted now.history receipts evidence.copies.items
+  -- each receipt names the entry that its worker noted, and says of its lease whether it was started before the run
+  pub noted : AreRowsNoted opened now.history receipts evidence.copies.items
   -- .. and has the references that were refused, if it is about such
   pub judged : AreRowsJudged evidence.misreports receipts evidence.copies.items
   -- the receipts are the entries that workers made
   pub receipted : AreReceiptedFrom opened now.history places receipts
   -- where a worker had no thread, the run was stopped
   pub stopped : IsStopped evidence.threads (length places) now.history
+  -- .. and where the journal doesn't hold the history
+  pub halted : IsHalted evidence.kept now.history
 
 -- the cause of each fault, and of none: of these causes exactly one stands
 abbrev pub HasCause : {A : Type 0} → ℕ → World → List (ℕ × ℕ) → List (Vec Receipt A) → Evidence → Option RunFault → Type 0
 HasCause opened now places receipts evidence (Some Receipts) = IsAlikeFrom opened now places receipts evidence → ⊥
-HasCause opened now places receipts evidence (Some Thread) = IsAlikeFrom opened now places receipts evidence × (evidence.threads < length places)
-HasCause opened now places receipts evidence (Some Memory) = IsAlikeFrom opened now places receipts evidence × (length places ≤ evidence.threads) × (list_all is_quiet (drop opened now.history) ≡ false)
-HasCause opened now places receipts evidence None = IsAlikeFrom opened now places receipts evidence × (length places ≤ evidence.threads) × (list_all is_quiet (drop opened now.history) ≡ true)
+HasCause opened now places receipts evidence (Some Journal) = IsAlikeFrom opened now places receipts evidence × (evidence.kept ≡ false)
+HasCause opened now places receipts evidence (Some Thread) = IsAlikeFrom opened now places receipts evidence × (evidence.kept ≡ true) × (evidence.threads < length places)
+HasCause opened now places receipts evidence (Some Memory) = IsAlikeFrom opened now places receipts evidence × (evidence.kept ≡ true) × (length places ≤ evidence.threads) × (list_all is_quiet (drop opened now.history) ≡ false)
+HasCause opened now places receipts evidence None = IsAlikeFrom opened now places receipts evidence × (evidence.kept ≡ true) × (length places ≤ evidence.threads) × (list_all is_quiet (drop opened now.history) ≡ true)
 
--- .. where `alike` says whether what came back is what the history says, and `new` are the entries since the run began
-abbrev pub IsFaultBy : Bool → ℕ → ℕ → List Entry → Option RunFault → Type 0
-IsFaultBy alike threads workers new (Some Receipts) = alike ≡ false
-IsFaultBy alike threads workers new (Some Thread) = (alike ≡ true) × (threads < workers)
-IsFaultBy alike threads workers new (Some Memory) = (alike ≡ true) × (workers ≤ threads) × (list_all is_quiet new ≡ false)
-IsFaultBy alike threads workers new None = (alike ≡ true) × (workers ≤ threads) × (list_all is_quiet new ≡ true)
+-- .. where `alike` says whether what came back is what the history says, `kept` whether the journal holds it, and `new` are the entries since
+-- the run began
+abbrev pub IsFaultBy : Bool → Bool → ℕ → ℕ → List Entry → Option RunFault → Type 0
+IsFaultBy alike kept threads workers new (Some Receipts) = alike ≡ false
+IsFaultBy alike kept threads workers new (Some Journal) = (alike ≡ true) × (kept ≡ false)
+IsFaultBy alike kept threads workers new (Some Thread) = (alike ≡ true) × (kept ≡ true) × (threads < workers)
+IsFaultBy alike kept threads workers new (Some Memory) = (alike ≡ true) × (kept ≡ true) × (workers ≤ threads) × (list_all is_quiet new ≡ false)
+IsFaultBy alike kept threads workers new None = (alike ≡ true) × (kept ≡ true) × (workers ≤ threads) × (list_all is_quiet new ≡ true)
 
 pub record IsFaultFrom {A : Type 0} (opened : ℕ) (now : World) (places : List (ℕ × ℕ)) (receipts : List (Vec Receipt A)) (evidence : Evidence) (fault : Option RunFault) : Type 0 where
   pub cause : HasCause opened now places receipts evidence fault

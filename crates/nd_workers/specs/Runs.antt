@@ -1,5 +1,5 @@
 -- When a run is refused, and what is known of its end. The public clauses of a run cite it. This project's own choice.
-use Rattle.std.specs.Prelude.{◌≡◌, ℕ, ◌<◌, Bool, true, ◌&&◌, List, ◌++◌, length, map, drop, count_by, nat_lt, reverse, Option, Some, Vec}
+use Rattle.std.specs.Prelude.{◌≡◌, ℕ, ◌<◌, Bool, true, ◌&&◌, List, ◌++◌, length, map, take, drop, count_by, nat_lt, reverse, Option, Some, Vec}
 use Rattle.std.specs.List.{AllZip, zip, list_all}
 use Rattle.nd_history.specs.declared.entry.Entry.{Entry}
 use Rattle.nd_leases.specs.Tickets.{same_place}
@@ -52,25 +52,27 @@ pub record IsOver (opening now : World) : Type 0 where
   pub runs : RunsOn opening now
   pub finished : IsFinished now.inputs (reverse now.history)
 
--- a worker kept its place, and its transport's calls since then are those of its receipts
-pub record IsServedIn (history : List Entry) (before after : Seated) (receipts : List Receipt) : Type 0 where
+-- a worker kept its place, and its transport's calls since then are those of its receipts, in a run that began behind the first `opened`
+-- entries of the history
+pub record IsServedIn (opened : ℕ) (history : List Entry) (before after : Seated) (receipts : List Receipt) : Type 0 where
   pub machine : after.machine ≡ before.machine
   pub slot : after.slot ≡ before.slot
   pub calls : List Call
   pub grown : after.calls ≡ before.calls ++ calls
-  pub agree : AreCallsIn history receipts calls
+  pub agree : AreCallsIn opened history receipts calls
 
 -- .. each of these workers, with its receipts
-abbrev pub AreServedIn : {T A : Type 0} → (T → State) → List Entry → List (Seat T) → List (Seat T) → List (Vec Receipt A) → Type 0
-AreServedIn state history before after receipts = AllZip (λ w x. IsServedIn history (seat_of state w) (seat_of state x.0) x.1.items) before (zip after receipts)
+abbrev pub AreServedIn : {T A : Type 0} → (T → State) → ℕ → List Entry → List (Seat T) → List (Seat T) → List (Vec Receipt A) → Type 0
+AreServedIn state opened history before after receipts = AllZip (λ w x. IsServedIn opened history (seat_of state w) (seat_of state x.0) x.1.items) before (zip after receipts)
 
 -- the entries since the opening
 abbrev pub since : World → World → List Entry
 since opening now = drop (length opening.history) now.history
 
--- these are the receipts of the entries that workers on these places made behind the first ones of a history
+-- these are the receipts of the entries that workers on these places made behind the first ones of a history, among which a lease
+-- may have been made that a worker took up
 abbrev pub AreReceiptedFrom : {A : Type 0} → ℕ → List Entry → List (ℕ × ℕ) → List (Vec Receipt A) → Type 0
-AreReceiptedFrom opened history places receipts = AreReceipted places opened (drop opened history) (map (λ v. v.items) receipts)
+AreReceiptedFrom opened history places receipts = AreReceipted places opened (reverse (take opened history)) (drop opened history) (map (λ v. v.items) receipts)
 
 -- .. since the opening
 abbrev pub AreReceiptedSince : {A : Type 0} → World → World → List (ℕ × ℕ) → List (Vec Receipt A) → Type 0

@@ -52,5 +52,5 @@ is_refused Left = false
 is_refused Refused = true
 
 -- the worker ended as it should, and its receipts name the entries that it noted
-abbrev pub IsSound : {T : Type 0} → List Entry → Stint T → Type 0
-IsSound history x = (x.end ≡ Refused → ⊥) × AllZip (IsNotedIn history) x.notes.receipts x.notes.copies
+abbrev pub IsSound : {T : Type 0} → ℕ → List Entry → Stint T → Type 0
+IsSound opened history x = (x.end ≡ Refused → ⊥) × AllZip (IsNotedIn opened history) x.notes.receipts x.notes.copies

@@ -11,6 +11,7 @@ use Rattle.nd_ledger.specs.Worlds.{World}
 use Rattle.nd_receipts.specs.declared.judging.Misreports.{Misreports}
 use Rattle.nd_receipts.specs.Judged.{AreMisreports}
 use Rattle.nd_receipts.specs.Made.{is_quiet}
+use Rattle.nd_workers.specs.Leaves.{IsFrontOf}
 
 -- a run may add the entry: a choice, or the word that nothing can build a derivation, is the pump's step of what stands before
 -- it; and no machine is drained or enabled
@@ -46,9 +47,11 @@ pub record StopsAreTold (opening now : World) : Type 0 where
   pub long : length opening.history ≤ length now.history
   pub quiet : list_any is_stop now.history ≡ false → list_all is_quiet (drop (length opening.history) now.history) ≡ true
 
--- what is known of a run's dispatch whenever its lock is taken: it goes on from the opening one, a stop tells that the run was ended, and
--- what is kept as wrong references is
-pub record IsUpheld (opening now : World) (misreports : Misreports) : Type 0 where
+-- what is known of a run's dispatch whenever its lock is taken: it goes on from the opening one, a stop tells that the run was ended,
+-- what is kept as wrong references is, and what was handed to the run's scribe, and what of it is durable, are the history's first entries
+pub record IsUpheld (opening now : World) (misreports : Misreports) (front kept : List Entry) : Type 0 where
   pub runs : RunsOn opening now
   pub told : StopsAreTold opening now
   pub judged : AreMisreports now.inputs now.history misreports
+  pub handed : IsFrontOf front now.history
+  pub durable : IsFrontOf kept now.history

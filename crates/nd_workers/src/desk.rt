@@ -1,32 +1,37 @@
-//! What lies under the lock: the dispatch, how many entries the workers made, and the references that builds
-//! reported and may not have.
+//! What lies under the lock: the dispatch, how many entries the workers made, the references that builds reported
+//! and may not have, and how far the run's journal is.
 
 ghost use Rattle.std.specs.Prelude.{◌≡◌, ◌+◌, ◌<◌, ◌≤◌, drop, reverse, true, IfErr, OnOk, OnErr, IsTrue};
+ghost use Rattle.nd_history.specs.History.{is_started};
 ghost use Rattle.nd_ledger.specs.Moves.{IsEndRefused};
 ghost use Rattle.nd_receipts.specs.Made.{made, is_worker_cause};
 ghost use Rattle.nd_workers.specs.Steps.{IsUpheld};
 
 use crate::abandoning::abandon;
+use crate::keeping::Progress;
 use crate::opened::Opened;
 use nd_closure::Refs;
 use nd_history::{Entry, Why};
 use nd_leases::Ticket;
 use nd_ledger::{Dispatch, Job, Refusal, Refused};
 use nd_path::PathSet;
-use nd_receipts::Misreports;
+use nd_receipts::{Misreports, is_started};
 use std::alloc::{AllocError, Global};
 use std::sync::ledger::{Book, Share};
 
-/// The dispatch with the book of what the workers made, the places that workers serve, and the references that
-/// were refused.
+/// The dispatch with the book of what the workers made, the places that workers serve, the references that were
+/// refused, and what is handed to the scribe and durable.
 #[derive(Drop)]
 pub(crate) struct Desk<L: Opened> {
     pub(crate) dispatch: Dispatch,
     pub(crate) book: Book<L>,
     pub(crate) manned: Vec<(u32, u32)>,
     pub(crate) misreports: Misreports,
+    pub(crate) progress: Progress<L>,
+    /// How many entries the history had when the run began.
+    pub(crate) opened: usize,
     ghost counted: { made dispatch.history ≡ book.total },
-    ghost upheld: { IsUpheld L.opening dispatch misreports },
+    ghost upheld: { IsUpheld L.opening dispatch misreports progress.handed.entries progress.kept.entries },
 }
 
 /// What there is to do for a worker.
@@ -36,10 +41,10 @@ pub(crate) enum Next {
     Finished,
     /// Its slot has no lease.
     Wait,
-    /// Its slot's lease.
-    Serve(Job),
-    /// There was no memory for the job of its slot's lease.
-    Short(Ticket),
+    /// Its slot's lease, and whether it was started before the run.
+    Serve(Job, bool),
+    /// There was no memory for the job of its slot's lease. It may have been started before the run too.
+    Short(Ticket, bool),
 }
 
 impl<L: Opened> Desk<L> {
@@ -193,7 +198,7 @@ impl<L: Opened> Desk<L> {
     }
 
     /// Nothing more is begun.
-    fn begin_no_more(&mut self) {
+    pub(crate) fn begin_no_more(&mut self) {
         let Desk {
             dispatch,
             manned,
@@ -224,10 +229,21 @@ impl<L: Opened> Desk<L> {
         let Some(ticket) = self.dispatch.current(machine, slot) else {
             return Next::Wait;
         };
+        let again = self.was_started(ticket);
         match self.dispatch.job(alloc, &ticket) {
-            Ok(job) => Next::Serve(job),
-            Err(_) => Next::Short(ticket),
+            Ok(job) => Next::Serve(job, again),
+            Err(_) => Next::Short(ticket, again),
         }
+    }
+
+    /// Whether this lease, which its worker takes up, was started before the run.
+    fn was_started(&self, ticket: Ticket) -> bool
+        ensures { result ≡ true → is_started ticket.drv (reverse self.now.dispatch.history) ≡ true }
+    {
+        if ticket.serial >= self.opened {
+            return false;
+        }
+        is_started(self.dispatch.history(), ticket.drv)
     }
 }
 

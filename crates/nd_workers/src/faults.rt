@@ -4,8 +4,10 @@ ghost use Rattle.std.specs.Prelude.{◌≡◌, ◌+◌, ◌<◌, ◌≤◌, ◌�
 ghost use Rattle.std.specs.List.{list_any};
 ghost use Rattle.nd_history.specs.Standing.{drvs_in};
 ghost use Rattle.nd_receipts.specs.Dealt.{AreApart};
+ghost use Rattle.nd_receipts.specs.Noted.{AreRowsNoted};
+ghost use Rattle.nd_receipts.specs.Standing.{IsIdle};
 ghost use Rattle.nd_receipts.specs.Walks.{AreUnknown};
-ghost use Rattle.nd_workers.specs.Faults.{IsAlikeFrom, IsFaultBy, IsStopped};
+ghost use Rattle.nd_workers.specs.Faults.{IsAlikeFrom, IsFaultBy, IsHalted, IsStopped};
 ghost use Rattle.nd_workers.specs.Runs.{AreReceiptedFrom};
 ghost use Rattle.nd_workers.specs.Served.{is_refused};
 
@@ -13,9 +15,10 @@ use crate::desk::entries_since;
 use crate::run_end::{Evidence, RunFault};
 use crate::threads::Stint;
 use crate::working::End;
+use nd_history::Entry;
 use nd_ledger::Dispatch;
 use nd_receipts::{
-    Receipt, Tables, are_dealt, are_rows_judged, are_rows_noted, has_stop, is_quiet,
+    Receipt, Standing, Tables, are_dealt, are_rows_judged, are_rows_noted, has_stop, is_quiet,
 };
 use nd_transports::Transport;
 
@@ -44,7 +47,7 @@ pub(crate) fn count_threads<T: Transport>(stints: &[Stint<T>]) -> usize
 }
 
 /// Whether the entries that workers made behind the first `opened` are the receipts, each of one worker.
-#[tactic(auto, using(crate::proofs::Faulted::all_within))]
+#[tactic(auto, using(crate::proofs::Faulted::all_within, crate::proofs::Faulted::all_before))]
 fn are_receipted(
     opened: usize,
     dispatch: &Dispatch,
@@ -61,8 +64,26 @@ fn are_receipted(
     ensures unlike { result ≡ false → AreReceiptedFrom opened dispatch.now.history places.now receipts.now → ⊥ }
 {
     let history = dispatch.history();
-    let (_, new) = history.split_at(opened);
-    are_dealt(new, opened, places, receipts, tables)
+    let (old, new) = history.split_at(opened);
+    are_dealt(old, new, opened, places, receipts, tables)
+}
+
+/// Whether each receipt names the entry that its worker noted, in a run that began behind the first `opened`.
+#[tactic(auto, using(crate::proofs::Faulted::all_before))]
+fn are_noted(
+    opened: usize,
+    dispatch: &Dispatch,
+    receipts: &[Vec<Receipt>],
+    copies: &[Vec<Entry>],
+    standing: Standing,
+) -> bool
+    requires idle { IsIdle standing }
+    requires wide { length standing.leased.items ≡ drvs_in dispatch.now.inputs }
+    requires long { opened ≤ length dispatch.now.history }
+    ensures noted { result ≡ true → AreRowsNoted opened dispatch.now.history receipts.now copies.now }
+    ensures unlike { result ≡ false → AreRowsNoted opened dispatch.now.history receipts.now copies.now → ⊥ }
+{
+    are_rows_noted(dispatch.history(), opened, standing, receipts, copies)
 }
 
 /// Whether a stop is in the history, where fewer workers had a thread than there are.
@@ -70,6 +91,16 @@ fn is_stopped(dispatch: &Dispatch, threads: usize, workers: usize) -> bool
     ensures { IsTrue result ↔ IsStopped threads workers dispatch.now.history }
 {
     if threads >= workers {
+        return true;
+    }
+    has_stop(dispatch.history())
+}
+
+/// Whether a stop is in the history, where the journal doesn't hold all of it.
+fn is_halted(dispatch: &Dispatch, kept: bool) -> bool
+    ensures { IsTrue result ↔ IsHalted kept dispatch.now.history }
+{
+    if kept {
         return true;
     }
     has_stop(dispatch.history())
@@ -83,11 +114,14 @@ pub(crate) fn is_alike(
     receipts: &[Vec<Receipt>],
     evidence: &Evidence,
     tables: Tables,
+    standing: Standing,
 ) -> bool
     requires apart { AreApart places.now }
     requires choices { AreUnknown (length places.now) tables.choices.items }
     requires sized { length tables.choices.items ≡ drvs_in dispatch.now.inputs }
     requires met { tables.met.items ≡ replicate (length places.now) 0 }
+    requires idle { IsIdle standing }
+    requires wide { length standing.leased.items ≡ drvs_in dispatch.now.inputs }
     requires long { opened ≤ length dispatch.now.history }
     ensures alike { result ≡ true → IsAlikeFrom opened dispatch.now places.now receipts.now evidence.now }
     ensures unlike { result ≡ false → IsAlikeFrom opened dispatch.now places.now receipts.now evidence.now → ⊥ }
@@ -101,28 +135,36 @@ pub(crate) fn is_alike(
     if !is_stopped(dispatch, evidence.threads, places.len()) {
         return false;
     }
-    if !are_rows_noted(dispatch.history(), receipts, evidence.copies.as_slice()) {
+    if !is_halted(dispatch, evidence.kept) {
         return false;
     }
-    if !are_rows_judged(&evidence.misreports, receipts, evidence.copies.as_slice()) {
+    let copies = evidence.copies.as_slice();
+    if !are_noted(opened, dispatch, receipts, copies, standing) {
+        return false;
+    }
+    if !are_rows_judged(&evidence.misreports, receipts, copies) {
         return false;
     }
     are_receipted(opened, dispatch, places, receipts, tables)
 }
 
 /// What a run ended with that began behind the first `opened` entries, with so many of its workers in threads.
-/// `alike` says whether what came back is what the history says.
+/// `alike` says whether what came back is what the history says, and `kept` whether the journal holds it.
 pub(crate) fn fault_of(
     opened: usize,
     dispatch: &Dispatch,
     alike: bool,
+    kept: bool,
     threads: usize,
     workers: usize,
 ) -> Option<RunFault>
-    ensures { IsFaultBy alike threads workers (drop opened dispatch.now.history) result }
+    ensures { IsFaultBy alike kept threads workers (drop opened dispatch.now.history) result }
 {
     if !alike {
         return Some(RunFault::Receipts);
+    }
+    if !kept {
+        return Some(RunFault::Journal);
     }
     if threads < workers {
         return Some(RunFault::Thread);

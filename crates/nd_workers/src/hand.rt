@@ -3,7 +3,7 @@
 ghost use Rattle.std.specs.Prelude.{◌≡◌, ◌+◌, ◌<◌, ◌≤◌, [], length, reverse, true, IfErr, OnOk, OnErr};
 ghost use Rattle.nd_ledger.specs.Moves.{IsEndRefused};
 ghost use Rattle.nd_receipts.specs.Made.{is_worker_cause};
-ghost use Rattle.nd_receipts.specs.Noted.{HasNoted, HasNotedWith, HasJudged};
+ghost use Rattle.nd_receipts.specs.Noted.{HasNoted, HasNotedWith, HasJudged, afresh};
 
 use crate::desk::Desk;
 use crate::opened::Opened;
@@ -13,7 +13,7 @@ use nd_leases::Ticket;
 use nd_ledger::{Refusal, Refused};
 use nd_path::PathSet;
 use nd_receipts::notes::Notes;
-use nd_receipts::receipt::{Kind, Receipt};
+use nd_receipts::receipt::{Behind, Kind, Receipt};
 use std::alloc::{AllocError, Global};
 use std::sync::ledger::Share;
 
@@ -67,7 +67,7 @@ impl<L: Opened> Hand<L> {
     ) -> Result<(), Refused<PathSet>>
         requires room { 0 < self.old.notes.room }
         requires copy { copy ≡ Entry.Started ticket.drv paths }
-        ensures ok { OnOk result (HasNoted self.old.notes self.new.notes Kind.Started 2 [] (Entry.Started ticket.drv paths)) }
+        ensures ok { OnOk result (HasNoted self.old.notes self.new.notes Kind.Started (afresh 2 []) (Entry.Started ticket.drv paths)) }
         ensures err { OnErr result (self.new.notes ≡ self.old.notes) }
         ensures back { IfErr result (λ r. r.value ≡ paths) }
     {
@@ -80,6 +80,7 @@ impl<L: Opened> Hand<L> {
                     calls: 2,
                     paths: PathSet::new(alloc),
                     refs: no_refs(alloc),
+                    again: false,
                 };
                 notes.note(receipt, copy);
                 Ok(())
@@ -101,7 +102,7 @@ impl<L: Opened> Hand<L> {
         paths: PathSet,
     ) -> Result<(), Refusal>
         requires room { 0 < self.old.notes.room }
-        ensures ok { OnOk result (HasNoted self.old.notes self.new.notes Kind.Down calls paths (Entry.Down ticket.drv)) }
+        ensures ok { OnOk result (HasNoted self.old.notes self.new.notes Kind.Down (afresh calls paths) (Entry.Down ticket.drv)) }
     {
         let Hand { share, notes } = self;
         match desk.down(ticket, share) {
@@ -112,6 +113,7 @@ impl<L: Opened> Hand<L> {
                     calls,
                     paths,
                     refs: no_refs(alloc),
+                    again: false,
                 };
                 notes.note(receipt, Entry::Down { drv: ticket.drv });
                 Ok(())
@@ -124,7 +126,7 @@ impl<L: Opened> Hand<L> {
     }
 
     /// Ends a build with its outputs, where it may have the references that it reported, and else as a failure
-    /// for them, and notes it.
+    /// for them, and notes it. A refusal hands back what stands behind the entry.
     #[tactic(auto, using(crate::proofs::Going::judgements))]
     pub(crate) fn end(
         &mut self,
@@ -133,21 +135,29 @@ impl<L: Opened> Hand<L> {
         ticket: Ticket,
         refs: Refs,
         copy: Refs,
-    ) -> Result<(), Refusal>
+        behind: Behind,
+    ) -> Result<(), Refused<Behind>>
         requires room { 0 < self.old.notes.room }
         requires copy { copy ≡ refs }
-        ensures ok { OnOk result (HasJudged self.old.notes self.new.notes ticket.drv refs) }
+        ensures ok { OnOk result (HasJudged self.old.notes self.new.notes ticket.drv behind refs) }
         ensures err { OnErr result (self.new.notes ≡ self.old.notes) }
+        ensures back { IfErr result (λ r. r.value ≡ behind) }
     {
         let Hand { share, notes } = self;
         match desk.end(alloc, ticket, refs, share) {
             Ok(index) => {
+                let Behind {
+                    calls,
+                    paths,
+                    again,
+                } = behind;
                 let receipt = Receipt {
                     index,
                     kind: Kind::Built,
-                    calls: 1,
-                    paths: PathSet::new(alloc),
+                    calls,
+                    paths,
                     refs: no_refs(alloc),
+                    again,
                 };
                 let drv = ticket.drv;
                 notes.note(receipt, Entry::Built { drv, refs: copy });
@@ -157,9 +167,9 @@ impl<L: Opened> Hand<L> {
                 if why != Refusal::BadReferences {
                     drop(value);
                     drop(copy);
-                    return Err(why);
+                    return Err(Refused { why, value: behind });
                 }
-                self.misreport(alloc, desk, ticket, value, copy)
+                self.misreport(alloc, desk, ticket, value, copy, behind)
             }
         }
     }
@@ -172,22 +182,30 @@ impl<L: Opened> Hand<L> {
         ticket: Ticket,
         refs: Refs,
         copy: Refs,
-    ) -> Result<(), Refusal>
+        behind: Behind,
+    ) -> Result<(), Refused<Behind>>
         requires room { 0 < self.old.notes.room }
         requires copy { copy ≡ refs }
         requires wrong { IsEndRefused desk.old.dispatch.inputs (reverse desk.old.dispatch.history) ticket refs Refusal.BadReferences }
-        ensures ok { OnOk result (HasNotedWith self.old.notes self.new.notes Kind.Failed 1 [] refs (Entry.Failed ticket.drv Why.BadReferences)) }
+        ensures ok { OnOk result (HasNotedWith self.old.notes self.new.notes Kind.Failed behind refs (Entry.Failed ticket.drv Why.BadReferences)) }
         ensures err { OnErr result (self.new.notes ≡ self.old.notes) }
+        ensures back { IfErr result (λ r. r.value ≡ behind) }
     {
         let Hand { share, notes } = self;
         match desk.misreport(ticket, refs, share) {
             Ok(index) => {
+                let Behind {
+                    calls,
+                    paths,
+                    again,
+                } = behind;
                 let receipt = Receipt {
                     index,
                     kind: Kind::Failed,
-                    calls: 1,
-                    paths: PathSet::new(alloc),
+                    calls,
+                    paths,
                     refs: copy,
+                    again,
                 };
                 let (drv, why) = (ticket.drv, Why::BadReferences);
                 notes.note(receipt, Entry::Failed { drv, why });
@@ -195,7 +213,10 @@ impl<L: Opened> Hand<L> {
             }
             Err(_) => {
                 drop(copy);
-                Err(Refusal::Memory)
+                Err(Refused {
+                    why: Refusal::Memory,
+                    value: behind,
+                })
             }
         }
     }
@@ -207,29 +228,34 @@ impl<L: Opened> Hand<L> {
         desk: &mut Desk<L>,
         ticket: Ticket,
         why: Why,
-        calls: u8,
-        paths: PathSet,
+        behind: Behind,
     ) -> Result<(), Refusal>
         requires room { 0 < self.old.notes.room }
         requires cause { is_worker_cause why ≡ true }
-        ensures ok { OnOk result (HasNoted self.old.notes self.new.notes Kind.Failed calls paths (Entry.Failed ticket.drv why)) }
+        ensures ok { OnOk result (HasNoted self.old.notes self.new.notes Kind.Failed behind (Entry.Failed ticket.drv why)) }
     {
         let Hand { share, notes } = self;
         match desk.fail(ticket, why, share) {
             Ok(index) => {
+                let Behind {
+                    calls,
+                    paths,
+                    again,
+                } = behind;
                 let receipt = Receipt {
                     index,
                     kind: Kind::Failed,
                     calls,
                     paths,
                     refs: no_refs(alloc),
+                    again,
                 };
                 let drv = ticket.drv;
                 notes.note(receipt, Entry::Failed { drv, why });
                 Ok(())
             }
             Err(refusal) => {
-                drop(paths);
+                drop(behind);
                 Err(refusal)
             }
         }

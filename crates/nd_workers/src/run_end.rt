@@ -2,6 +2,7 @@
 
 use crate::seat::Seat;
 use nd_history::Entry;
+use nd_keeping::{Journal, Scribe};
 use nd_ledger::Dispatch;
 use nd_receipts::{Misreports, Receipt};
 use nd_transports::Transport;
@@ -17,8 +18,8 @@ pub enum RunError {
     Memory,
 }
 
-/// What a run may end with: the first of `Receipts`, `Thread` and `Memory` whose cause stands, and none where none
-/// does.
+/// What a run may end with: the first of `Receipts`, `Journal`, `Thread` and `Memory` whose cause stands, and none where
+/// none does.
 #[derive(Clone, Copy, Debug, PartialEq, Eq)]
 pub enum RunFault {
     /// 1: a worker had no thread. A stop is in the history; leases may have failed for want of a worker. The calls
@@ -31,8 +32,14 @@ pub enum RunFault {
     /// 3: what came back of the run isn't what its history says. Something waits or is leased still; or an entry
     /// of a worker's own was refused; or a receipt names another entry than its worker noted, or has other
     /// references than those that were refused; or the receipts aren't the entries that workers made, each of the
-    /// worker on its lease's place; or a worker had no thread, and no stop is in the history.
+    /// worker on its lease's place; or a worker had no thread, or the journal doesn't hold the whole history, and no
+    /// stop is in the history.
     Receipts,
+    /// 4: the run has a journal, and it doesn't hold the whole history: it refused an append or a sync, or its
+    /// scribe had no memory or no thread. A stop is in the history. Nothing was begun behind an entry that isn't
+    /// durable: a lease whose next step waited for one failed for want of a worker. The calls and the receipts are
+    /// as without a fault.
+    Journal,
 }
 
 /// A run that was refused, with what was handed in.
@@ -57,6 +64,8 @@ pub struct Evidence {
     pub refused: bool,
     /// How many of the workers had a thread.
     pub threads: usize,
+    /// Whether the run's journal took the whole history, where it has one; else it is set.
+    pub kept: bool,
 }
 
 /// The end of a run.
@@ -79,3 +88,27 @@ pub type RunEnd = Ran<Box<dyn Transport + Send>>;
 
 /// A refused run with whatever transports.
 pub type Refused = NotRun<Box<dyn Transport + Send>>;
+
+/// The end of a run that keeps its history in a journal.
+#[derive(Drop)]
+pub struct Written<T, J: Journal> {
+    /// The run.
+    pub run: Ran<T>,
+    /// The scribe with the journal.
+    pub scribe: Scribe<J>,
+}
+
+/// A run with a journal that was refused, with what was handed in.
+#[derive(Drop)]
+pub struct NotWritten<T, J: Journal> {
+    /// Why, and the dispatch and the workers.
+    pub run: NotRun<T>,
+    /// The scribe with the journal, of which nothing was changed.
+    pub scribe: Scribe<J>,
+}
+
+/// The end of a run that keeps its history, with whatever transports.
+pub type RunKept<J> = Written<Box<dyn Transport + Send>, J>;
+
+/// A refused run with a journal, with whatever transports.
+pub type RefusedKept<J> = NotWritten<Box<dyn Transport + Send>, J>;

@@ -1,4 +1,5 @@
-//! The threads of a run: one for each worker, started and joined in one scope.
+//! The threads of a run: one for each worker, and one for the scribe where there is a journal, started and joined in
+//! one scope.
 
 ghost use Rattle.std.specs.Prelude.{◌≡◌, ◌+◌, ◌<◌, ◌≤◌, [], ℕ, List, length, vec_len, vec_capacity, sum_by, is_ok, MatchResult};
 ghost use Rattle.std.specs.List.{AllZip};
@@ -6,10 +7,13 @@ ghost use Rattle.nd_workers.specs.AtWork.{IsAtWork, HaveEnded};
 ghost use Rattle.nd_workers.specs.Served.{seat_of, HasServed, HaveServed, receipts_in};
 
 use crate::hand::Hand;
+use crate::keeping::Writing;
 use crate::leasing::Shared;
 use crate::opened::Opened;
+use crate::scribing::{end_all, keep_all, refuse};
 use crate::seat::Seat;
 use crate::working::{Done, End, work};
+use nd_keeping::Journal;
 use nd_receipts::Notes;
 use nd_transports::Transport;
 use std::alloc::Global;
@@ -17,7 +21,7 @@ use std::snapshot::Snapshot;
 use std::sync::Wait;
 use std::sync::ledger::Share;
 use std::thread;
-use std::thread::{Promise, PromisedHandle, Scope, Threads};
+use std::thread::{JoinHandle, Promise, PromisedHandle, Scope, Threads};
 
 /// That a worker's calls are those of its receipts, and that it kept its place.
 #[derive(Drop)]
@@ -200,6 +204,51 @@ pub(crate) struct Ended<L: Opened, T: Transport> {
     pub(crate) stints: Vec<Stint<T>>,
 }
 
+/// The scribe's thread, or the scribe where it has none.
+type Scribing<L, J> = Result<JoinHandle<Writing<L, J>>, Writing<L, J>>;
+
+/// Starts the scribe's thread, where the run keeps its entries. Where it can't be started that is as if the journal
+/// had refused.
+fn start_scribe<'s, E, L: Opened + Send + Sync + 's, J: Journal + Send + Drop + 's, R: Wait + Sync>(
+    scope: &Scope<'s, E>,
+    rt: &'s R,
+    shared: &'s Shared<L>,
+    writing: Writing<L, J>,
+) -> Scribing<L, J> {
+    if !shared.keeps {
+        return Err(writing);
+    }
+    match scope.spawn(move || keep_all(rt, shared, writing)) {
+        Ok(handle) => Ok(handle),
+        Err(refused) => {
+            refuse(rt, shared);
+            Err((refused.value)())
+        }
+    }
+}
+
+/// Joins the scribe's thread, once all workers have ended.
+fn join_scribe<L: Opened, J: Journal + Drop, R: Threads + Wait>(
+    rt: &R,
+    shared: &Shared<L>,
+    scribing: Scribing<L, J>,
+) -> Writing<L, J> {
+    match scribing {
+        Ok(handle) => {
+            end_all(rt, shared);
+            handle.join(rt)
+        }
+        Err(writing) => writing,
+    }
+}
+
+/// What came back of a run's threads: what came back of the workers, and the scribe.
+#[derive(Drop)]
+pub(crate) struct Joined<L: Opened, T: Transport, J: Journal + Drop> {
+    pub(crate) ended: Ended<L, T>,
+    pub(crate) writing: Writing<L, J>,
+}
+
 /// Starts a thread for each worker, and joins them all.
 #[tactic(auto, using(crate::proofs::Zips::zip_through))]
 fn serve_all<'s, E, L: Opened + Send + Sync + 's, T: Transport + 's, R: Threads + Wait + Sync>(
@@ -225,23 +274,52 @@ fn serve_all<'s, E, L: Opened + Send + Sync + 's, T: Transport + 's, R: Threads 
     Ended { all: rest, stints }
 }
 
-/// Starts a thread for each worker in a scope of their own, and joins them all.
-pub(crate) fn in_scope<L: Opened + Send + Sync, T: Transport, R: Threads + Wait + Sync>(
+/// Starts a thread for the scribe and one for each worker, and joins them all, the scribe last.
+fn keep_and_serve<
+    's,
+    E,
+    L: Opened + Send + Sync + 's,
+    T: Transport + 's,
+    J: Journal + Send + Drop + 's,
+    R: Threads + Wait + Sync,
+>(
+    scope: &Scope<'s, E>,
+    rt: &'s R,
+    alloc: Global,
+    shared: &'s Shared<L>,
+    ready: Ready<L, T>,
+    writing: Writing<L, J>,
+) -> Joined<L, T, J>
+    ensures { HaveEnded T.state ready.seats ready.rest.amount result.ended }
+{
+    let scribing = start_scribe(scope, rt, shared, writing);
+    let ended = serve_all(scope, rt, alloc, shared, ready);
+    Joined {
+        ended,
+        writing: join_scribe(rt, shared, scribing),
+    }
+}
+
+/// Starts the threads of a run in a scope of their own, and joins them all.
+pub(crate) fn in_scope<
+    L: Opened + Send + Sync,
+    T: Transport,
+    J: Journal + Send + Drop,
+    R: Threads + Wait + Sync,
+>(
     rt: &R,
     alloc: Global,
     shared: &Shared<L>,
     ready: Ready<L, T>,
-) -> Ended<L, T>
-    ensures parts { result.all.parts ≡ vec_len ready.seats + 1 }
-    ensures count { vec_len result.stints ≡ vec_len ready.seats }
-    ensures amount { result.all.amount ≡ ready.rest.amount + receipts_in result.stints.items }
-    ensures each { HaveServed T.state ready.seats.items result.stints.items }
+    writing: Writing<L, J>,
+) -> Joined<L, T, J>
+    ensures { HaveEnded T.state ready.seats ready.rest.amount result.ended }
 {
     thread::scope(
         thread::scope_env(),
         rt,
-        |scope| -> Ended<L, T>
-            ensures { HaveEnded T.state ready.seats ready.rest.amount result }
-        { serve_all(scope, rt, alloc, shared, ready) },
+        |scope| -> Joined<L, T, J>
+            ensures { HaveEnded T.state ready.seats ready.rest.amount result.ended }
+        { keep_and_serve(scope, rt, alloc, shared, ready, writing) },
     )
 }

@@ -5,9 +5,10 @@ ghost use Rattle.nd_receipts.specs.Noted.{GoesOn, track_of};
 ghost use Rattle.nd_workers.specs.Ends.{EndsWell};
 
 use crate::bells::Bells;
+use crate::calling::Guarded;
 use crate::desk::{Desk, Next, entries_since};
 use crate::hand::Hand;
-use crate::leasing::{Shared, give_up, serve};
+use crate::leasing::{Shared, fail, serve, uncalled};
 use crate::opened::Opened;
 use crate::seat::Seat;
 use nd_history::Why;
@@ -22,7 +23,7 @@ pub(crate) enum End {
     Again,
     /// Nothing is leased or waits any more.
     Finished,
-    /// It found no room for more receipts.
+    /// It found no room for more receipts, or the journal has refused.
     Left,
     /// An entry of its own was refused.
     Refused,
@@ -61,14 +62,14 @@ fn take<L: Opened, R: Wait>(
     let mut desk = shared.desk.lock(rt);
     for _ in rt.forever() {
         match look(alloc, &shared.bells, &mut *desk, machine, slot) {
-            Next::Wait => {}
+            Next::Wait => shared.tell(),
             Next::Finished => {
                 // Those who wait may not know yet.
                 shared.bells.ring_all();
                 return Next::Finished;
             }
-            Next::Serve(job) => return Next::Serve(job),
-            Next::Short(ticket) => return Next::Short(ticket),
+            Next::Serve(job, again) => return Next::Serve(job, again),
+            Next::Short(ticket, again) => return Next::Short(ticket, again),
         }
         desk = shared.bells.of(machine, slot).wait(rt, desk);
     }
@@ -89,20 +90,20 @@ fn turn<L: Opened, T: Transport, R: Wait>(
     alloc: Global,
     shared: &Shared<L>,
     hand: &mut Hand<L>,
-    seat: &mut Seat<T>,
+    transport: &mut Guarded<T>,
+    machine: u32,
+    slot: u32,
 ) -> End
-    ensures goes { EndsWell result (track_of hand.old.notes (T.state seat.old.transport)) (track_of hand.new.notes (T.state seat.new.transport)) }
-    ensures machine { seat.new.machine ≡ seat.old.machine }
-    ensures slot { seat.new.slot ≡ seat.old.slot }
+    ensures { EndsWell result (track_of hand.old.notes transport.old) (track_of hand.new.notes transport.new) }
 {
     if hand.make_room().is_err() {
-        leave(rt, shared, seat.machine, seat.slot);
+        leave(rt, shared, machine, slot);
         return End::Left;
     }
-    let next = take(rt, alloc, shared, seat.machine, seat.slot);
-    let end = attend(rt, alloc, shared, hand, &mut seat.transport, next);
-    if end == End::Refused {
-        leave(rt, shared, seat.machine, seat.slot);
+    let next = take(rt, alloc, shared, machine, slot);
+    let end = attend(rt, alloc, shared, hand, transport, next);
+    if end == End::Refused || end == End::Left {
+        leave(rt, shared, machine, slot);
     }
     end
 }
@@ -114,20 +115,22 @@ fn attend<L: Opened, T: Transport, R: Wait>(
     alloc: Global,
     shared: &Shared<L>,
     hand: &mut Hand<L>,
-    transport: &mut T,
+    transport: &mut Guarded<T>,
     next: Next,
 ) -> End
     requires { 1 < hand.old.notes.room }
-    ensures { EndsWell result (track_of hand.old.notes (T.state transport.old)) (track_of hand.new.notes (T.state transport.new)) }
+    ensures { EndsWell result (track_of hand.old.notes transport.old) (track_of hand.new.notes transport.new) }
 {
     match next {
         Next::Finished => End::Finished,
-        Next::Serve(job) => match serve(rt, alloc, shared, hand, transport, job) {
-            Ok(()) => End::Again,
+        Next::Serve(job, again) => match serve(rt, alloc, shared, hand, transport, job, again) {
+            Ok(true) => End::Again,
+            Ok(false) => End::Left,
             Err(_) => End::Refused,
         },
-        Next::Short(ticket) => {
-            match give_up(rt, alloc, shared, hand, ticket, Why::Memory, 0) {
+        Next::Short(ticket, again) => {
+            let behind = uncalled(alloc, again);
+            match fail(rt, alloc, shared, hand, ticket, Why::Memory, behind) {
                 Ok(()) => End::Again,
                 Err(_) => End::Refused,
             }
@@ -137,7 +140,6 @@ fn attend<L: Opened, T: Transport, R: Wait>(
 }
 
 /// Serves the leases of a place until nothing is leased or waits any more.
-#[tactic(auto, using(crate::proofs::Going::goes_nowhere, crate::proofs::Going::goes_further))]
 pub(crate) fn work<L: Opened, T: Transport, R: Wait>(
     rt: &R,
     alloc: Global,
@@ -149,12 +151,42 @@ pub(crate) fn work<L: Opened, T: Transport, R: Wait>(
     ensures machine { result.seat.machine ≡ seat.machine }
     ensures slot { result.seat.slot ≡ seat.slot }
 {
+    let Seat {
+        machine,
+        slot,
+        transport,
+    } = seat;
     let mut hand = hand;
-    let mut seat = seat;
+    let mut guarded = Guarded::new(transport);
+    let end = work_on(rt, alloc, shared, &mut hand, &mut guarded, machine, slot);
+    Done {
+        seat: Seat {
+            machine,
+            slot,
+            transport: guarded.into_inner(),
+        },
+        hand,
+        end,
+    }
+}
+
+/// Serves the leases of a place through a guarded transport, until nothing is leased or waits any more.
+#[tactic(auto, using(crate::proofs::Going::goes_nowhere, crate::proofs::Going::goes_further))]
+fn work_on<L: Opened, T: Transport, R: Wait>(
+    rt: &R,
+    alloc: Global,
+    shared: &Shared<L>,
+    hand: &mut Hand<L>,
+    transport: &mut Guarded<T>,
+    machine: u32,
+    slot: u32,
+) -> End
+    ensures { EndsWell result (track_of hand.old.notes transport.old) (track_of hand.new.notes transport.new) }
+{
     'serving: for _ in rt.forever() {
-        let end = turn(rt, alloc, shared, &mut hand, &mut seat);
+        let end = turn(rt, alloc, shared, hand, transport, machine, slot);
         if end != End::Again {
-            return Done { seat, hand, end };
+            return end;
         }
     }
     unreachable!()

@@ -1,7 +1,8 @@
 //! The journal of a session in a file.
 
 use nd_explain::Heard;
-use nd_serve_command::{Journal, JournalFailure, ServeFault};
+use nd_keeping::Journal;
+use nd_serve_command::{JournalFailure, ServeFault};
 use std::alloc::Global;
 use std::fs::{self, File, OpenFile, OpenOptions};
 use std::io::{self, ErrorKind, Read, Write};

@@ -11,7 +11,7 @@ returns-in-Some-clause-dealt c = λ yes. deals_made c.args.places.now (map (λ (
     (slice_get_read c.args.tables.now.choices.items (length c.args.tables.now.choices.items) c.in-Some.drv c.in-Some-get.worker.now refl (search rules) (search rules))
     (slice_get_read c.args.places.now (length c.args.places.now) c.in-Some-get.worker.now c.in-Some-get-2._place.now refl (search rules) (search rules))
     (search rules)
-    (c.follow.ensures.follows yes)
+    c.follow.ensures.follows
     (c.follow.ensures.placed yes)
 
 pub returns-in-Some-clause-on : goal.returns-in-Some-clause-on
@@ -20,10 +20,10 @@ returns-in-Some-clause-on c = λ yes. dealt_on_made c.args.places.now (map (λ (
     (slice_get_read c.args.tables.now.choices.items (length c.args.tables.now.choices.items) c.in-Some.drv c.in-Some-get.worker.now refl (search rules) (search rules))
     (slice_get_read c.args.places.now (length c.args.places.now) c.in-Some-get.worker.now c.in-Some-get-2._place.now refl (search rules) (search rules))
     (c.meet.ensures.met (search rules))
-    (c.follow.ensures.tracks yes)
+    c.follow.ensures.tracks
 
 pub returns-clause-on : goal.returns-clause-on
-returns-clause-on c = λ yes. dealt_on_other c.args.places.now (map (λ (v : Vec Receipt Global). v.items) c.args.rows.now) c.args.index c.args.entry.now c.args.tables.now.choices.items c.follow-2.new.choices.items c.args.tables.now.met.items (search rules) (c.follow-2.ensures.tracks yes)
+returns-clause-on c = λ yes. dealt_on_other c.args.places.now (map (λ (v : Vec Receipt Global). v.items) c.args.rows.now) c.args.index c.args.entry.now c.args.tables.now.choices.items c.follow-2.new.choices.items c.args.tables.now.met.items (search rules) c.follow-2.ensures.tracks
 
 pub returns-then-not-meet-clause-undealt : goal.returns-then-not-meet-clause-undealt
 returns-then-not-meet-clause-undealt c = λ no. undealt_unmet c.args.places.now (map (λ (v : Vec Receipt Global). v.items) c.args.rows.now) c.args.index c.args.entry.now c.args.tables.now.choices.items c.args.tables.now.met.items c.in-Some.drv c.in-Some-get.worker.now c.in-Some.kind c.in-Some-get-2._place.now

@@ -7,7 +7,7 @@ pub returns-in-Ok-clause-fault : goal.returns-in-Ok-clause-fault
 returns-in-Ok-clause-fault g c =
     let end = c.in-Ok.end in
     let told = c.write_and_answer-answer in
-    let back = came_back c.args.dispatch end.dispatch end.fault told.ensures.legal c.in-Ok.ensures.runs c.in-Ok.ensures.goes_on c.in-Ok.ensures.quiet c.in-Ok.ensures.thread c.in-Ok.ensures.memory in
+    let back = came_back c.args.dispatch end.dispatch end.fault told.ensures.legal c.in-Ok.ensures.runs c.in-Ok.ensures.goes_on c.in-Ok.ensures.quiet c.in-Ok.ensures.thread c.in-Ok.ensures.memory c.in-Ok.ensures.unkept in
     IfErr-weaker told.result _ _
     (λ e h. run_fault c.args.dispatch end.dispatch end.fault (vec_len c.args.workers) c.args.report g.W.Write.contents c.args.output.now told.new.output e back h)
     told.ensures.fault
@@ -21,7 +21,7 @@ pub returns-in-Ok-clause-answer : goal.returns-in-Ok-clause-answer
 returns-in-Ok-clause-answer g c =
     let end = c.in-Ok.end in
     let told = c.write_and_answer-answer in
-    let back = came_back c.args.dispatch end.dispatch end.fault told.ensures.legal c.in-Ok.ensures.runs c.in-Ok.ensures.goes_on c.in-Ok.ensures.quiet c.in-Ok.ensures.thread c.in-Ok.ensures.memory in
+    let back = came_back c.args.dispatch end.dispatch end.fault told.ensures.legal c.in-Ok.ensures.runs c.in-Ok.ensures.goes_on c.in-Ok.ensures.quiet c.in-Ok.ensures.thread c.in-Ok.ensures.memory c.in-Ok.ensures.unkept in
     IfOk-weaker told.result _ _
     (λ status h. runs_to c.args.dispatch end.dispatch end.fault c.args.report status (g.W.Write.contents c.args.output.now.device) (g.W.Write.contents told.new.output.device) back h)
     told.ensures.answer

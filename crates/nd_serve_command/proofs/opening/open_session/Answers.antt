@@ -2,7 +2,7 @@ use Rattle.std.proofs.Common.{◌≡◌, ◌∙◌, sym, subst}
 use Rattle.nd_history.specs.Premises.{Premises}
 use Rattle.nd_resume.specs.Resumes.{IsResumable}
 use Rattle.nd_serve_command.specs.Sessions.{IsNoRefusal}
-use Rattle.nd_serve_command.proofs.Begun.{same_world, journal_begun}
+use Rattle.nd_serve_command.proofs.Begun.{same_world, session_begun}
 use Rattle.nd_serve_command.proofs.opening.open_session.Goals as goal
 
 pub returns-in-Err-clause-exactly : goal.returns-in-Err-clause-exactly
@@ -23,7 +23,8 @@ returns-in-Err-take_journal-clause-exactly g c = λ text world known accepts.
     subst (λ (i : Premises). IsResumable i c.args.journal.now world.history) (sym made) accepts.history in
     subst IsNoRefusal (sym (c.in-Err-take_journal.ensures.exactly world.history accepts.may here)) tt
 
-pub returns-in-Ok-take_journal-clause-begun : goal.returns-in-Ok-take_journal-clause-begun
-returns-in-Ok-take_journal-clause-begun g c =
-    journal_begun c.in-Ok.dispatch.inputs c.in-Ok-take_journal.opened.dispatch.inputs c.args.journal.now c.in-Ok-take_journal.opened.dispatch.history
-    c.in-Ok-take_journal.opened.kept c.in-Ok-take_journal.ensures.inputs c.in-Ok-take_journal.ensures.history c.in-Ok-take_journal.ensures.kept
+pub returns-in-Ok-take_journal-clause-opened : goal.returns-in-Ok-take_journal-clause-opened
+returns-in-Ok-take_journal-clause-opened g c =
+    session_begun c.args.options.now c.args.journal.now c.args.resumes (g.R.Read.remaining c.args.input.now.device) (g.R.Read.remaining c.read_dispatch.new.input.device)
+    c.in-Ok.dispatch.inputs c.in-Ok-take_journal.opened.dispatch c.in-Ok.ensures.read c.in-Ok-take_journal.ensures.inputs c.in-Ok-take_journal.ensures.may
+    c.in-Ok-take_journal.ensures.history

@@ -5,5 +5,5 @@ use Rattle.nd_workers.proofs.leasing.fetch_lease.Goals as goal
 pub returns-in_ok-down-in-Refused-clause-goes : goal.returns-in_ok-down-in-Refused-clause-goes
 returns-in_ok-down-in-Refused-clause-goes g c =
     goes_away c.args.hand.now.notes c.down.new.hand.notes c.args.job.ticket.drv c.in-Refused.calls c.args.job.paths c.copied_paths-kept.result
-    (g.T.Transport.state c.args.transport.now) (g.T.Transport.state c.serve_copy-fetched.new.transport)
+    c.args.transport.now c.fetch-fetched.new.self
     c.in-Refused.ensures (λ two. c.copied_paths-kept.ensures two ∙ c.into_paths-paths.ensures) c.in_ok-down-in-Refused.ensures.ok

@@ -1,0 +1,3 @@
+pub mod Beginnings
+pub mod Entering
+pub mod Taken

@@ -1,0 +1,4 @@
+pub mod Stored
+pub mod Listing
+pub mod Counting
+pub mod Scribing

@@ -1,0 +1,87 @@
+-- What a scribe has: the entries that were handed to a run's journal, those of them that are durable there, and the text of the others.
+-- Histories stand oldest first.
+-- Public clauses cite this, but for `opening_of`, which serves a private one.
+use Rattle.std.specs.Prelude.{◌≡◌, ◌⊎◌, ℕ, Bool, true, false, List, [], ◌∷◌, ◌++◌, length, Option, Some, None}
+use Rattle.std.specs.List.{All, flat_map}
+use Rattle.nd_history.specs.declared.entry.Entry.{Entry}
+use Rattle.nd_history_text.specs.HistoryTexts.{line_of, first_line, history_text}
+use Rattle.nd_history_text.specs.Sound.{IsSound}
+use Rattle.nd_history_text.specs.declared.kinds.Version.TheVariants.{Second}
+use Rattle.nd_keeping.specs.Stored.{Stored}
+use Rattle.nd_keeping.specs.Listing.{Listed}
+
+pub record Scribing : Type 0 where
+  pub stored : Option Stored  -- what the journal holds, where it says that
+  pub handed : Listed  -- the entries that were handed to it
+  pub kept : Listed  -- those of them that are durable
+  pub text : List ℕ  -- what is to be appended for the others
+  pub begun : Bool  -- whether the journal has its first line
+  pub refused : Bool  -- whether it refused an append or a sync
+
+-- the text of a journal that has these entries: nothing, before it has its first line
+abbrev pub journal_text : Bool → List Entry → List ℕ
+journal_text false entries = []
+journal_text true entries = history_text Second entries
+
+-- the line that a journal begins with, where these are the first bytes that it gets
+abbrev pub opening_of : Bool → List ℕ
+opening_of true = first_line Second
+opening_of false = []
+
+-- what is to be appended for these entries: a line for each, behind the first line of a journal that has none yet. Nothing for no entries
+abbrev pub lines_behind : Bool → List Entry → List ℕ
+lines_behind begun [] = []
+lines_behind false (e ∷ later) = first_line Second ++ flat_map line_of (e ∷ later)
+lines_behind true (e ∷ later) = flat_map line_of (e ∷ later)
+
+-- the journal holds this text, durable, where it says what it holds
+abbrev pub HoldsDurably : Option Stored → List ℕ → Type 0
+HoldsDurably None text = Unit {0}
+HoldsDurably (Some stored) text = stored ≡ record { bytes = text; durable = length text }
+
+-- this text stands behind what the journal held, and all of it is durable, where it says what it holds
+abbrev pub HoldsMore : Option Stored → Option Stored → List ℕ → Type 0
+HoldsMore None new text = new ≡ None
+HoldsMore (Some old) new text = new ≡ Some (record { bytes = old.bytes ++ text; durable = length (old.bytes ++ text) })
+
+-- The kept entries begin the handed ones. Their text is what the journal holds, durable, unless it refused a call; that of the others waits.
+-- Each entry reads back from its line.
+pub record IsScribing (s : Scribing) : Type 0 where
+  pub book : s.kept.book ≡ s.handed.book
+  pub later : List Entry
+  pub whole : s.handed.entries ≡ s.kept.entries ++ later
+  pub sound : All IsSound s.handed.entries
+  pub unbegun : s.begun ≡ false → s.kept.entries ≡ []
+  pub waits : s.text ≡ lines_behind s.begun later
+  pub durable : s.refused ≡ false → HoldsDurably s.stored (journal_text s.begun s.kept.entries)
+
+-- the scribe of a journal that holds the text of these entries, and to which no more were handed
+pub record BeginsScribing (s : Scribing) (held : Option Stored) (is_begun : Bool) (entries : List Entry) : Type 0 where
+  pub stored : s.stored ≡ held
+  pub handed : s.handed.entries ≡ entries
+  pub kept : s.kept ≡ s.handed
+  pub text : s.text ≡ []
+  pub begun : s.begun ≡ is_begun
+  pub refused : s.refused ≡ false
+
+-- these entries are handed now; what is kept and what the journal holds is as it was
+pub record HasTaken (old new : Scribing) (entries : List Entry) : Type 0 where
+  pub handed : new.handed ≡ record { book = old.handed.book; entries = entries }
+  pub others : new ≡ record old { handed = new.handed; text = new.text }
+
+-- all that was handed is kept, and nothing waits; the journal got the text that waited
+pub record HasKept (old new : Scribing) : Type 0 where
+  pub live : old.refused ≡ false
+  pub kept : new.kept ≡ old.handed
+  pub text : new.text ≡ []
+  pub journal : HoldsMore old.stored new.stored old.text
+  pub others : new ≡ record old { stored = new.stored; kept = new.kept; text = new.text; begun = new.begun }
+
+-- the journal refused, now or before, and of what it holds nothing is known; all else is as it was
+pub record HasRefused (old new : Scribing) : Type 0 where
+  pub refused : new.refused ≡ true
+  pub others : new ≡ record old { stored = new.stored; refused = new.refused }
+
+-- there is nothing to do: the journal refused before, or all that was handed is kept
+abbrev pub IsIdle : Scribing → Type 0
+IsIdle s = (s.refused ≡ true) ⊎ (s.kept ≡ s.handed)

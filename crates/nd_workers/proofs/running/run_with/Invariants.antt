@@ -1,7 +1,0 @@
-use Rattle.nd_workers.proofs.running.run_with.Given as goal
-
-abbrev pub ghosts-run_named-L-Ledger : goal.ghosts-run_named-L-Ledger
-ghosts-run_named-L-Ledger g a = record { name = a.blank.name; parts = a.blank.parts }
-
-abbrev pub ghosts-run_named-L-Opened : goal.ghosts-run_named-L-Opened
-ghosts-run_named-L-Opened g a = record { opening = a.dispatch }
