@@ -129,33 +129,46 @@ killed_all() {
   did="kill -9 of everything, at the first build, in the middle, and twice: the same command goes on, and no build that had ended is done again"
 }
 
+# The processes of this case's builder that takes a while.
+building() {
+  for one in $(grep -l -s -e '[e]cho a line; sleep 10' /proc/[0-9]*/cmdline); do
+    one=${one%/cmdline}
+    ! grep -q -s -e "slow-$salt" "$one/environ" || echo "${one#/proc/}"
+  done
+}
+
 # 7: the scripts and the program are killed, and what the agents had begun goes on: it isn't built a second time
 killed_half() {
-  machine one 1 > "$folder/builders"
-  salt=half
-  root=$(drv slow)
-  begin half --jobs 0 "$root"
-  soon 300 logged ' begin '
-  soon 100 serving
-  sleep 2
-  # shellcheck disable=SC2046  # process numbers
-  kill -9 "$builder" $(below_with "$builder" "$farm/watch") $(below_with "$builder" 'run --agents') $(below_with "$builder" "$farm/agent")
-  wait "$builder" 2> /dev/null
-  want 'what an agent had begun is gone' realising
-  mark half
-  : > "$folder/half.builders"
-  while :; do
-    for one in $(below_with "$(cat "$folder/sshd.pid")" ' echo a line; sleep 10'); do echo "$one"; done
-    sleep 0.2
-  done >> "$folder/half.builders" &
-  looking=$!
-  build half --jobs 0 "$root"
-  kill "$looking"
-  want "status $status" is "$status" 0
-  sound half 2
-  gone_on 'behind the kill'
-  want "it is built $(sort -u "$folder/half.builders" | wc -l) times" is "$(sort -u "$folder/half.builders" | wc -l)" 1
-  did="kill -9 of the scripts and the program alone: the build that goes on is waited for, and isn't done twice"
+  for where in there here; do
+    salt=half$where
+    jobs=0
+    machine one 1 > "$folder/builders"
+    if [ "$where" = here ]; then : > "$folder/builders"; jobs=1; fi
+    root=$(drv slow)
+    begin "half$where" --jobs "$jobs" "$root"
+    soon 300 logged ' begin '
+    is_building() { [ -n "$(building)" ]; }
+    soon 100 is_building
+    sleep 1
+    # shellcheck disable=SC2046  # process numbers
+    kill -9 "$builder" $(below_with "$builder" "$farm/watch") $(below_with "$builder" 'run --agents') $(below_with "$builder" "$farm/agent")
+    wait "$builder" 2> /dev/null
+    want "$where: what an agent had begun is gone" realising
+    mark "half$where"
+    while :; do
+      building
+      sleep 0.2
+    done > "$folder/half$where.building" &
+    looking=$!
+    build "half$where" --jobs "$jobs" "$root"
+    kill "$looking"
+    want "$where: status $status" is "$status" 0
+    sound "half$where" 2
+    gone_on "$where"
+    times=$(sort -u "$folder/half$where.building" | wc -l)
+    want "$where: it is built $times times" is "$times" 1
+  done
+  did="kill -9 of the scripts and the program alone: the build that goes on, on a machine or here, is waited for and isn't done twice"
 }
 
 # 7: the same in the second round, whose first one has lost something
