@@ -10,7 +10,8 @@ use std::io;
 pub struct MemoryJournal {
     /// What it holds.
     pub bytes: Vec<u8>,
-    durable: usize,
+    /// How many bytes of that are durable.
+    pub durable: usize,
     grants: usize,
 }
 

@@ -1,6 +1,6 @@
 //! A run with a journal in memory.
 
-ghost use Rattle.std.specs.Prelude.{◌≡◌, ◌==◌, [], not, map};
+ghost use Rattle.std.specs.Prelude.{◌≡◌, ◌==◌, Some, [], not, map};
 ghost use Rattle.nd_keeping.specs.Scribing.{HoldsDurably, journal_text};
 ghost use Rattle.nd_workers.specs.Runs.{AreManned};
 
@@ -86,7 +86,7 @@ fn seat<R: Threads + Wait + Sync>(
     rules: Vec<Rule>,
     journal: MemoryJournal,
 ) -> Option<Seen>
-    requires held { HoldsDurably (MemoryJournal.stored journal) (journal_text (not (opened.kept == 0)) opened.dispatch.history) }
+    requires held { HoldsDurably (Some (record { bytes = journal.bytes.items; durable = journal.durable })) (journal_text (not (opened.kept == 0)) opened.dispatch.history) }
 {
     match stand_ins(alloc, &opened.dispatch, rules) {
         Ok(seats) => run_seated(rt, alloc, opened, seats, journal),
@@ -106,7 +106,7 @@ fn run_seated<R: Threads + Wait + Sync>(
     journal: MemoryJournal,
 ) -> Option<Seen>
     requires seated { AreManned opened.dispatch.inputs (map (λ w. (w.machine, w.slot)) seats.items) }
-    requires held { HoldsDurably (MemoryJournal.stored journal) (journal_text (not (opened.kept == 0)) opened.dispatch.history) }
+    requires held { HoldsDurably (Some (record { bytes = journal.bytes.items; durable = journal.durable })) (journal_text (not (opened.kept == 0)) opened.dispatch.history) }
 {
     let mut workers = Vec::new(alloc);
     for seat in seats {
@@ -139,7 +139,7 @@ fn run_workers<R: Threads + Wait + Sync>(
     journal: MemoryJournal,
 ) -> Option<Seen>
     requires manned { AreManned opened.dispatch.inputs (map (λ w. (w.machine, w.slot)) workers.items) }
-    requires held { HoldsDurably (MemoryJournal.stored journal) (journal_text (not (opened.kept == 0)) opened.dispatch.history) }
+    requires held { HoldsDurably (Some (record { bytes = journal.bytes.items; durable = journal.durable })) (journal_text (not (opened.kept == 0)) opened.dispatch.history) }
 {
     let mut output = Told::new(Vec::new(alloc));
     let KeptEnd { answer, journal } = run_kept_engine(
