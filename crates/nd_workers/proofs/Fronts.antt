@@ -1,7 +1,7 @@
 -- Lemmas on the first entries of a history, which stay so while it grows.
-use Rattle.std.proofs.Common.{◌≡◌, ℕ, zero, suc, ◌+◌, ◌<◌, ◌≤◌, Bool, true, false, List, [], ◌∷◌, ◌++◌, length, take, drop, reverse, Some, slice_get, refl, sym, ap, ◌∙◌, subst, arith, length-append}
+use Rattle.std.proofs.Common.{◌≡◌, ℕ, zero, suc, ◌<◌, ◌≤◌, Bool, true, false, List, [], ◌∷◌, ◌++◌, length, take, drop, reverse, Some, slice_get, refl, sym, ap, ◌∙◌, subst, arith}
 use Rattle.std.proofs.Math.Seq.{take-length, take-append_seam}
-use Rattle.std.proofs.lemmas.List.{take-append-le, length-take, take-append-drop}
+use Rattle.std.proofs.lemmas.List.{take-append-le, take-append-drop}
 use Rattle.nd_history.specs.declared.entry.Entry.{Entry}
 use Rattle.nd_history.specs.Premises.{Premises}
 use Rattle.nd_history.specs.Pumping.{HasPumped}
@@ -13,7 +13,7 @@ use Rattle.nd_history.specs.declared.entry.Entry.TheVariants.{Chosen, Started}
 use Rattle.nd_leases.specs.declared.ticket.Ticket.{Ticket}
 use Rattle.nd_workers.specs.declared.keeping.Step.{Step}
 use Rattle.nd_workers.specs.declared.keeping.Step.TheVariants.{Call, Build}
-use Rattle.nd_workers.specs.Leaves.{IsFrontOf, IsDurableAt, Allows}
+use Rattle.nd_workers.specs.Leaves.{IsFrontOf, Allows}
 use Rattle.nd_workers.specs.Written.{IsWritten, IsWrittenWhole}
 
 take_within : {X : Type 0} (n : ℕ) (xs : List X) → length (take n xs) ≤ length xs

@@ -1,6 +1,6 @@
 -- What is durable of a run's history, and leave to call a transport. The public clauses of a run cite `IsFrontOf`; the others serve the
 -- clauses between a worker's wait and its transport. The histories of these definitions stand oldest first. This project's own choice.
-use Rattle.std.specs.Prelude.{◌≡◌, ℕ, Bool, true, false, List, length, take, Some, slice_get}
+use Rattle.std.specs.Prelude.{◌≡◌, ℕ, Bool, true, List, length, take, Some, slice_get}
 use Rattle.logbook.specs.Pages.{Book}
 use Rattle.nd_history.specs.declared.entry.Entry.{Entry}
 use Rattle.nd_history.specs.declared.entry.Entry.TheVariants.{Chosen, Started}

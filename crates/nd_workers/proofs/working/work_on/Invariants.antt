@@ -1,4 +1,3 @@
-use Rattle.std.proofs.Common.{◌≡◌}
 use Rattle.nd_receipts.specs.Noted.{GoesOn, track}
 use Rattle.nd_workers.proofs.working.work_on.Given as goal
 
