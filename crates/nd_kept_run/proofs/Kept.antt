@@ -1,5 +1,5 @@
 -- How a run with a journal ended, from the clauses of `run_kept`, and what is known of it once it was written of.
-use Rattle.std.proofs.Common.{◌≡◌, ◌∙◌, ◌==◌, not, ℕ, ◌<◌, ◌≤◌, Bool, true, false, List, [], ◌∷◌, length, take, Option, Some, None, Vec, refl, sym, ap, subst, inl, inr, arith, eqb-true}
+use Rattle.std.proofs.Common.{◌≡◌, ◌∙◌, ◌==◌, not, ℕ, ◌<◌, Bool, true, false, List, [], ◌∷◌, length, take, Option, Some, None, Vec, refl, sym, ap, subst, inl, inr, arith, eqb-true}
 use Rattle.nd_cli.specs.declared.fault.CliFault.{CliFault}
 use Rattle.nd_cli.specs.declared.fault.CliFault.TheVariants.{Derivation, Drvs, Builders, Info, Script, Stand, History, TooLarge, TooManySlots, Read, Write, Memory, Thread, Receipts}
 use Rattle.nd_devices.specs.Watched.{Watched}
@@ -20,7 +20,7 @@ use Rattle.nd_workers.specs.declared.run_end.RunError.{RunError}
 use Rattle.nd_workers.specs.declared.run_end.RunError.TheVariants.{Slots, TooManySlots as TooManyWorkers, Memory as NoRoom}
 use Rattle.nd_workers.specs.declared.run_end.RunFault.{RunFault}
 use Rattle.nd_workers.specs.declared.run_end.RunFault.TheVariants.{Thread as NoThread, Memory as NoMemory, Receipts as OtherReceipts, Journal as NoJournal}
-use Rattle.nd_kept_run.specs.KeptRuns.{HoldsHistory, HoldsRun, CameBackKept, RunsKept, EndsKeptFaulty, EndsKeptTorn, IsKeptFault, IsUnrun, IsEndFault}
+use Rattle.nd_kept_run.specs.KeptRuns.{HoldsHistory, HoldsRun, CameBackKept, RunsKept, EndsKeptFaulty, IsKeptFault, IsEndFault}
 
 -- ---- how it begins
 

@@ -1,8 +1,7 @@
 -- A run with a journal, by what is written of it and by what its journal holds then. The contract of `run_kept_engine` cites `RunsKept` and
 -- `IsKeptFault`, and with them all that stands before these two; what stands behind them serves the contracts of the functions that
 -- `run_kept_engine` is made of.
-use Rattle.std.specs.Prelude.{◌≡◌, ◌⊎◌, ℕ, ◌<◌, Bool, true, false, List, [], Option, Some, None}
-use Rattle.nd_cli.specs.declared.fault.CliFault.{CliFault}
+use Rattle.std.specs.Prelude.{◌≡◌, ◌⊎◌, ℕ, ◌<◌, Bool, false, List, [], Option, Some, None}
 use Rattle.nd_cli.specs.declared.fault.CliFault.TheVariants.{Derivation, Drvs, Builders, Info, Script, Stand, History, TooLarge, TooManySlots, Read, Write, Memory, Thread, Receipts}
 use Rattle.nd_devices.specs.Watched.{Watched}
 use Rattle.nd_history.specs.declared.entry.Entry.{Entry}
@@ -13,8 +12,6 @@ use Rattle.nd_run_command.specs.Ended.{WritesEnd, WritesEndPart, IsStatusOf}
 use Rattle.nd_run_command.specs.Ran.{CameBack, EndsWith}
 use Rattle.nd_serve_command.specs.declared.fault.ServeFault.{ServeFault}
 use Rattle.nd_serve_command.specs.declared.fault.ServeFault.TheVariants.{Cli, NotEmpty, InUse, Journal, JournalFailed}
-use Rattle.nd_workers.specs.declared.run_end.RunError.{RunError}
-use Rattle.nd_workers.specs.declared.run_end.RunError.TheVariants.{Slots, TooManySlots as TooManyWorkers, Memory as NoRoom}
 use Rattle.nd_workers.specs.declared.run_end.RunFault.{RunFault}
 use Rattle.nd_workers.specs.declared.run_end.RunFault.TheVariants.{Thread as NoThread, Memory as NoMemory, Receipts as OtherReceipts, Journal as NoJournal}
 
