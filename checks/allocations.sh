@@ -36,6 +36,14 @@ is_left() {
   esac
 }
 
+# Whether this is what it says then. Want of memory for the bytes of a journal is a read of it that was refused.
+is_told() {
+  case $1,$(cat "$work/err") in
+    *,'nix-dispatch: out of memory' | report,'nix-dispatch: journal failed') ;;
+    *) return 1 ;;
+  esac
+}
+
 sweep() {
   input=$1
   shift
@@ -49,7 +57,7 @@ sweep() {
     rm -f "$work/journal"
     REFUSE=$number LD_PRELOAD="$work/refuse.so" "$program" "$@" < "$input" > "$work/out" 2> "$work/err"
     status=$?
-    if [ "$status" -eq 5 ] && is_left "$1" && [ "$(cat "$work/err")" = 'nix-dispatch: out of memory' ]; then
+    if [ "$status" -eq 5 ] && is_left "$1" && is_told "$1"; then
       refused=$((refused + 1))
     elif [ "$status" -eq "$wanted" ] && cmp -s "$work/out" "$work/ample"; then
       [ "$number" -gt $((last + 50)) ] && break
@@ -108,17 +116,17 @@ sweep_runs() {
     end=$?.$(run_verdict)
     case $end in
       [015].'legal '*) ;;
-      *) echo "run $*: allocation $number refused: status and verdict $end"; exit 1 ;;
+      *) echo "run${1:+ $1}: allocation $number refused: status and verdict $end"; exit 1 ;;
     esac
-    run_goes_on || { echo "run $*: allocation $number refused: its journal isn't gone on from: $(cat "$work/resumed")"; exit 1; }
+    run_goes_on || { echo "run${1:+ $1}: allocation $number refused: its journal isn't gone on from: $(cat "$work/resumed")"; exit 1; }
     [ "$end" = "$ample" ] || { refused=$((refused + 1)); last=$number; }
     number=$((number + 1))
   done
   if [ "$refused" -eq 0 ] || [ "$number" -gt 5000 ]; then
-    echo "run $*: $refused runs were not the ample one, of $number"
+    echo "run${1:+ $1}: $refused runs were not the ample one, of $number"
     exit 1
   fi
-  echo "run $*: $refused runs were not the ample one, the last at allocation $last, and each history is legal"
+  echo "run${1:+ $1}: $refused runs were not the ample one, the last at allocation $last, and each history is legal"
 }
 sweep_runs
 sweep_runs --journal "$work/journal"

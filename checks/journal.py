@@ -34,6 +34,8 @@ import bench  # noqa: E402
 
 FIRST_LINE = b"nix-dispatch-history 2\n"
 ENDS = ("built", "failed", "down")
+# how many runs are killed
+RUNS = 200
 
 
 def fail(text):
@@ -238,7 +240,7 @@ def library(folder):
 # Killed, and gone on from
 
 
-def kill_and_go_on(case, rng, seconds, kills, what):
+def kill_and_go_on(case, rng, seconds, kills, what, **surroundings):
     """A run that is killed so often at most, and gone on from up to its end: how often it was killed, and its
     report."""
     case.forget()
@@ -247,7 +249,8 @@ def kill_and_go_on(case, rng, seconds, kills, what):
     resume = []
     while True:
         last = killed == kills
-        status, out, said = case.run("--report", *resume, killed_after=None if last else rng.uniform(0, seconds * 1.1))
+        after = None if last else rng.uniform(0, seconds)
+        status, out, said = case.run("--report", *resume, killed_after=after, **surroundings)
         if status not in (0, 1, -9) or said:
             fail(f"{what}: status {status}, {said}")
         held = case.whole()
@@ -269,27 +272,30 @@ def kill_and_go_on(case, rng, seconds, kills, what):
 
 
 def killed(folder):
-    """200 runs with stand-ins, and 20 with agents."""
+    """Runs with stand-ins, and a tenth as many with agents."""
     rng = random.Random(20_261)
     nodes = layered(1_000, 100)
     rules = "".join(f"fail {drv} 3\n" for drv in (217, 430)) + "lose 555\n"
     rules += "".join(f"built {drv} o {nodes[drv].output}\n" for drv in range(0, 1_000, 7) if drv not in (217, 430, 555))
     case = Case(folder, nodes, 64, rules, options=["--keep-going"])
-    status, out, said = case.run("--report")
+    # stand-ins take no time, so a sync does
+    slowly = {"LD_PRELOAD": library(folder), "SYNC_MS": "2"}
+    status, out, said = case.run("--report", **slowly)
     seconds = case.seconds
     if status != 1 or said:
         fail(f"killed: a run that isn't killed ends with status {status}, {said}")
     whole = statuses(out.decode())
-    kills, sizes = 0, []
-    for turn in range(200):
-        times, report = kill_and_go_on(case, rng, seconds, 1 + turn % 4, f"killed, run {turn}")
+    kills = often = 0
+    for turn in range(RUNS):
+        times, report = kill_and_go_on(case, rng, seconds, 1 + turn % 4, f"killed, run {turn}", **slowly)
         if statuses(report) != whole:
             fail(f"killed, run {turn}: it ends otherwise than one that isn't killed")
         kills += times
-        sizes.append(times)
-    if kills < 100:
-        fail(f"killed: only {kills} runs were killed before their end")
-    print(f"killed: 200 runs of 1,000 derivations on 64 slots, killed {kills} times: each journal legal, and gone on from")
+        often += times > 1
+    if kills < RUNS:
+        fail(f"killed: only {kills} times before its end")
+    print(f"killed: {RUNS} runs of 1,000 derivations on 64 slots, killed {kills} times, {often} of them more than once: "
+          "each journal legal, and gone on from")
     killed_with_agents(folder, rng)
 
 
@@ -303,7 +309,7 @@ def killed_with_agents(folder, rng):
     if status != 0 or said:
         fail(f"killed with agents: status {status}, {said}")
     kills = again = 0
-    for turn in range(20):
+    for turn in range(RUNS // 10):
         case.kept = []
         what = f"killed with agents, run {turn}"
         times, report = kill_and_go_on(case, rng, seconds, 1 + turn % 3, what)
@@ -319,7 +325,7 @@ def killed_with_agents(folder, rng):
             fail(f"{what}: {len(begun)} builds, one of them {most} times, for {times} kills")
         kills += times
         again += len(begun) - 300
-    print(f"killed with agents: 20 runs of 300 derivations on 16 slots, killed {kills} times: {again} builds that a kill "
+    print(f"killed with agents: {RUNS // 10} runs of 300 derivations on 16 slots, killed {kills} times: {again} builds that a kill "
           "had ended are begun again, and none that was built")
 
 
@@ -375,7 +381,12 @@ def ordered(folder):
         case.forget()
         if os.path.exists(log):
             os.remove(log)
-        status, _, said = case.run(killed_after=0.3, **given, **pause)
+        status, _, said = case.run(**given, **pause)
+        if status != 0:
+            fail(f"ordered: status {status}, {said}")
+        case.forget()
+        os.remove(log)
+        status, _, said = case.run(killed_after=case.seconds / 2, **given, **pause)
         if status != -9:
             fail(f"ordered: the run that is to be killed ends with status {status}, {said}")
         status, _, said = case.run("--resume", **given, **pause)

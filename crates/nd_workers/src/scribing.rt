@@ -143,8 +143,11 @@ fn is_start_of(entry: &Entry, drv: u32) -> bool
     }
 }
 
-/// How often the scribe looks whether further entries come, before it takes those that came.
-const LOOKS: u32 = 64;
+/// How often the scribe looks at most whether further entries come, before it takes those that came.
+const LOOKS: u32 = 1000;
+
+/// After how many looks in a row that show no further entry it takes those that came.
+const STILL: u32 = 32;
 
 /// Waits until entries came that the scribe hasn't, or until there will be none.
 fn await_news<L: Opened, R: Wait>(rt: &R, shared: &Shared<L>) {
@@ -157,12 +160,19 @@ fn await_news<L: Opened, R: Wait>(rt: &R, shared: &Shared<L>) {
     }
 }
 
+/// How many looks in a row showed no further entry, with one more.
+fn after_look(still: u32, same: bool) -> u32 {
+    if same { still.saturating_add(1) } else { 0 }
+}
+
 /// Lets workers that are about to make an entry make it, so that one sync serves them all.
 fn settle<L: Opened, R: Wait>(rt: &R, shared: &Shared<L>) {
     let mut before = 0;
+    let mut still = 0;
     for _ in 0..LOOKS {
         let now = shared.desk.lock(rt).dispatch.history().len();
-        if now == before {
+        still = after_look(still, now == before);
+        if still >= STILL {
             return;
         }
         before = now;
