@@ -2,10 +2,10 @@
 //! one. A call is a line that is written, and its answer a line that is read.
 #![tactic(auto)]
 
-pub mod agent;
-pub mod answer_text;
+mod agent;
+mod answer_text;
 mod call_text;
-pub mod ending;
+mod ending;
 mod hearing;
 pub mod laws;
 mod wire;

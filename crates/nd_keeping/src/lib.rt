@@ -3,7 +3,7 @@
 #![tactic(auto)]
 
 mod book;
-pub mod journals;
+mod journals;
 mod kept;
 mod lines;
 mod scribe;

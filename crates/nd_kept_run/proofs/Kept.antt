@@ -12,9 +12,9 @@ use Rattle.nd_run_command.specs.Ran.{IsRefusedAs, EndsIn, EndsWith}
 use Rattle.nd_serve_command.specs.declared.fault.ServeFault.{ServeFault}
 use Rattle.nd_serve_command.specs.declared.fault.ServeFault.TheVariants.{Cli, NotEmpty, InUse, Journal, JournalFailed}
 use Rattle.nd_workers.specs.Faults.{IsFaultOf}
-use Rattle.nd_workers.specs.Leaves.{IsFrontOf}
+use Rattle.nd_run_desk.specs.Leaves.{IsFrontOf}
 use Rattle.nd_workers.specs.Runs.{IsRunRefused}
-use Rattle.nd_workers.specs.Written.{IsWrittenWhole}
+use Rattle.nd_run_desk.specs.Written.{IsWrittenWhole}
 use Rattle.nd_workers.specs.declared.run_end.Evidence.{Evidence}
 use Rattle.nd_workers.specs.declared.run_end.RunError.{RunError}
 use Rattle.nd_workers.specs.declared.run_end.RunError.TheVariants.{Slots, TooManySlots as TooManyWorkers, Memory as NoRoom}

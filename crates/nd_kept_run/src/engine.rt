@@ -7,7 +7,7 @@ ghost use Rattle.nd_keeping.specs.Scribing.{HoldsDurably, journal_text};
 ghost use Rattle.nd_kept_run.specs.KeptRuns.{HoldsHistory, RunsKept, IsKeptFault, IsEndFault, IsToldOf};
 ghost use Rattle.nd_run_command.specs.Ended.{IsStatusOf};
 ghost use Rattle.nd_run_command.specs.Ran.{EndsIn};
-ghost use Rattle.nd_workers.specs.Leaves.{IsFrontOf};
+ghost use Rattle.nd_run_desk.specs.Leaves.{IsFrontOf};
 ghost use Rattle.nd_workers.specs.Runs.{AreManned};
 
 use crate::kept_end::KeptEnd;

@@ -1,12 +1,12 @@
 -- What is known while the entries of a run are gone through. No public clause but that of `are_dealt` and of `Tables` cites
 -- these definitions; the rest serves proofs.
-use Rattle.std.specs.Prelude.{◌≡◌, ℕ, suc, ◌+◌, ◌<◌, ◌≤◌, List, ◌∷◌, Some, drop, length, replicate, slice_get, slice_set}
+use Rattle.std.specs.Prelude.{◌≡◌, ℕ, suc, ◌+◌, ◌<◌, ◌≤◌, List, ◌∷◌, Some, drop, length, replicate, reverse, slice_get, slice_set}
 use Rattle.nd_history.specs.declared.entry.Entry.{Entry}
 use Rattle.nd_history.specs.declared.entry.Entry.TheVariants.{Chosen}
 use Rattle.nd_receipts.specs.declared.receipt.Receipt.{Receipt}
 use Rattle.nd_receipts.specs.declared.receipt.Kind.{Kind}
 use Rattle.nd_receipts.specs.declared.tables.Tables.{Tables}
-use Rattle.nd_receipts.specs.Dealt.{place_of, marks_of, marks_on, AreApart, HasWorker}
+use Rattle.nd_receipts.specs.Dealt.{place_of, marks_of, marks_on, AreApart, AreReceipted, HasWorker}
 
 -- where the table has a worker for a derivation, it was leased last on that worker's place
 pub record Knows (places : List (ℕ × ℕ)) (choices : List ℕ) (past : List Entry) : Type 0 where
@@ -105,3 +105,7 @@ pub record IsUndealt (places : List (ℕ × ℕ)) (rows : List (List Receipt)) (
 -- some receipt was not met
 pub record AreUnmet (rows : List (List Receipt)) (met : List ℕ) : Type 0 where
   pub each : length met ≡ length rows → AreAllMet rows met → ⊥
+
+-- the receipts of the workers aren't those of the entries behind `old`, where all derivations that these name are among so many
+abbrev pub AreUndealt : ℕ → List (ℕ × ℕ) → ℕ → List Entry → List Entry → List (List Receipt) → Type 0
+AreUndealt drvs places opening old new rows = AreWithin drvs old → AreWithin drvs new → AreReceipted places opening (reverse old) new rows → ⊥

@@ -2,7 +2,7 @@
 
 ghost use Rattle.std.specs.Prelude.{◌≡◌, ◌+◌, ◌^◌, ◌<◌, ℕ, List, [], ◌∷◌, map, true, false, length, replicate, reverse, slice_get, slice_set, Some, None, IfSome, IfNone};
 ghost use Rattle.nd_receipts.specs.Dealt.{made_as, AreApart, IsOnPlace, AreReceipted};
-ghost use Rattle.nd_receipts.specs.Walks.{Follows, AreUnknown, IsMet, AreAllMet, IsDealtBetween, IsNoPlace, IsNobodys, AreWithin, Knows, Tracks, TracksOn, IsUnmet, IsDealtOnBetween, IsUndealt, AreUnmet};
+ghost use Rattle.nd_receipts.specs.Walks.{Follows, AreUnknown, IsMet, AreAllMet, IsDealtBetween, IsNoPlace, IsNobodys, AreWithin, Knows, Tracks, TracksOn, IsUnmet, IsDealtOnBetween, IsUndealt, AreUnmet, AreUndealt};
 
 use crate::receipt::{Kind, Receipt};
 use crate::tables::Tables;
@@ -195,7 +195,7 @@ pub fn are_dealt(
     requires choices { AreUnknown (length places.now) tables.choices.items }
     requires met { tables.met.items ≡ replicate (length places.now) 0 }
     ensures dealt { result ≡ true → AreReceipted places.now opening (reverse old.now) new.now (map (λ v. v.items) rows.now) }
-    ensures undealt { result ≡ false → AreWithin (length tables.choices.items) old.now → AreWithin (length tables.choices.items) new.now → AreReceipted places.now opening (reverse old.now) new.now (map (λ v. v.items) rows.now) → ⊥ }
+    ensures undealt { result ≡ false → AreUndealt (length tables.choices.items) places.now opening old.now new.now (map (λ v. v.items) rows.now) }
 {
     if rows.len() != places.len() {
         return false;

@@ -2,15 +2,15 @@
 //! each, and whether the receipts are the entries of a history that workers made.
 #![tactic(auto)]
 
-pub mod comparing;
-pub mod dealing;
-pub mod judging;
+mod comparing;
+mod dealing;
+mod judging;
 pub mod laws;
-pub mod notes;
-pub mod receipt;
-pub mod rows;
-pub mod standing;
-pub mod tables;
+mod notes;
+mod receipt;
+mod rows;
+mod standing;
+mod tables;
 
 pub use comparing::{are_as_noted, count_made, has_stop, is_quiet, is_started};
 pub use dealing::are_dealt;

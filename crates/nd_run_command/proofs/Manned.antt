@@ -7,7 +7,7 @@ use Rattle.std.proofs.lemmas.Bool.Decides.{eqb_tells}
 use Rattle.nd_history.proofs.Slots.{count_cons}
 use Rattle.nd_history.specs.Premises.{Premises}
 use Rattle.nd_history.specs.Choices.{machines_in, jobs_of}
-use Rattle.nd_workers.specs.Abandoned.{places_on, places_of}
+use Rattle.nd_run_desk.specs.Abandoned.{places_on, places_of}
 use Rattle.nd_workers.specs.Runs.{is_at, is_in_park, AreManned}
 
 -- so many slots of machine k, from slot a on

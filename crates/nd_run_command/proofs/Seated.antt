@@ -6,7 +6,7 @@ use Rattle.std.proofs.lemmas.List.FromFn.{map-range_with_len_more, length-map-ra
 use Rattle.std.specs.List.{flat_map, range_with_len}
 use Rattle.nd_history.specs.Premises.{Premises}
 use Rattle.nd_history.specs.Choices.{machines_in, jobs_of}
-use Rattle.nd_workers.specs.Abandoned.{places_on, places_of}
+use Rattle.nd_run_desk.specs.Abandoned.{places_on, places_of}
 use Rattle.nd_cli.specs.declared.fault.CliFault.{CliFault}
 use Rattle.nd_cli.specs.declared.fault.CliFault.TheVariants.{Derivation, Drvs, Builders, Info, Script, Stand, History, TooLarge, TooManySlots, Read, Write, Memory, Thread, Receipts}
 use Rattle.nd_run_command.specs.Seats.{AreTooMany}

@@ -12,7 +12,7 @@ use Rattle.nd_workers.specs.declared.run_end.RunFault.TheVariants.{Thread as NoT
 use Rattle.nd_workers.specs.declared.run_end.RunError.{RunError}
 use Rattle.nd_workers.specs.declared.run_end.RunError.TheVariants.{Slots, TooManySlots as TooManyWorkers, Memory as NoRoom}
 use Rattle.nd_workers.specs.Runs.{IsOver}
-use Rattle.nd_workers.specs.Steps.{RunsOn}
+use Rattle.nd_run_desk.specs.Steps.{RunsOn}
 use Rattle.nd_cli.specs.declared.fault.CliFault.{CliFault}
 use Rattle.nd_cli.specs.declared.fault.CliFault.TheVariants.{Derivation, Drvs, Builders, Info, Script, Stand, History, TooLarge, TooManySlots, Read, Write, Memory, Thread, Receipts}
 use Rattle.nd_run_command.specs.Ended.{WritesEnd, WritesEndPart, IsStatusOf}

@@ -2,14 +2,15 @@
 
 ghost use Rattle.std.specs.Prelude.{◌≡◌, ◌+◌, ◌≤◌, ◌++◌, length, map, vec_len, IfOk, IfErr, OnOk};
 ghost use Rattle.nd_history.specs.Choices.{machines_in, jobs_of};
-ghost use Rattle.nd_workers.specs.Abandoned.{places_on, places_of};
+ghost use Rattle.nd_run_desk.specs.Abandoned.{places_on, places_of};
 ghost use Rattle.nd_workers.specs.Runs.{AreManned};
 ghost use Rattle.nd_run_command.specs.Seats.{AreTooMany, stand_in_on};
 
 use nd_cli::CliFault;
 use nd_ledger::Dispatch;
 use nd_script::Rule;
-use nd_workers::{RuleBook, Seat, StandIn};
+use nd_transports::{RuleBook, StandIn};
+use nd_workers::Seat;
 use std::alloc::{AllocError, Global};
 
 /// The most slots that a run serves.

@@ -1,10 +1,10 @@
 //! The dispatches of the examples, and their workers.
 
 use nd_ledger::Dispatch;
+use nd_script::Rule;
 use nd_test_fixtures::parks::{builders_alone, close, dispatch_of};
-use nd_workers::run_end::{NotRun, Ran};
-use nd_workers::running::run_with;
-use nd_workers::{Rule, RuleBook, Seat, StandIn, Transport};
+use nd_transports::{RuleBook, StandIn, Transport};
+use nd_workers::{NotRun, Ran, Seat, run_with};
 use std::alloc::{AllocError, Global};
 use std::sync::Wait;
 use std::thread::Threads;

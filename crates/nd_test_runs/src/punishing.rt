@@ -2,8 +2,9 @@
 //! one machine of several has; and groups that all wait for one slot while another machine frees many.
 
 use crate::parks::{close_refused, close_run, dispatch, ran, stand_at};
-use nd_workers::run_end::Ran;
-use nd_workers::{Rule, Seat, StandIn};
+use nd_script::Rule;
+use nd_transports::StandIn;
+use nd_workers::{Ran, Seat};
 use std::alloc::Global;
 use std::sync::Wait;
 use std::thread::Threads;

@@ -4,11 +4,14 @@ use crate::parks::{close_refused, close_run, dispatch, ran, stand_at, stand_in, 
 use nd_closure::Refs;
 use nd_ledger::Dispatch;
 use nd_path::{PathSet, StorePath};
+use nd_receipts::Receipt;
+use nd_run_desk::abandon;
+use nd_script::Rule;
 use nd_test_fixtures::bundles::{CHAIN, PLAIN_1, PLAIN_2, S3};
 use nd_test_fixtures::entries::told;
 use nd_test_fixtures::parks::close;
-use nd_workers::run_end::{NotRun, Ran};
-use nd_workers::{Receipt, Rule, RunEnd, RunError, Seat, StandIn, Transport, Worker, abandon, run};
+use nd_transports::{StandIn, Transport};
+use nd_workers::{NotRun, Ran, RunEnd, RunError, Seat, Worker, run};
 use std::alloc::Global;
 use std::sync::Wait;
 use std::test::Fail;

@@ -6,9 +6,10 @@ use nd_closure::Refs;
 use nd_leases::Ticket;
 use nd_ledger::Job;
 use nd_path::{PathSet, StorePath};
+use nd_script::Rule;
 use nd_test_fixtures::bundles::S1;
-use nd_workers::{
-    Ended, Fetch, Outcome, Phase, Rule, RuleBook, StandIn, Transport, serve_build, serve_copy,
+use nd_transports::{
+    Ended, Fetch, Outcome, Phase, RuleBook, StandIn, Transport, serve_build, serve_copy,
 };
 use std::alloc::Global;
 use std::test::Fail;

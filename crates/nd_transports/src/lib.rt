@@ -2,17 +2,16 @@
 //! the list of its calls with their answers.
 #![tactic(auto)]
 
-pub mod boxed;
-pub mod call_log;
-pub mod kinds;
-pub mod rule_book;
-pub mod serving;
-pub mod stand_in;
-pub mod transport;
+mod boxed;
+mod call_log;
+mod kinds;
+mod rule_book;
+mod serving;
+mod stand_in;
+mod transport;
 
 pub use call_log::CallLog;
 pub use kinds::{Answer, Call, Ended, Phase};
-pub use nd_script::Rule;
 pub use rule_book::RuleBook;
 pub use serving::{Fetch, Outcome, serve_build, serve_copy};
 pub use stand_in::StandIn;

@@ -6,14 +6,14 @@ use Rattle.nd_receipts.specs.declared.receipt.Receipt.{Receipt}
 use Rattle.nd_receipts.specs.Receipts.{AreCallsIn}
 use Rattle.nd_receipts.specs.Noted.{Noted, Track, track, GoesOn, IsNotedIn}
 use Rattle.nd_receipts.proofs.Calls.{calls_in}
-use Rattle.nd_workers.specs.declared.working.End.{End}
-use Rattle.nd_workers.specs.declared.working.End.TheVariants.{Again, Finished, Left, Refused}
-use Rattle.nd_workers.specs.Ends.{EndsWell}
+use Rattle.nd_work.specs.declared.working.End.{End}
+use Rattle.nd_work.specs.declared.working.End.TheVariants.{Again, Finished, Left, Refused}
+use Rattle.nd_work.specs.Ends.{EndsWell}
 use Rattle.nd_history.specs.Statuses.{IsFinished}
 use Rattle.nd_ledger.specs.Worlds.{World}
 use Rattle.nd_workers.specs.Runs.{IsServedIn, IsOver}
 use Rattle.nd_workers.specs.Served.{Seated, IsServed}
-use Rattle.nd_workers.specs.Steps.{RunsOn}
+use Rattle.nd_run_desk.specs.Steps.{RunsOn}
 
 goes_on : (how : End) (s t : Track) → (how ≡ Refused → ⊥) → EndsWell how s t → GoesOn s t
 goes_on Again s t good ends = ends

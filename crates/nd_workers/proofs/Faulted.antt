@@ -28,7 +28,7 @@ use Rattle.nd_workers.specs.declared.threads.Stint.{Stint}
 use Rattle.nd_workers.specs.Faults.{IsAlikeFrom, IsFaultBy, IsFaultFrom, AreAllWrong}
 use Rattle.nd_workers.specs.Runs.{Agrees}
 use Rattle.nd_workers.specs.Served.{IsSound, is_refused}
-use Rattle.nd_workers.specs.Steps.{RunsOn, StopsAreTold}
+use Rattle.nd_run_desk.specs.Steps.{RunsOn, StopsAreTold}
 
 -- ---- each choice of a legal history is about a derivation of the graph
 

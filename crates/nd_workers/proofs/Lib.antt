@@ -1,13 +1,5 @@
 pub mod Compared
-pub mod Counts
 pub mod Faulted
-pub mod Fronts
-pub mod Going
-pub mod Kept
-pub mod Leaving
 pub mod Manned
-pub mod Onward
 pub mod Stints
-pub mod Told
-pub mod Upheld
 pub mod Zips

@@ -3,16 +3,15 @@ use Rattle.std.proofs.Common.{◌≡◌, List, [], ◌∷◌, map, refl, sym, su
 use Rattle.std.proofs.lemmas.List.{append-nil}
 use Rattle.nd_history.specs.declared.entry.Entry.{Entry}
 use Rattle.nd_receipts.specs.declared.receipt.Receipt.{Receipt}
-use Rattle.nd_workers.specs.declared.working.End.{End}
-use Rattle.nd_workers.specs.declared.working.End.TheVariants.{Again, Finished, Left, Refused}
+use Rattle.nd_work.specs.declared.working.End.{End}
+use Rattle.nd_work.specs.declared.working.End.TheVariants.{Again, Finished, Left, Refused}
 use Rattle.nd_receipts.specs.Noted.AreLeases.{none}
 use Rattle.nd_receipts.specs.Noted.{Noted, Track, track, GoesOn}
-use Rattle.nd_workers.specs.Ends.{EndsWell}
+use Rattle.nd_work.specs.Ends.{EndsWell}
 use Rattle.nd_transports.specs.Calls.{State}
 use Rattle.nd_workers.specs.declared.seat.Seat.{Seat}
 use Rattle.nd_workers.specs.declared.threads.Stint.{Stint}
 use Rattle.nd_workers.specs.Served.{Seated, IsServed, HaveServed, places_served}
-use Rattle.nd_workers.proofs.Going.{goes_further}
 
 -- a worker that did nothing
 pub served_idle : (b : Seated) (notes : Noted) → notes.receipts ≡ [] → notes.copies ≡ [] → IsServed b Left b notes
@@ -38,13 +37,6 @@ served_by b a how old notes rs es ends machine slot =
     record { machine = machine; slot = slot; goes = subst Q es (subst P rs ends) }
 
 pub ruleset servings = (served_idle, served_by)
-
--- one end after another
-pub ends_further : (how : End) (s t u : Track) → GoesOn s t → EndsWell how t u → EndsWell how s u
-ends_further Again s t u one two = goes_further s t u one two
-ends_further Finished s t u one two = goes_further s t u one two
-ends_further Left s t u one two = goes_further s t u one two
-ends_further Refused s t u one two = tt
 
 -- workers keep their places
 pub places_kept : {T : Type 0} (state : T → State) (workers : List (Seat T)) (stints : List (Stint T)) → HaveServed state workers stints → places_served (map (λ x. x.seat) stints) ≡ places_served workers

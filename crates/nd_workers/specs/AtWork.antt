@@ -2,11 +2,11 @@
 use Rattle.std.specs.Prelude.{◌≡◌, ℕ, ◌+◌, Result, MatchResult, Vec, vec_len}
 use Rattle.std.specs.declared.thread.PromisedHandle.{PromisedHandle}
 use Rattle.nd_transports.specs.Calls.{State}
-use Rattle.nd_workers.specs.declared.opened.Opened as Opened
+use Rattle.nd_run_desk.specs.declared.opened.Opened as Opened
 use Rattle.nd_workers.specs.declared.seat.Seat.{Seat}
 use Rattle.nd_workers.specs.declared.threads.Ended.{Ended}
 use Rattle.nd_workers.specs.declared.threads.Serves.{Serves}
-use Rattle.nd_workers.specs.declared.working.Done.{Done}
+use Rattle.nd_workers.specs.declared.threads.Done.{Done}
 use Rattle.nd_workers.specs.Served.{Seated, seat_of, IsServed, HaveServed, receipts_in}
 
 -- this came back of the worker in its thread

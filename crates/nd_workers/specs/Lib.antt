@@ -1,10 +1,4 @@
-pub mod Abandoned
 pub mod AtWork
-pub mod Ends
 pub mod Faults
-pub mod Leaves
-pub mod Picks
 pub mod Runs
 pub mod Served
-pub mod Steps
-pub mod Written

@@ -18,7 +18,7 @@ use Rattle.nd_workers.specs.declared.run_end.RunError.{RunError}
 use Rattle.nd_workers.specs.declared.run_end.RunError.TheVariants.{Slots, TooManySlots, Memory}
 use Rattle.nd_workers.specs.declared.seat.Seat.{Seat}
 use Rattle.nd_workers.specs.Served.{Seated, seat_of}
-use Rattle.nd_workers.specs.Steps.{RunsOn}
+use Rattle.nd_run_desk.specs.Steps.{RunsOn}
 
 -- a worker is on this place
 abbrev pub is_at : ℕ → ℕ → ℕ × ℕ → Bool
@@ -64,6 +64,10 @@ pub record IsServedIn (opened : ℕ) (history : List Entry) (before after : Seat
 -- .. each of these workers, with its receipts
 abbrev pub AreServedIn : {T A : Type 0} → (T → State) → ℕ → List Entry → List (Seat T) → List (Seat T) → List (Vec Receipt A) → Type 0
 AreServedIn state opened history before after receipts = AllZip (λ w x. IsServedIn opened history (seat_of state w) (seat_of state x.0) x.1.items) before (zip after receipts)
+
+-- .. in a run that began with this dispatch
+abbrev pub AreServed : {T A : Type 0} → (T → State) → World → World → List (Seat T) → List (Seat T) → List (Vec Receipt A) → Type 0
+AreServed state opening now before after receipts = AreServedIn state (length opening.history) now.history before after receipts
 
 -- the entries since the opening
 abbrev pub since : World → World → List Entry

@@ -7,10 +7,10 @@ use Rattle.nd_transports.specs.declared.kinds.Call.{Call}
 use Rattle.nd_transports.specs.Calls.{State}
 use Rattle.nd_workers.specs.declared.seat.Seat.{Seat}
 use Rattle.nd_workers.specs.declared.threads.Stint.{Stint}
-use Rattle.nd_workers.specs.declared.working.End.{End}
-use Rattle.nd_workers.specs.declared.working.End.TheVariants.{Again, Finished, Left, Refused}
+use Rattle.nd_work.specs.declared.working.End.{End}
+use Rattle.nd_work.specs.declared.working.End.TheVariants.{Again, Finished, Left, Refused}
 use Rattle.nd_receipts.specs.Noted.{Noted, track, IsNotedIn}
-use Rattle.nd_workers.specs.Ends.{EndsWell}
+use Rattle.nd_work.specs.Ends.{EndsWell}
 
 -- a worker's place, and the calls of its transport
 pub record Seated : Type 0 where

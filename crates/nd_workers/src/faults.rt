@@ -11,16 +11,16 @@ ghost use Rattle.nd_workers.specs.Faults.{IsAlikeFrom, IsFaultBy, IsHalted, IsSt
 ghost use Rattle.nd_workers.specs.Runs.{AreReceiptedFrom};
 ghost use Rattle.nd_workers.specs.Served.{is_refused};
 
-use crate::desk::entries_since;
 use crate::run_end::{Evidence, RunFault};
 use crate::threads::Stint;
-use crate::working::End;
 use nd_history::Entry;
 use nd_ledger::Dispatch;
 use nd_receipts::{
     Receipt, Standing, Tables, are_dealt, are_rows_judged, are_rows_noted, has_stop, is_quiet,
 };
+use nd_run_desk::entries_since;
 use nd_transports::Transport;
+use nd_work::End;
 
 /// Whether a worker ended so since an entry of its own was refused.
 fn is_refused(end: End) -> bool

@@ -1,35 +1,21 @@
-//! The workers that serve leases through their transports.
+//! A run: the workers of a park, which serve the leases of a dispatch through their transports, each in a thread of
+//! its own, and what comes back of them.
 #![tactic(auto)]
 
-pub mod abandoning;
-mod bells;
-mod calling;
-mod desk;
 mod faults;
-mod hand;
-pub mod keeping;
-mod leasing;
 mod manning;
-mod opened;
 mod preparing;
-pub mod run_end;
-pub mod running;
-mod scribing;
-pub mod seat;
+mod run_end;
+mod running;
+mod seat;
 mod settling;
 mod threads;
-mod working;
-pub mod writing;
+mod writing;
 
-pub use abandoning::abandon;
-pub use nd_receipts::{Kind, Receipt};
-pub use nd_transports::{
-    Answer, Call, CallLog, Ended, Fetch, Outcome, Phase, Rule, RuleBook, StandIn, Transport,
-    serve_build, serve_copy,
-};
 pub use run_end::{
-    Evidence, NotWritten, Refused, RefusedKept, RunEnd, RunError, RunFault, RunKept, Written,
+    Evidence, NotRun, NotWritten, Ran, Refused, RefusedKept, RunEnd, RunError, RunFault, RunKept,
+    Written,
 };
-pub use running::run;
+pub use running::{MOST_SLOTS, run, run_with};
 pub use seat::{Seat, Worker};
-pub use writing::run_kept;
+pub use writing::{run_kept, run_kept_with};

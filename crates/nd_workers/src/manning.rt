@@ -5,9 +5,9 @@ ghost use Rattle.std.specs.List.{list_all};
 ghost use Rattle.nd_workers.specs.Runs.{is_at, is_in_park, IsMachineManned, AreManned};
 ghost use Rattle.nd_workers.specs.Served.{places_served};
 
-use crate::abandoning::{jobs_on, machine_count};
 use crate::seat::Seat;
 use nd_ledger::Dispatch;
+use nd_run_desk::{jobs_on, machine_count};
 use std::alloc::{AllocError, Global};
 
 /// How many of these places are this one.

@@ -8,7 +8,6 @@ ghost use Rattle.nd_receipts.specs.Walks.{AreUnknown};
 ghost use Rattle.nd_workers.specs.Runs.{AreManned, IsRunRefused};
 ghost use Rattle.nd_workers.specs.Served.{places_served};
 
-use crate::bells::Bells;
 use crate::manning::{are_manned, places_of};
 use crate::run_end::RunError;
 use crate::running::MOST_SLOTS;
@@ -16,6 +15,7 @@ use crate::seat::Seat;
 use crate::settling::Plan;
 use nd_ledger::Dispatch;
 use nd_receipts::{Standing, Tables};
+use nd_work::Bells;
 use std::alloc::{AllocError, Global};
 
 /// The places that workers serve, and the bells of all places.

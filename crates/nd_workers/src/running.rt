@@ -10,16 +10,12 @@ ghost use Rattle.nd_receipts.specs.Dealt.{AreApart};
 ghost use Rattle.nd_receipts.specs.Standing.{IsIdle};
 ghost use Rattle.nd_receipts.specs.Walks.{AreUnknown};
 ghost use Rattle.nd_workers.specs.Faults.{IsFaultFrom, IsFaultOf, AreAllWrong};
-ghost use Rattle.nd_workers.specs.Runs.{AreManned, IsRunRefused, Agrees, IsOver, AreServedIn, AreReceiptedSince, since};
+ghost use Rattle.nd_workers.specs.Runs.{AreManned, IsRunRefused, Agrees, IsOver, AreServed, AreReceiptedSince, since};
 ghost use Rattle.nd_workers.specs.Served.{places_served, HaveServed, is_refused, receipts_in};
-ghost use Rattle.nd_workers.specs.Leaves.{IsFrontOf};
-ghost use Rattle.nd_workers.specs.Steps.{RunsOn, StopsAreTold};
-ghost use Rattle.nd_workers.specs.Written.{IsWritten, IsWrittenWhole};
+ghost use Rattle.nd_run_desk.specs.Leaves.{IsFrontOf};
+ghost use Rattle.nd_run_desk.specs.Steps.{RunsOn, StopsAreTold};
+ghost use Rattle.nd_run_desk.specs.Written.{IsWritten, IsWrittenWhole};
 
-use crate::desk::Desk;
-use crate::keeping::{Progress, Writing};
-use crate::leasing::Shared;
-use crate::opened::Opened;
 use crate::preparing::{Posts, prepare};
 use crate::run_end::{NotRun, NotWritten, Ran, Refused, RunEnd, RunError, RunFault, Written};
 use crate::seat::{Seat, Worker};
@@ -27,12 +23,14 @@ use crate::settling::{Back, Plan, Served, make_back, settle};
 use crate::threads::{Ended, Joined, Ready, Running, Stint, in_scope};
 use nd_keeping::{Journal, NoJournal, Scribe};
 use nd_ledger::Dispatch;
-use nd_receipts::{Misreports, count_made};
+use nd_receipts::count_made;
+use nd_run_desk::{Closed, Desk, Opened, Writing};
 use nd_transports::Transport;
+use nd_work::Shared;
 use std::alloc::{AllocError, Global};
 use std::marker::Brand;
-use std::sync::ledger::{Blank, Book, Share};
-use std::sync::{Condvar, Mutex, Wait};
+use std::sync::Wait;
+use std::sync::ledger::Blank;
 use std::thread::Threads;
 
 /// The most slots of a run.
@@ -115,33 +113,6 @@ struct Brought<T, J: Journal> {
     scribe: Scribe<J>,
 }
 
-/// What lies under the lock of a run when it begins, where the first entries of its history are in the scribe's
-/// journal already.
-#[tactic(auto, using(crate::proofs::Upheld::upheld_first))]
-fn open_desk<L: Opened, J: Journal>(
-    alloc: Global,
-    dispatch: Dispatch,
-    manned: Vec<(u32, u32)>,
-    book: Book<L>,
-    scribe: &Scribe<J>,
-) -> Desk<L>
-    requires opening { L.opening ≡ dispatch }
-    requires made { made dispatch.history ≡ book.total }
-    requires there { scribe.now.handed.book ≡ L.keeping.book }
-    requires handed { IsFrontOf scribe.now.handed.entries dispatch.history }
-    requires durable { IsFrontOf scribe.now.kept.entries dispatch.history }
-{
-    let opened = dispatch.history().len();
-    Desk {
-        dispatch,
-        book,
-        manned,
-        misreports: Misreports::new(alloc),
-        opened,
-        progress: Progress::new(scribe),
-    }
-}
-
 /// Serves the leases of a dispatch, with a ledger of the entries that workers make.
 fn serve_leases<
     L: Opened + Send + Sync,
@@ -183,15 +154,9 @@ fn serve_leases<
     let Paper { scribe, keeps } = paper;
     let (mut book, mut rest) = blank.open::<L>();
     book.add(&mut rest, count_made(dispatch.history()) as u64);
-    let mut desk = open_desk(alloc, dispatch, manned, book, &scribe);
+    let mut desk = Desk::open(alloc, dispatch, manned, book, &scribe);
     desk.begin(seats.len());
-    let shared = Shared {
-        desk: Mutex::new(desk),
-        bells,
-        news: Condvar::new(),
-        keeps,
-        first: scribe.kept(),
-    };
+    let shared = Shared::new(desk, bells, keeps, scribe.kept());
     let ready = Ready {
         seats,
         rest,
@@ -200,9 +165,7 @@ fn serve_leases<
     };
     let Joined { ended, writing } = in_scope(rt, alloc, &shared, ready, Writing::new(scribe));
     let Ended { all, stints } = ended;
-    let Shared { desk, bells, .. } = shared;
-    drop(bells);
-    let closed = close(desk.into_inner(), all, keeps, &writing);
+    let closed = shared.into_desk().close(all, keeps, &writing);
     let Writing { scribe, .. } = writing;
     let Closed {
         dispatch,
@@ -216,74 +179,6 @@ fn serve_leases<
         kept,
     };
     Brought { served, scribe }
-}
-
-/// What lay under the lock, and whether the journal took all of it.
-#[derive(Drop)]
-struct Closed {
-    dispatch: Dispatch,
-    misreports: Misreports,
-    kept: bool,
-}
-
-/// What lay under the lock, where the ledger's whole share came back: it is what the workers made.
-fn close<L: Opened, J: Journal>(
-    desk: Desk<L>,
-    all: Share<L>,
-    keeps: bool,
-    writing: &Writing<L, J>,
-) -> Closed
-    requires { all.parts ≡ L.parts }
-    ensures total { made result.dispatch.history ≡ all.amount }
-    ensures runs { RunsOn L.opening result.dispatch }
-    ensures told { StopsAreTold L.opening result.dispatch }
-    ensures misreports { AreMisreports result.dispatch.inputs result.dispatch.history result.misreports }
-    ensures written { IsWritten keeps result.kept writing.now.scribe result.dispatch.history }
-{
-    let mut all = all;
-    let kept = is_kept(keeps, &desk, writing);
-    let Desk {
-        dispatch,
-        mut book,
-        manned,
-        misreports,
-        progress,
-        opened: _,
-    } = desk;
-    book.audit(&mut all);
-    drop(book);
-    drop(all);
-    drop(manned);
-    drop(progress);
-    Closed {
-        dispatch,
-        misreports,
-        kept,
-    }
-}
-
-/// Whether a run that keeps its history has all of it in the journal. One that keeps none has it all.
-#[tactic(auto, using(crate::proofs::Fronts::unkept, crate::proofs::Fronts::kept_written))]
-fn is_kept<L: Opened, J: Journal>(keeps: bool, desk: &Desk<L>, writing: &Writing<L, J>) -> bool
-    ensures { IsWritten keeps result writing.now.scribe desk.now.dispatch.history }
-{
-    if !keeps {
-        return true;
-    }
-    is_written(desk, writing)
-}
-
-/// Whether the journal has taken the whole history.
-#[tactic(auto, using(crate::proofs::Fronts::written_whole))]
-fn is_written<L: Opened, J: Journal>(desk: &Desk<L>, writing: &Writing<L, J>) -> bool
-    ensures { result ≡ true → IsWrittenWhole writing.now.scribe desk.now.dispatch.history }
-{
-    let scribe = &writing.scribe;
-    let kept = scribe.kept();
-    if scribe.is_refused() || !kept.begins(&desk.progress.handed) {
-        return false;
-    }
-    kept.len() == desk.dispatch.history().len()
 }
 
 /// Runs the dispatch, with room for what comes back.
@@ -330,7 +225,7 @@ fn run_in<
     ensures memory { result.run.fault ≡ Some RunFault.Memory → list_any is_stop result.run.dispatch.history ≡ true }
     ensures journal { result.run.fault ≡ Some RunFault.Journal → list_any is_stop result.run.dispatch.history ≡ true }
     ensures written { IsWritten paper.keeps result.run.evidence.kept result.scribe result.run.dispatch.history }
-    ensures calls { Agrees result.run.fault → AreServedIn T.state (length dispatch.history) result.run.dispatch.history seats.items result.run.workers.items result.run.receipts.items }
+    ensures calls { Agrees result.run.fault → AreServed T.state dispatch result.run.dispatch seats.items result.run.workers.items result.run.receipts.items }
     ensures judged { Agrees result.run.fault → AreAllWrong result.run.dispatch.inputs result.run.dispatch.history result.run.receipts.items }
     ensures misreports { AreMisreports result.run.dispatch.inputs result.run.dispatch.history result.run.evidence.misreports }
     ensures fault { IsFaultOf dispatch result.run.dispatch plan.places.items result.run.receipts.items result.run.evidence result.run.fault }
@@ -390,7 +285,7 @@ fn run_named<
     ensures memory { IfOk result (λ e. e.run.fault ≡ Some RunFault.Memory → list_any is_stop e.run.dispatch.history ≡ true) }
     ensures journal { IfOk result (λ e. e.run.fault ≡ Some RunFault.Journal → list_any is_stop e.run.dispatch.history ≡ true) }
     ensures written { IfOk result (λ e. IsWritten paper.keeps e.run.evidence.kept e.scribe e.run.dispatch.history) }
-    ensures calls { IfOk result (λ e. Agrees e.run.fault → AreServedIn T.state (length dispatch.history) e.run.dispatch.history seats.items e.run.workers.items e.run.receipts.items) }
+    ensures calls { IfOk result (λ e. Agrees e.run.fault → AreServed T.state dispatch e.run.dispatch seats.items e.run.workers.items e.run.receipts.items) }
     ensures judged { IfOk result (λ e. Agrees e.run.fault → AreAllWrong e.run.dispatch.inputs e.run.dispatch.history e.run.receipts.items) }
     ensures misreports { IfOk result (λ e. AreMisreports e.run.dispatch.inputs e.run.dispatch.history e.run.evidence.misreports) }
     ensures fault { IfOk result (λ e. IsFaultOf dispatch e.run.dispatch plan.places.items e.run.receipts.items e.run.evidence e.run.fault) }
@@ -432,7 +327,7 @@ pub(crate) fn run_by<T: Transport, J: Journal + Send + Drop, R: Threads + Wait +
     ensures memory { IfOk result (λ e. e.run.fault ≡ Some RunFault.Memory → list_any is_stop e.run.dispatch.history ≡ true) }
     ensures journal { IfOk result (λ e. e.run.fault ≡ Some RunFault.Journal → list_any is_stop e.run.dispatch.history ≡ true) }
     ensures written { IfOk result (λ e. IsWritten keeps e.run.evidence.kept e.scribe e.run.dispatch.history) }
-    ensures calls { IfOk result (λ e. Agrees e.run.fault → AreServedIn T.state (length dispatch.history) e.run.dispatch.history workers.items e.run.workers.items e.run.receipts.items) }
+    ensures calls { IfOk result (λ e. Agrees e.run.fault → AreServed T.state dispatch e.run.dispatch workers.items e.run.workers.items e.run.receipts.items) }
     ensures judged { IfOk result (λ e. Agrees e.run.fault → AreAllWrong e.run.dispatch.inputs e.run.dispatch.history e.run.receipts.items) }
     ensures misreports { IfOk result (λ e. AreMisreports e.run.dispatch.inputs e.run.dispatch.history e.run.evidence.misreports) }
     ensures fault { IfOk result (λ e. IsFaultOf dispatch e.run.dispatch (places_served workers.items) e.run.receipts.items e.run.evidence e.run.fault) }
@@ -470,7 +365,7 @@ pub fn run_with<T: Transport, R: Threads + Wait + Sync>(
     ensures thread { IfOk result (λ e. e.fault ≡ Some RunFault.Thread → list_any is_stop e.dispatch.history ≡ true) }
     ensures memory { IfOk result (λ e. e.fault ≡ Some RunFault.Memory → list_any is_stop e.dispatch.history ≡ true) }
     ensures unkept { IfOk result (λ e. e.fault ≡ Some RunFault.Journal → ⊥) }
-    ensures calls { IfOk result (λ e. Agrees e.fault → AreServedIn T.state (length dispatch.history) e.dispatch.history workers.items e.workers.items e.receipts.items) }
+    ensures calls { IfOk result (λ e. Agrees e.fault → AreServed T.state dispatch e.dispatch workers.items e.workers.items e.receipts.items) }
     ensures judged { IfOk result (λ e. Agrees e.fault → AreAllWrong e.dispatch.inputs e.dispatch.history e.receipts.items) }
     ensures misreports { IfOk result (λ e. AreMisreports e.dispatch.inputs e.dispatch.history e.evidence.misreports) }
     ensures fault { IfOk result (λ e. IsFaultOf dispatch e.dispatch (places_served workers.items) e.receipts.items e.evidence e.fault) }
@@ -529,7 +424,7 @@ pub fn run<R: Threads + Wait + Sync>(
     ensures thread { IfOk result (λ e. e.fault ≡ Some RunFault.Thread → list_any is_stop e.dispatch.history ≡ true) }
     ensures memory { IfOk result (λ e. e.fault ≡ Some RunFault.Memory → list_any is_stop e.dispatch.history ≡ true) }
     ensures unkept { IfOk result (λ e. e.fault ≡ Some RunFault.Journal → ⊥) }
-    ensures calls { IfOk result (λ e. Agrees e.fault → AreServedIn state (length dispatch.history) e.dispatch.history workers.items e.workers.items e.receipts.items) }
+    ensures calls { IfOk result (λ e. Agrees e.fault → AreServed state dispatch e.dispatch workers.items e.workers.items e.receipts.items) }
     ensures judged { IfOk result (λ e. Agrees e.fault → AreAllWrong e.dispatch.inputs e.dispatch.history e.receipts.items) }
     ensures misreports { IfOk result (λ e. AreMisreports e.dispatch.inputs e.dispatch.history e.evidence.misreports) }
     ensures fault { IfOk result (λ e. IsFaultOf dispatch e.dispatch (places_served workers.items) e.receipts.items e.evidence e.fault) }

@@ -1,6 +1,6 @@
 //! The workers, each with its place in the park and its transport.
 
-use nd_transports::transport::Transport;
+use nd_transports::Transport;
 
 /// A place in the park, a machine with a slot of it, and the transport that serves it.
 #[derive(Drop)]

@@ -3,25 +3,60 @@
 
 ghost use Rattle.std.specs.Prelude.{◌≡◌, ◌+◌, ◌<◌, ◌≤◌, [], ℕ, List, length, vec_len, vec_capacity, sum_by, is_ok, MatchResult};
 ghost use Rattle.std.specs.List.{AllZip};
+ghost use Rattle.nd_receipts.specs.Noted.{track_of};
+ghost use Rattle.nd_work.specs.Ends.{EndsWell};
 ghost use Rattle.nd_workers.specs.AtWork.{IsAtWork, HaveEnded};
 ghost use Rattle.nd_workers.specs.Served.{seat_of, HasServed, HaveServed, receipts_in};
 
-use crate::hand::Hand;
-use crate::keeping::Writing;
-use crate::leasing::Shared;
-use crate::opened::Opened;
-use crate::scribing::{end_all, keep_all, refuse};
 use crate::seat::Seat;
-use crate::working::{Done, End, work};
 use nd_keeping::Journal;
 use nd_receipts::Notes;
+use nd_run_desk::{Opened, Writing};
 use nd_transports::Transport;
+use nd_work::{End, Floor, Guarded, Hand, Shared};
 use std::alloc::Global;
 use std::snapshot::Snapshot;
 use std::sync::Wait;
 use std::sync::ledger::Share;
 use std::thread;
 use std::thread::{JoinHandle, Promise, PromisedHandle, Scope, Threads};
+
+/// What a worker hands back.
+#[derive(Drop)]
+pub(crate) struct Done<L: Opened, T: Transport> {
+    pub(crate) seat: Seat<T>,
+    pub(crate) hand: Hand<L>,
+    pub(crate) end: End,
+}
+
+/// Serves the leases of a place until nothing is leased or waits any more.
+fn work<L: Opened, T: Transport, R: Wait>(
+    floor: &Floor<'_, L, R>,
+    hand: Hand<L>,
+    seat: Seat<T>,
+) -> Done<L, T>
+    ensures goes { EndsWell result.end (track_of hand.notes (T.state seat.transport)) (track_of result.hand.notes (T.state result.seat.transport)) }
+    ensures machine { result.seat.machine ≡ seat.machine }
+    ensures slot { result.seat.slot ≡ seat.slot }
+{
+    let Seat {
+        machine,
+        slot,
+        transport,
+    } = seat;
+    let mut hand = hand;
+    let mut guarded = Guarded::new(transport);
+    let end = floor.work(&mut hand, &mut guarded, machine, slot);
+    Done {
+        seat: Seat {
+            machine,
+            slot,
+            transport: guarded.into_inner(),
+        },
+        hand,
+        end,
+    }
+}
 
 /// That a worker's calls are those of its receipts, and that it kept its place.
 #[derive(Drop)]
@@ -75,20 +110,16 @@ fn start<'s, E, L: Opened + Send + Sync + 's, T: Transport + 's, R: Wait + Sync>
     let promise = Serves {
         seat: Snapshot::of(&seat),
     };
-    match scope.spawn_with(promise, move || work(rt, alloc, shared, hand, seat)) {
+    match scope.spawn_with(
+        promise,
+        move || work(&Floor::new(rt, alloc, shared), hand, seat),
+    ) {
         Ok(handle) => Ok(handle),
         Err(refused) => {
-            unstarted(rt, shared, started);
+            Floor::new(rt, alloc, shared).serve_by_few(started);
             Err((refused.value)())
         }
     }
-}
-
-/// Only the first `started` workers have threads, and nothing more is begun.
-fn unstarted<L: Opened, R: Wait>(rt: &R, shared: &Shared<L>, started: usize) {
-    let mut desk = shared.desk.lock(rt);
-    desk.unstarted(started);
-    shared.bells.ring_all();
 }
 
 /// What is needed before the first thread starts: the workers, the ledger's whole share, and room for
@@ -212,16 +243,17 @@ type Scribing<L, J> = Result<JoinHandle<Writing<L, J>>, Writing<L, J>>;
 fn start_scribe<'s, E, L: Opened + Send + Sync + 's, J: Journal + Send + Drop + 's, R: Wait + Sync>(
     scope: &Scope<'s, E>,
     rt: &'s R,
+    alloc: Global,
     shared: &'s Shared<L>,
     writing: Writing<L, J>,
 ) -> Scribing<L, J> {
-    if !shared.keeps {
+    if !shared.keeps() {
         return Err(writing);
     }
-    match scope.spawn(move || keep_all(rt, shared, writing)) {
+    match scope.spawn(move || Floor::new(rt, alloc, shared).keep_all(writing)) {
         Ok(handle) => Ok(handle),
         Err(refused) => {
-            refuse(rt, shared);
+            Floor::new(rt, alloc, shared).refuse();
             Err((refused.value)())
         }
     }
@@ -230,12 +262,13 @@ fn start_scribe<'s, E, L: Opened + Send + Sync + 's, J: Journal + Send + Drop + 
 /// Joins the scribe's thread, once all workers have ended.
 fn join_scribe<L: Opened, J: Journal + Drop, R: Threads + Wait>(
     rt: &R,
+    alloc: Global,
     shared: &Shared<L>,
     scribing: Scribing<L, J>,
 ) -> Writing<L, J> {
     match scribing {
         Ok(handle) => {
-            end_all(rt, shared);
+            Floor::new(rt, alloc, shared).end_all();
             handle.join(rt)
         }
         Err(writing) => writing,
@@ -292,11 +325,11 @@ fn keep_and_serve<
 ) -> Joined<L, T, J>
     ensures { HaveEnded T.state ready.seats ready.rest.amount result.ended }
 {
-    let scribing = start_scribe(scope, rt, shared, writing);
+    let scribing = start_scribe(scope, rt, alloc, shared, writing);
     let ended = serve_all(scope, rt, alloc, shared, ready);
     Joined {
         ended,
-        writing: join_scribe(rt, shared, scribing),
+        writing: join_scribe(rt, alloc, shared, scribing),
     }
 }
 

@@ -6,11 +6,11 @@ ghost use Rattle.nd_history.specs.History.{is_stop};
 ghost use Rattle.nd_receipts.specs.Made.{made, is_quiet};
 ghost use Rattle.nd_receipts.specs.Judged.{AreMisreports};
 ghost use Rattle.nd_workers.specs.Faults.{IsFaultOf, AreAllWrong};
-ghost use Rattle.nd_workers.specs.Leaves.{IsFrontOf};
-ghost use Rattle.nd_workers.specs.Runs.{AreManned, IsRunRefused, Agrees, IsOver, AreServedIn, AreReceiptedSince, since};
+ghost use Rattle.nd_run_desk.specs.Leaves.{IsFrontOf};
+ghost use Rattle.nd_workers.specs.Runs.{AreManned, IsRunRefused, Agrees, IsOver, AreServed, AreReceiptedSince, since};
 ghost use Rattle.nd_workers.specs.Served.{places_served};
-ghost use Rattle.nd_workers.specs.Steps.{RunsOn};
-ghost use Rattle.nd_workers.specs.Written.{IsWrittenWhole};
+ghost use Rattle.nd_run_desk.specs.Steps.{RunsOn};
+ghost use Rattle.nd_run_desk.specs.Written.{IsWrittenWhole};
 
 use crate::run_end::{NotWritten, RefusedKept, RunFault, RunKept, Written};
 use crate::running::run_by;
@@ -47,7 +47,7 @@ pub fn run_kept_with<T: Transport, J: Journal + Send + Drop, R: Threads + Wait +
     ensures memory { IfOk result (λ e. e.run.fault ≡ Some RunFault.Memory → list_any is_stop e.run.dispatch.history ≡ true) }
     ensures journal { IfOk result (λ e. e.run.fault ≡ Some RunFault.Journal → list_any is_stop e.run.dispatch.history ≡ true) }
     ensures written { IfOk result (λ e. e.run.evidence.kept ≡ true → IsWrittenWhole e.scribe e.run.dispatch.history) }
-    ensures calls { IfOk result (λ e. Agrees e.run.fault → AreServedIn T.state (length dispatch.history) e.run.dispatch.history workers.items e.run.workers.items e.run.receipts.items) }
+    ensures calls { IfOk result (λ e. Agrees e.run.fault → AreServed T.state dispatch e.run.dispatch workers.items e.run.workers.items e.run.receipts.items) }
     ensures judged { IfOk result (λ e. Agrees e.run.fault → AreAllWrong e.run.dispatch.inputs e.run.dispatch.history e.run.receipts.items) }
     ensures misreports { IfOk result (λ e. AreMisreports e.run.dispatch.inputs e.run.dispatch.history e.run.evidence.misreports) }
     ensures fault { IfOk result (λ e. IsFaultOf dispatch e.run.dispatch (places_served workers.items) e.run.receipts.items e.run.evidence e.run.fault) }
@@ -90,7 +90,7 @@ pub fn run_kept<J: Journal + Send + Drop, R: Threads + Wait + Sync>(
     ensures memory { IfOk result (λ e. e.run.fault ≡ Some RunFault.Memory → list_any is_stop e.run.dispatch.history ≡ true) }
     ensures journal { IfOk result (λ e. e.run.fault ≡ Some RunFault.Journal → list_any is_stop e.run.dispatch.history ≡ true) }
     ensures written { IfOk result (λ e. e.run.evidence.kept ≡ true → IsWrittenWhole e.scribe e.run.dispatch.history) }
-    ensures calls { IfOk result (λ e. Agrees e.run.fault → AreServedIn state (length dispatch.history) e.run.dispatch.history workers.items e.run.workers.items e.run.receipts.items) }
+    ensures calls { IfOk result (λ e. Agrees e.run.fault → AreServed state dispatch e.run.dispatch workers.items e.run.workers.items e.run.receipts.items) }
     ensures judged { IfOk result (λ e. Agrees e.run.fault → AreAllWrong e.run.dispatch.inputs e.run.dispatch.history e.run.receipts.items) }
     ensures misreports { IfOk result (λ e. AreMisreports e.run.dispatch.inputs e.run.dispatch.history e.run.evidence.misreports) }
     ensures fault { IfOk result (λ e. IsFaultOf dispatch e.run.dispatch (places_served workers.items) e.run.receipts.items e.run.evidence e.run.fault) }

@@ -5,8 +5,8 @@ use Rattle.nd_receipts.specs.Made.{made}
 use Rattle.nd_workers.specs.declared.seat.Seat.{Seat}
 use Rattle.nd_workers.specs.Faults.{IsFaultFrom}
 use Rattle.nd_workers.specs.Runs.{IsServedIn, AreReceiptedFrom}
-use Rattle.nd_workers.specs.Steps.{RunsOn, StopsAreTold}
-use Rattle.nd_workers.specs.Written.{IsWritten}
+use Rattle.nd_run_desk.specs.Steps.{RunsOn, StopsAreTold}
+use Rattle.nd_run_desk.specs.Written.{IsWritten}
 use Rattle.nd_workers.specs.Served.{Seated, seat_of, places_served, IsSound}
 use Rattle.nd_workers.proofs.Compared.{served_in, is_over}
 use Rattle.nd_workers.proofs.Faulted.{drvs_kept, alike_of, quiet_of, thread_of, memory_of, sound_all, wrong_rows, journal_of}

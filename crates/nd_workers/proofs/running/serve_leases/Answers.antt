@@ -1,7 +1,7 @@
 use Rattle.std.proofs.Common.{sym, ap, ◌∙◌, subst, arith}
 use Rattle.nd_ledger.specs.Worlds.{World}
 use Rattle.nd_receipts.specs.Made.{made}
-use Rattle.nd_workers.specs.Steps.{RunsOn, StopsAreTold}
+use Rattle.nd_run_desk.specs.Steps.{RunsOn, StopsAreTold}
 use Rattle.nd_workers.proofs.running.serve_leases.Goals as goal
 
 pub close-closed-requires : goal.close-closed-requires

@@ -1,0 +1,7 @@
+pub mod Counts
+pub mod Fronts
+pub mod Kept
+pub mod Leaving
+pub mod Onward
+pub mod Told
+pub mod Upheld

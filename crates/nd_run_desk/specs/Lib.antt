@@ -1,0 +1,5 @@
+pub mod Abandoned
+pub mod Leaves
+pub mod Picks
+pub mod Steps
+pub mod Written

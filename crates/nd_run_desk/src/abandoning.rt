@@ -1,0 +1,96 @@
+//! What becomes of leases that no worker serves.
+
+ghost use Rattle.std.specs.Prelude.{◌≡◌, ◌≢◌, ◌+◌, ◌<◌, ◌≤◌, ◌++◌, [], length, reverse};
+ghost use Rattle.std.specs.List.{cons_option};
+ghost use Rattle.nd_history.specs.Choices.{machines_in, jobs_of};
+ghost use Rattle.nd_run_desk.specs.Abandoned.{places_on, is_manned, given_up_at, ends_on, stop_after, HasAbandoned, LeavesOthers, LeavesOtherMachines};
+
+use nd_history::Why;
+use nd_ledger::Dispatch;
+
+/// Begins nothing more, and ends each live lease on a place of the park that isn't among `manned`,
+/// which are machines with slots: `Stop` is recorded where none stands, and then, in the order of the
+/// machines and their slots, `Failed` with `NoWorker` for each of these leases, and nothing else. It
+/// takes no memory.
+#[tactic(auto, using(crate::proofs::Leaving::park_first, crate::proofs::Leaving::park_more, crate::proofs::Leaving::all_given_up))]
+pub fn abandon(dispatch: &mut Dispatch, manned: &[(u32, u32)])
+    ensures { HasAbandoned dispatch.old manned.now dispatch.new }
+{
+    stop(dispatch);
+    for machine in 0..machine_count(dispatch) {
+        abandon_machine(dispatch, manned, machine);
+    }
+}
+
+/// The number of machines of the park, the local one among them.
+pub fn machine_count(dispatch: &Dispatch) -> u32
+    ensures { result ≡ machines_in dispatch.now.inputs }
+{
+    dispatch.machines().len() as u32 + 1
+}
+
+/// Records a stop where none stands.
+#[tactic(auto, using(crate::proofs::Leaving::stop_recorded, crate::proofs::Leaving::stop_stands))]
+fn stop(dispatch: &mut Dispatch)
+    ensures { dispatch.new ≡ record dispatch.old { history = dispatch.old.history ++ stop_after (reverse dispatch.old.history) } }
+{
+    if let Err(_) = dispatch.stop() {
+        return;
+    }
+    let _ = dispatch.history();
+}
+
+/// How many builds may run at once on this machine, the first of which, machine 0, is the local one. There are none on
+/// one that isn't in the park.
+pub fn jobs_on(dispatch: &Dispatch, machine: u32) -> u32
+    ensures { result ≡ jobs_of dispatch.now.inputs machine }
+{
+    if machine == 0 {
+        return dispatch.local().jobs();
+    }
+    match dispatch.machines().get(machine as usize - 1) {
+        Some(machine) => machine.jobs(),
+        None => 0,
+    }
+}
+
+/// Whether the slot is among `manned`.
+fn is_manned(manned: &[(u32, u32)], machine: u32, slot: u32) -> bool
+    ensures { result ≡ is_manned manned.now (machine, slot) }
+{
+    manned
+        .iter()
+        .any(|place| machine == place.0 && slot == place.1)
+}
+
+/// Ends the live leases on the slots of a machine that aren't among `manned`.
+#[tactic(auto, using(crate::proofs::Leaving::machine_first, crate::proofs::Leaving::machine_more, crate::proofs::Leaving::machine_done, crate::proofs::Leaving::machine_others))]
+fn abandon_machine(dispatch: &mut Dispatch, manned: &[(u32, u32)], machine: u32)
+    ensures inputs { dispatch.new.inputs ≡ dispatch.old.inputs }
+    ensures history { dispatch.new.history ≡ dispatch.old.history ++ ends_on manned.now (reverse dispatch.old.history) (places_on dispatch.old.inputs machine) }
+    ensures others { LeavesOtherMachines machine (reverse dispatch.old.history) (reverse dispatch.new.history) }
+{
+    for slot in 0..jobs_on(dispatch, machine) {
+        abandon_slot(dispatch, manned, machine, slot);
+    }
+}
+
+/// Ends the live lease on a slot that isn't among `manned`.
+#[tactic(auto, using(crate::proofs::Leaving::leaves_same, crate::proofs::Leaving::live_there, crate::proofs::Leaving::one_less))]
+fn abandon_slot(dispatch: &mut Dispatch, manned: &[(u32, u32)], machine: u32, slot: u32)
+    ensures inputs { dispatch.new.inputs ≡ dispatch.old.inputs }
+    ensures history { dispatch.new.history ≡ dispatch.old.history ++ cons_option (given_up_at manned.now (reverse dispatch.old.history) (machine, slot)) [] }
+    ensures others { LeavesOthers machine slot (reverse dispatch.old.history) (reverse dispatch.new.history) }
+{
+    if is_manned(manned, machine, slot) {
+        return;
+    }
+    let Some(ticket) = dispatch.current(machine, slot) else {
+        return;
+    };
+    let _ = dispatch.history();
+    match dispatch.failed(ticket, Why::NoWorker) {
+        Ok(()) => {}
+        Err(_) => unreachable!(),
+    }
+}

@@ -1,5 +1,0 @@
-use Rattle.nd_receipts.specs.Noted.{GoesOn, track}
-use Rattle.nd_workers.proofs.working.work_on.Given as goal
-
-abbrev pub invariant-serving : goal.invariant-serving
-invariant-serving g l = GoesOn (track l.initial.hand.notes l.initial.transport.calls) (track l.hand.notes l.transport.calls)
