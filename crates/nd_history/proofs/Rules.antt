@@ -237,12 +237,6 @@ given_up_early i past d decision ranged ready decided other = record {
 pub any_unready : (i : Premises) (past : List Entry) (d : ℕ) → d < drvs_in i → (IsReady i past d → ⊥) → IsFirstForAny i past d Ready
 any_unready i past d ranged out = record { choice = λ m s there. chosen_unready i past d m s there out; word = given_up_unready i past d ranged out }
 
-pub any_choice : (i : Premises) (past : List Entry) (d m s : ℕ) (rule : Rule) → IsFirstForAny i past d rule → IsInRange i (Chosen d m s) → IsFirstRule i past (Chosen d m s) rule
-any_choice i past d m s rule any there = any.choice m s there
-
-pub any_given_up : (i : Premises) (past : List Entry) (d : ℕ) (rule : Rule) → IsFirstForAny i past d rule → IsFirstRule i past (NoBuilder d) rule
-any_given_up i past d rule any = any.word
-
 -- ---- starts, ends and stops
 
 started_earlier : (i : Premises) (past : List Entry) (d : ℕ) (paths : List (List ℕ)) (n : ℕ) → d < drvs_in i → (6 < n → is_leased d past ≡ true) → (7 < n → is_started d past ≡ false) → n ≤ 8 → (rule : Rule) → code_of rule < n → Passes i past (Started d paths) rule

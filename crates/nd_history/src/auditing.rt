@@ -10,7 +10,6 @@ ghost use Rattle.nd_history.specs.Marks.{AreMarked};
 ghost use Rattle.nd_history.specs.Audit.{IsFirstForAny, IsJudged, IsSlotJudged};
 
 use crate::book::Book;
-use crate::deciding::decide_now;
 use crate::entry::Entry;
 use crate::inputs::Inputs;
 use crate::rule::Rule;
@@ -159,32 +158,6 @@ pub fn judge_ready_choice(
     }
 }
 
-/// Tests the choice of a slot, all that it names being there: it is refused with the first rule that
-/// it breaks. It looks at each machine, and is kept for its contract: a dispatch decides by kinds, and tests
-/// with [`check_ready`] and [`judge_ready_choice`]. It takes no memory.
-#[tactic(auto, using(crate::proofs::Rules::any_choice))]
-pub fn check_choice(
-    inputs: &Inputs,
-    book: &Book,
-    board: &Board,
-    drv: u32,
-    machine: u32,
-    slot: u32,
-) -> Result<(), Rule>
-    requires fit { FitTogether (premises_of inputs.now) book.now }
-    requires marked { AreMarked (premises_of inputs.now) (reverse book.now.entries) board.now }
-    requires ranged { IsInRange (premises_of inputs.now) (Entry.Chosen drv machine slot) }
-    ensures { IsJudged (premises_of inputs.now) (reverse book.now.entries) (Entry.Chosen drv machine slot) result }
-{
-    match check_ready(inputs, book, board, drv) {
-        Ok(()) => {
-            let decision = decide_now(inputs, book, drv as usize);
-            judge_ready_choice(inputs, book, decision, drv, machine, slot)
-        }
-        Err(rule) => Err(rule),
-    }
-}
-
 /// Tests the word that nothing can build a derivation that is ready and about which this is decided: it is
 /// refused with the first rule that it breaks. It takes no memory.
 pub fn judge_ready_no_builder(
@@ -203,24 +176,5 @@ pub fn judge_ready_no_builder(
         Decision::Local => Err(Rule::Decision),
         Decision::Remote(_) => Err(Rule::Decision),
         Decision::Wait => Err(Rule::Decision),
-    }
-}
-
-/// Tests the word that nothing can build a derivation, which is there: it is refused with the first
-/// rule that it breaks. It looks at each machine, and is kept for its contract: a dispatch decides by kinds, and
-/// tests with [`check_ready`] and [`judge_ready_no_builder`]. It takes no memory.
-#[tactic(auto, using(crate::proofs::Rules::any_given_up))]
-pub fn check_no_builder(inputs: &Inputs, book: &Book, board: &Board, drv: u32) -> Result<(), Rule>
-    requires fit { FitTogether (premises_of inputs.now) book.now }
-    requires marked { AreMarked (premises_of inputs.now) (reverse book.now.entries) board.now }
-    requires ranged { drv < drvs_in (premises_of inputs.now) }
-    ensures { IsJudged (premises_of inputs.now) (reverse book.now.entries) (Entry.NoBuilder drv) result }
-{
-    match check_ready(inputs, book, board, drv) {
-        Ok(()) => {
-            let decision = decide_now(inputs, book, drv as usize);
-            judge_ready_no_builder(inputs, book, decision, drv)
-        }
-        Err(rule) => Err(rule),
     }
 }

@@ -21,17 +21,15 @@ use Rattle.nd_history.specs.Fitting.{FitTogether}
 use Rattle.nd_provision.specs.Stored.{Stored, AreStored, is_quiet, IsSameStored, HasTaken}
 use Rattle.nd_provision.specs.declared.copying.Additions.{Additions}
 use Rattle.nd_history.specs.Pumping.{step_drv}
-use Rattle.nd_ledger.specs.Moves.{IsRoomier, IsStepRecorded, CanTurn, IsReadyToStart, IsReadyToEnd, AreFresh}
+use Rattle.nd_ledger.specs.Moves.{IsRoomier, IsStepRecorded, CanTurn, IsReadyToStart, IsReadyToEnd}
 use Rattle.nd_ledger.specs.Inner.{IsKept, room_for}
 use Rattle.nd_history.specs.Marks.{AreMarked, board_after}
 use Rattle.nd_history.specs.Choices.{machines_in}
 use Rattle.nd_history.specs.Legal.{IsInRange}
-use Rattle.nd_pump.specs.Turned.{Turned, AreTurns, HasTurned, IsWhole, touched}
+use Rattle.nd_pump.specs.Turned.{Turned, AreTurns, HasSearched, HasTurned, IsWhole, touched}
 use Rattle.nd_pump.specs.Listing.{IsNewsWithin}
-use Rattle.nd_pump.specs.Vacancies.{AreVacant, HasOpened}
-use Rattle.nd_pump.proofs.Following.{turned_after, turns_fresh}
-use Rattle.nd_pump.proofs.Taking.{drvs_needs}
-use Rattle.nd_pump.proofs.Vacant.{vacant_after, vacant_all}
+use Rattle.nd_pump.proofs.Following.{turned_after}
+use Rattle.nd_pump.proofs.Taking.{drvs_needs, turns_searched}
 use Rattle.nd_history.proofs.Following.{newest_first}
 use Rattle.nd_history.proofs.Legality.{leased_ranged, allowed_at}
 use Rattle.nd_history.proofs.Headline.{chosen_in}
@@ -41,7 +39,7 @@ use Rattle.nd_history.proofs.Marking.{followed}
 use Rattle.nd_provision.proofs.Storing.{stored_quiet, stored_same, stored_start, stored_built}
 
 -- one more entry in the book and on the board
-pub record IsRecorded (old new : Recorded) (was now : Progress) (before after : Turned) (vacant vacant_after : List Bool) (e : Entry) : Type 0 where
+pub record IsRecorded (old new : Recorded) (was now : Progress) (before after : Turned) (e : Entry) : Type 0 where
   pub entries : new.entries ≡ old.entries ++ e ∷ []
   pub room : old.room ≤ new.room + 1
   pub drvs : new.drvs ≡ old.drvs
@@ -49,12 +47,11 @@ pub record IsRecorded (old new : Recorded) (was now : Progress) (before after : 
   pub board : now ≡ board_after was e
   pub turned : HasTurned (board_after was e) e (touched e (reverse old.entries)) before after
   pub whole : IsWhole after
-  pub opened : HasOpened (touched e (reverse old.entries)) vacant vacant_after
 
 -- .. with what is kept of references and holdings after it
-pub kept_with : (d : Inside) (book : Recorded) (board : Progress) (turns : Turned) (vacancies : List Bool) (stores : Stored) (e : Entry) → IsRecorded d.book book d.board board d.turns turns d.vacancies vacancies e → IsKept d → IsAllowed (premises_of d.inputs) e (reverse d.book.entries) → room_for (e ∷ reverse d.book.entries) + 1 ≤ d.book.room
-    → AreStored (premises_of d.inputs) (e ∷ reverse d.book.entries) stores → IsKept (record d { book = book; board = board; turns = turns; vacancies = vacancies; stores = stores })
-kept_with d book board turns vacancies stores e rec was allowed room stored =
+pub kept_with : (d : Inside) (book : Recorded) (board : Progress) (turns : Turned) (stores : Stored) (e : Entry) → IsRecorded d.book book d.board board d.turns turns e → IsKept d → IsAllowed (premises_of d.inputs) e (reverse d.book.entries) → room_for (e ∷ reverse d.book.entries) + 1 ≤ d.book.room
+    → AreStored (premises_of d.inputs) (e ∷ reverse d.book.entries) stores → IsKept (record d { book = book; board = board; turns = turns; stores = stores })
+kept_with d book board turns stores e rec was allowed room stored =
     let turned : reverse book.entries ≡ e ∷ reverse d.book.entries = newest_first d.book.entries book.entries e rec.entries in
     let P : List Entry → Type 0 = λ past. IsLegal (premises_of d.inputs) past in
     let Q : List Entry → Type 0 = λ past. room_for past ≤ book.room in
@@ -76,15 +73,11 @@ kept_with d book board turns vacancies stores e rec was allowed room stored =
           let V : Progress → Type 0 = λ p. AreTurns (premises_of d.inputs) (e ∷ reverse d.book.entries) p turns in
           subst U (sym turned) (subst V (sym rec.board) (turned_after (premises_of d.inputs) (reverse d.book.entries) d.board d.turns turns e was.legal was.marked allowed was.turns rec.turned rec.whole))
           );
-      vacant = (
-          let W : List Entry → Type 0 = λ past. AreVacant (premises_of d.inputs) past vacancies in
-          subst W (sym turned) (vacant_after (premises_of d.inputs) (reverse d.book.entries) e d.vacancies vacancies was.legal allowed was.vacant rec.opened)
-          );
     }
 
 -- .. which an entry that is no start and no build leaves as it was
-pub kept : (d : Inside) (book : Recorded) (board : Progress) (turns : Turned) (vacancies : List Bool) (e : Entry) → IsRecorded d.book book d.board board d.turns turns d.vacancies vacancies e → IsKept d → IsAllowed (premises_of d.inputs) e (reverse d.book.entries) → room_for (e ∷ reverse d.book.entries) + 1 ≤ d.book.room → is_quiet e ≡ true → IsKept (record d { book = book; board = board; turns = turns; vacancies = vacancies })
-kept d book board turns vacancies e rec was allowed room quiet = kept_with d book board turns vacancies d.stores e rec was allowed room (stored_quiet (premises_of d.inputs) (reverse d.book.entries) e d.stores quiet was.stores)
+pub kept : (d : Inside) (book : Recorded) (board : Progress) (turns : Turned) (e : Entry) → IsRecorded d.book book d.board board d.turns turns e → IsKept d → IsAllowed (premises_of d.inputs) e (reverse d.book.entries) → room_for (e ∷ reverse d.book.entries) + 1 ≤ d.book.room → is_quiet e ≡ true → IsKept (record d { book = book; board = board; turns = turns })
+kept d book board turns e rec was allowed room quiet = kept_with d book board turns d.stores e rec was allowed room (stored_quiet (premises_of d.inputs) (reverse d.book.entries) e d.stores quiet was.stores)
 
 -- ---- leases that are found
 
@@ -116,30 +109,30 @@ fewer d (t ∷ leases) h = fewer_step d t leases (d == t.drv) h (fewer d leases)
 
 -- ---- the entries that end leases, and a stop
 
-pub kept_failed : (d : Inside) (book : Recorded) (board : Progress) (turns : Turned) (vacancies : List Bool) (t : Ticket) (e : Entry) (why : Why) → e ≡ Failed t.drv why → IsRecorded d.book book d.board board d.turns turns d.vacancies vacancies e → IsKept d → lease_of t.drv (reverse d.book.entries) ≡ Some t → IsKept (record d { book = book; board = board; turns = turns; vacancies = vacancies })
-kept_failed d book board turns vacancies t e why is rec was found =
+pub kept_failed : (d : Inside) (book : Recorded) (board : Progress) (turns : Turned) (t : Ticket) (e : Entry) (why : Why) → e ≡ Failed t.drv why → IsRecorded d.book book d.board board d.turns turns e → IsKept d → lease_of t.drv (reverse d.book.entries) ≡ Some t → IsKept (record d { book = book; board = board; turns = turns })
+kept_failed d book board turns t e why is rec was found =
     let past = reverse d.book.entries in
     let leased = found_leased t.drv past t found in
-    let P : Entry → Type 0 = λ e. IsRecorded d.book book d.board board d.turns turns d.vacancies vacancies e in
-    kept d book board turns vacancies (Failed t.drv why) (subst P is rec) was
+    let P : Entry → Type 0 = λ e. IsRecorded d.book book d.board board d.turns turns e in
+    kept d book board turns (Failed t.drv why) (subst P is rec) was
     (record { ranged = leased_ranged (premises_of d.inputs) past was.legal t.drv leased; may = leased })
     (let less = fewer t.drv (live past) leased in let room = was.room in omega arith) refl
 
-pub kept_down : (d : Inside) (book : Recorded) (board : Progress) (turns : Turned) (vacancies : List Bool) (t : Ticket) (e : Entry) → e ≡ Down t.drv → IsRecorded d.book book d.board board d.turns turns d.vacancies vacancies e → IsKept d → lease_of t.drv (reverse d.book.entries) ≡ Some t → is_started t.drv (reverse d.book.entries) ≡ false → IsKept (record d { book = book; board = board; turns = turns; vacancies = vacancies })
-kept_down d book board turns vacancies t e is rec was found fresh =
+pub kept_down : (d : Inside) (book : Recorded) (board : Progress) (turns : Turned) (t : Ticket) (e : Entry) → e ≡ Down t.drv → IsRecorded d.book book d.board board d.turns turns e → IsKept d → lease_of t.drv (reverse d.book.entries) ≡ Some t → is_started t.drv (reverse d.book.entries) ≡ false → IsKept (record d { book = book; board = board; turns = turns })
+kept_down d book board turns t e is rec was found fresh =
     let past = reverse d.book.entries in
     let leased = found_leased t.drv past t found in
-    let P : Entry → Type 0 = λ e. IsRecorded d.book book d.board board d.turns turns d.vacancies vacancies e in
-    kept d book board turns vacancies (Down t.drv) (subst P is rec) was
+    let P : Entry → Type 0 = λ e. IsRecorded d.book book d.board board d.turns turns e in
+    kept d book board turns (Down t.drv) (subst P is rec) was
     (record { ranged = leased_ranged (premises_of d.inputs) past was.legal t.drv leased; may = record { live = leased; fresh = fresh } })
     (let less = fewer t.drv (live past) leased in let room = was.room in omega arith) refl
 
 stop_room : (past : List Entry) (n : ℕ) → has_stop past ≡ false → room_for past ≤ n → room_for (Stop ∷ past) + 1 ≤ n
 stop_room past n none room = let at = rw none at room in omega arith
 
-pub kept_stop : (d : Inside) (book : Recorded) (board : Progress) (turns : Turned) (vacancies : List Bool) → IsRecorded d.book book d.board board d.turns turns d.vacancies vacancies Stop → IsKept d → has_stop (reverse d.book.entries) ≡ false → IsKept (record d { book = book; board = board; turns = turns; vacancies = vacancies })
-kept_stop d book board turns vacancies rec was none =
-    kept d book board turns vacancies Stop rec was (record { ranged = tt; may = none }) (stop_room (reverse d.book.entries) d.book.room none was.room) refl
+pub kept_stop : (d : Inside) (book : Recorded) (board : Progress) (turns : Turned) → IsRecorded d.book book d.board board d.turns turns Stop → IsKept d → has_stop (reverse d.book.entries) ≡ false → IsKept (record d { book = book; board = board; turns = turns })
+kept_stop d book board turns rec was none =
+    kept d book board turns Stop rec was (record { ranged = tt; may = none }) (stop_room (reverse d.book.entries) d.book.room none was.room) refl
 
 -- ---- entries that end no lease, for which room was made
 
@@ -171,28 +164,27 @@ kept_room d book n more was =
       stores = (let R : List Entry → Type 0 = λ es. AreStored (premises_of d.inputs) (reverse es) d.stores in subst R (sym more.entries) was.stores);
       marked = (let S : List Entry → Type 0 = λ es. AreMarked (premises_of d.inputs) (reverse es) d.board in subst S (sym more.entries) was.marked);
       turns = (let U : List Entry → Type 0 = λ es. AreTurns (premises_of d.inputs) (reverse es) d.board d.turns in subst U (sym more.entries) was.turns);
-      vacant = (let W : List Entry → Type 0 = λ es. AreVacant (premises_of d.inputs) (reverse es) d.vacancies in subst W (sym more.entries) was.vacant);
     }
 
 -- an entry is recorded where room was made for it, a stop and all leases
-pub kept_more_with : (d : Inside) (roomy book : Recorded) (board : Progress) (turns : Turned) (vacancies : List Bool) (stores : Stored) (e : Entry) (n : ℕ) → HasRoom d.book roomy (length (live (reverse d.book.entries)) + n + 2) → IsRecorded roomy book d.board board d.turns turns d.vacancies vacancies e → IsKept d → IsAllowed (premises_of d.inputs) e (reverse d.book.entries)
-    → length (live (e ∷ reverse d.book.entries)) ≤ length (live (reverse d.book.entries)) + n → AreStored (premises_of d.inputs) (e ∷ reverse d.book.entries) stores → IsKept (record d { book = book; board = board; turns = turns; vacancies = vacancies; stores = stores })
-kept_more_with d roomy book board turns vacancies stores e n more rec was allowed few stored =
+pub kept_more_with : (d : Inside) (roomy book : Recorded) (board : Progress) (turns : Turned) (stores : Stored) (e : Entry) (n : ℕ) → HasRoom d.book roomy (length (live (reverse d.book.entries)) + n + 2) → IsRecorded roomy book d.board board d.turns turns e → IsKept d → IsAllowed (premises_of d.inputs) e (reverse d.book.entries)
+    → length (live (e ∷ reverse d.book.entries)) ≤ length (live (reverse d.book.entries)) + n → AreStored (premises_of d.inputs) (e ∷ reverse d.book.entries) stores → IsKept (record d { book = book; board = board; turns = turns; stores = stores })
+kept_more_with d roomy book board turns stores e n more rec was allowed few stored =
     let P : List Entry → Type 0 = λ es. IsAllowed (premises_of d.inputs) e (reverse es) in
     let Q : List Entry → Type 0 = λ es. room_for (e ∷ reverse es) + 1 ≤ roomy.room in
     let R : List Entry → Type 0 = λ es. AreStored (premises_of d.inputs) (e ∷ reverse es) stores in
     let bit = stop_bit (has_stop (e ∷ reverse d.book.entries)) in
     let had = more.more in
-    kept_with (record d { book = roomy }) book board turns vacancies stores e rec (kept_room d roomy (length (live (reverse d.book.entries)) + n + 2) more was)
+    kept_with (record d { book = roomy }) book board turns stores e rec (kept_room d roomy (length (live (reverse d.book.entries)) + n + 2) more was)
     (subst P (sym more.entries) allowed)
     (subst Q (sym more.entries) (omega arith))
     (subst R (sym more.entries) stored)
 
 -- an entry that is no start and no build, and makes no more than one lease
-pub kept_more : (d : Inside) (roomy book : Recorded) (board : Progress) (turns : Turned) (vacancies : List Bool) (e : Entry) (n : ℕ) → HasRoom d.book roomy (length (live (reverse d.book.entries)) + n + 2) → IsRecorded roomy book d.board board d.turns turns d.vacancies vacancies e → IsKept d → IsAllowed (premises_of d.inputs) e (reverse d.book.entries)
-    → length (live (e ∷ reverse d.book.entries)) ≤ length (live (reverse d.book.entries)) + n → is_quiet e ≡ true → IsKept (record d { book = book; board = board; turns = turns; vacancies = vacancies })
-kept_more d roomy book board turns vacancies e n more rec was allowed few quiet =
-    kept_more_with d roomy book board turns vacancies d.stores e n more rec was allowed few (stored_quiet (premises_of d.inputs) (reverse d.book.entries) e d.stores quiet was.stores)
+pub kept_more : (d : Inside) (roomy book : Recorded) (board : Progress) (turns : Turned) (e : Entry) (n : ℕ) → HasRoom d.book roomy (length (live (reverse d.book.entries)) + n + 2) → IsRecorded roomy book d.board board d.turns turns e → IsKept d → IsAllowed (premises_of d.inputs) e (reverse d.book.entries)
+    → length (live (e ∷ reverse d.book.entries)) ≤ length (live (reverse d.book.entries)) + n → is_quiet e ≡ true → IsKept (record d { book = book; board = board; turns = turns })
+kept_more d roomy book board turns e n more rec was allowed few quiet =
+    kept_more_with d roomy book board turns d.stores e n more rec was allowed few (stored_quiet (premises_of d.inputs) (reverse d.book.entries) e d.stores quiet was.stores)
 
 -- the load of a machine is a small number
 pub small_load : (d : Inside) → IsKept d → (m : ℕ) → load m (reverse d.book.entries) ≤ 65535
@@ -229,13 +221,13 @@ step_quiet (Built c refs) d h = cc
 step_quiet e d h = refl
 
 -- a step is recorded
-pub kept_step : (d : Inside) (book : Recorded) (board : Progress) (turns : Turned) (vacancies : List Bool) (e : Entry) → IsStepRecorded d.book book d.board board d.turns turns d.vacancies vacancies e → IsKept d → IsAllowed (premises_of d.inputs) e (reverse d.book.entries) → is_quiet e ≡ true → IsKept (record d { book = book; board = board; turns = turns; vacancies = vacancies })
-kept_step d book board turns vacancies e rec was allowed quiet =
+pub kept_step : (d : Inside) (book : Recorded) (board : Progress) (turns : Turned) (e : Entry) → IsStepRecorded d.book book d.board board d.turns turns e → IsKept d → IsAllowed (premises_of d.inputs) e (reverse d.book.entries) → is_quiet e ≡ true → IsKept (record d { book = book; board = board; turns = turns })
+kept_step d book board turns e rec was allowed quiet =
     let had = rec.room in
     let roomy : Recorded = record { entries = d.book.entries; room = book.room + 1; drvs = book.drvs; machines = book.machines; rooms = book.rooms } in
-    kept_more d roomy book board turns vacancies e 1
+    kept_more d roomy book board turns e 1
     (record { entries = refl; drvs = rec.drvs; machines = rec.machines; room = rec.kept; more = omega arith })
-    (record { entries = rec.entries; room = omega arith; drvs = refl; machines = refl; board = rec.board; turned = rec.turned; whole = rec.whole; opened = rec.opened })
+    (record { entries = rec.entries; room = omega arith; drvs = refl; machines = refl; board = rec.board; turned = rec.turned; whole = rec.whole })
     was allowed (live_grows (reverse d.book.entries) e) quiet
 
 -- what was kept with other room for references and holdings is kept
@@ -251,35 +243,34 @@ kept_stores d stores same was = record {
   stores = stored_same (premises_of d.inputs) (reverse d.book.entries) d.stores stores same was.stores;
   marked = was.marked;
   turns = was.turns;
-  vacant = was.vacant;
 }
 
 -- ---- starts, and builds that end
 
-pub kept_started : (d : Inside) (roomy book : Recorded) (board : Progress) (turns : Turned) (vacancies : List Bool) (mid new : Stored) (t : Ticket) (paths : List (List ℕ)) (a : Additions) (e : Entry) → e ≡ Started t.drv paths → IsRoomier d.book roomy → IsRecorded roomy book d.board board d.turns turns d.vacancies vacancies e → IsKept d → IsSameStored d.stores mid
-    → IsReadyToStart (premises_of d.inputs) (reverse d.book.entries) t paths roomy mid a → HasTaken mid new a → IsKept (record d { book = book; board = board; turns = turns; vacancies = vacancies; stores = new })
-kept_started d roomy book board turns vacancies mid new t paths a e is more rec was same ready took =
+pub kept_started : (d : Inside) (roomy book : Recorded) (board : Progress) (turns : Turned) (mid new : Stored) (t : Ticket) (paths : List (List ℕ)) (a : Additions) (e : Entry) → e ≡ Started t.drv paths → IsRoomier d.book roomy → IsRecorded roomy book d.board board d.turns turns e → IsKept d → IsSameStored d.stores mid
+    → IsReadyToStart (premises_of d.inputs) (reverse d.book.entries) t paths roomy mid a → HasTaken mid new a → IsKept (record d { book = book; board = board; turns = turns; stores = new })
+kept_started d roomy book board turns mid new t paths a e is more rec was same ready took =
     let i = premises_of d.inputs in
     let past = reverse d.book.entries in
-    let P : Entry → Type 0 = λ e. IsRecorded roomy book d.board board d.turns turns d.vacancies vacancies e in
+    let P : Entry → Type 0 = λ e. IsRecorded roomy book d.board board d.turns turns e in
     let leased = found_leased t.drv past t ready.live in
     let had = ready.room in
-    kept_more_with d roomy book board turns vacancies new (Started t.drv paths) 0
+    kept_more_with d roomy book board turns new (Started t.drv paths) 0
     (record { entries = more.entries; drvs = more.drvs; machines = more.machines; room = more.room; more = omega arith })
     (subst P is rec) was
     (record { ranged = leased_ranged i past was.legal t.drv leased; may = record { ticket = t; live = ready.live; fresh = ready.fresh; right = ready.right } })
     (omega arith)
     (stored_start i past t.drv t paths mid new a was.legal ready.live ready.right (stored_same i past d.stores mid same was.stores) ready.adds took)
 
-pub kept_built : (d : Inside) (book : Recorded) (board : Progress) (turns : Turned) (vacancies : List Bool) (mid new : Stored) (t : Ticket) (refs : List (List (List ℕ))) (a : Additions) (e : Entry) → e ≡ Built t.drv refs → IsRecorded d.book book d.board board d.turns turns d.vacancies vacancies e → IsKept d → IsSameStored d.stores mid
-    → IsReadyToEnd (premises_of d.inputs) (reverse d.book.entries) t refs mid a → HasTaken mid new a → IsKept (record d { book = book; board = board; turns = turns; vacancies = vacancies; stores = new })
-kept_built d book board turns vacancies mid new t refs a e is rec was same ready took =
+pub kept_built : (d : Inside) (book : Recorded) (board : Progress) (turns : Turned) (mid new : Stored) (t : Ticket) (refs : List (List (List ℕ))) (a : Additions) (e : Entry) → e ≡ Built t.drv refs → IsRecorded d.book book d.board board d.turns turns e → IsKept d → IsSameStored d.stores mid
+    → IsReadyToEnd (premises_of d.inputs) (reverse d.book.entries) t refs mid a → HasTaken mid new a → IsKept (record d { book = book; board = board; turns = turns; stores = new })
+kept_built d book board turns mid new t refs a e is rec was same ready took =
     let i = premises_of d.inputs in
     let past = reverse d.book.entries in
-    let P : Entry → Type 0 = λ e. IsRecorded d.book book d.board board d.turns turns d.vacancies vacancies e in
+    let P : Entry → Type 0 = λ e. IsRecorded d.book book d.board board d.turns turns e in
     let leased = found_leased t.drv past t ready.live in
     let allowed : IsAllowed i (Built t.drv refs) past = record { ranged = leased_ranged i past was.legal t.drv leased; may = record { live = leased; started = ready.started; right = ready.right } } in
-    kept_with d book board turns vacancies new (Built t.drv refs) (subst P is rec) was allowed
+    kept_with d book board turns new (Built t.drv refs) (subst P is rec) was allowed
     (let less = fewer t.drv (live past) leased in let room = was.room in omega arith)
     (stored_built i past t.drv t refs mid new a (allowed, was.legal) ready.live (stored_same i past d.stores mid same was.stores) ready.adds took)
 
@@ -294,7 +285,7 @@ pub record IsCopy (d copy : Inside) : Type 0 where
   pub room : length (live (reverse d.book.entries)) + 1 ≤ copy.book.room
   pub stores : IsSameStored d.stores copy.stores
   pub board : copy.board ≡ d.board
-  pub fresh : AreFresh copy.inputs.machines copy.inputs.local copy.inputs.graph.needs copy.board copy.turns copy.vacancies
+  pub turns : AreTurns (premises_of copy.inputs) (reverse copy.book.entries) copy.board copy.turns
 
 -- a copy holds what the original holds
 pub kept_copy : (d copy : Inside) → IsCopy d copy → IsKept d → IsKept copy
@@ -322,8 +313,7 @@ kept_copy d copy same was =
       small = subst AreSmall (sym same.inputs) was.small;
       stores = subst StoresAfter (sym same.entries) (subst Stores (sym same.inputs) stored);
       marked = subst MarkedAfter (sym same.entries) (subst BoardAfter (sym same.board) (subst Marked (sym same.inputs) was.marked));
-      turns = turns_fresh (premises_of copy.inputs) (reverse copy.book.entries) copy.board copy.turns same.fresh.whole same.fresh.kinds same.fresh.listed same.fresh.none;
-      vacant = vacant_all (premises_of copy.inputs) (reverse copy.book.entries) copy.vacancies same.fresh.vacant;
+      turns = same.turns;
     }
 
 -- a derivation whose lease is found is leased on the board
@@ -333,9 +323,9 @@ found_marked d was t found =
 
 -- ---- turns
 
--- other turns and other flags of builders for the same history
-pub kept_turns : (d : Inside) (turns : Turned) (vacancies : List Bool) → AreTurns (premises_of d.inputs) (reverse d.book.entries) d.board turns → AreVacant (premises_of d.inputs) (reverse d.book.entries) vacancies → IsKept d → IsKept (record d { turns = turns; vacancies = vacancies })
-kept_turns d turns vacancies are vacant was = record {
+-- other turns for the same history
+pub kept_turns : (d : Inside) (turns : Turned) → AreTurns (premises_of d.inputs) (reverse d.book.entries) d.board turns → IsKept d → IsKept (record d { turns = turns })
+kept_turns d turns are was = record {
   legal = was.legal;
   room = was.room;
   sound = was.sound;
@@ -346,12 +336,11 @@ kept_turns d turns vacancies are vacant was = record {
   stores = was.stores;
   marked = was.marked;
   turns = are;
-  vacant = vacant;
 }
 
--- .. other flags alone
-pub kept_vacancies : (d : Inside) (vacancies : List Bool) → AreVacant (premises_of d.inputs) (reverse d.book.entries) vacancies → IsKept d → IsKept (record d { vacancies = vacancies })
-kept_vacancies d vacancies vacant was = kept_turns d d.turns vacancies was.turns vacant was
+-- .. those with which builders were looked at
+pub kept_searched : (d : Inside) (turns : Turned) → HasSearched (premises_of d.inputs) (reverse d.book.entries) d.turns turns → IsKept d → IsKept (record d { turns = turns })
+kept_searched d turns searched was = kept_turns d turns (turns_searched (premises_of d.inputs) (reverse d.book.entries) d.board d.turns turns searched was.turns) was
 
 machine_ranged : (n : ℕ) (o : Option Ticket) → ((t : Ticket) → o ≡ Some t → t.machine < n) → IfSome (option_map (λ (t : Ticket). t.machine) o) (λ m. m < n)
 machine_ranged n None h = tt
@@ -374,11 +363,6 @@ touched_ranged i past n Stop is legal ranged = tt
 touched_ranged i past n (Drain m) is legal ranged = omega (arith, is, ranged)
 touched_ranged i past n (Enable m) is legal ranged = omega (arith, is, ranged)
 
--- a machine past the local one is a builder
-builder_ranged : (o : Option ℕ) (n : ℕ) → IfSome o (λ m. m < n + 1) → IfSome o (λ m. m ≤ n)
-builder_ranged None n h = tt
-builder_ranged (Some m) n h = omega (arith, h)
-
 news_within : (i : Premises) (n : ℕ) (e : Entry) → n ≡ drvs_in i → IsInRange i e → IsNewsWithin n e
 news_within i n (Chosen d m s) is ranged = tt
 news_within i n (NoBuilder d) is ranged = tt
@@ -391,7 +375,7 @@ news_within i n (Drain m) is ranged = tt
 news_within i n (Enable m) is ranged = tt
 
 -- the turns can follow what is allowed
-pub can_turn : (d : Inside) (e : Entry) → IsKept d → IsAllowed (premises_of d.inputs) e (reverse d.book.entries) → CanTurn d.book d.board d.turns d.vacancies e
+pub can_turn : (d : Inside) (e : Entry) → IsKept d → IsAllowed (premises_of d.inputs) e (reverse d.book.entries) → CanTurn d.book d.board d.turns e
 can_turn d e was allowed =
     let i = premises_of d.inputs in
     let rows : length d.board.inputs ≡ drvs_in i = ap length was.marked.inputs in
@@ -399,14 +383,12 @@ can_turn d e was allowed =
       sized = rows ∙ (sym (drvs_needs i was.sound) ∙ sym was.turns.kinds.sized);
       within = news_within i (length d.board.inputs) e rows allowed.ranged;
       machine = touched_ranged i (reverse d.book.entries) (length d.turns.kinds.users) e was.turns.kinds.park was.legal allowed.ranged;
-      builder = builder_ranged (touched e (reverse d.book.entries)) (length d.vacancies) (touched_ranged i (reverse d.book.entries) (length d.vacancies + 1) e (ap (λ (n : ℕ). n + 1) was.vacant.sized) was.legal allowed.ranged);
     }
 
 -- .. over a book with the same entries
-pub same_turn : (old new : Recorded) (board : Progress) (turns : Turned) (vacancies : List Bool) (e : Entry) → new.entries ≡ old.entries → CanTurn old board turns vacancies e → CanTurn new board turns vacancies e
-same_turn old new board turns vacancies e same can = record {
+pub same_turn : (old new : Recorded) (board : Progress) (turns : Turned) (e : Entry) → new.entries ≡ old.entries → CanTurn old board turns e → CanTurn new board turns e
+same_turn old new board turns e same can = record {
   sized = can.sized;
   within = can.within;
   machine = subst (λ (es : List Entry). IfSome (touched e (reverse es)) (λ m. m < length turns.kinds.users)) (sym same) can.machine;
-  builder = subst (λ (es : List Entry). IfSome (touched e (reverse es)) (λ m. m ≤ length vacancies)) (sym same) can.builder;
 }

@@ -12,7 +12,6 @@ use Rattle.nd_history.specs.Legal.{IsLegal}
 use Rattle.nd_provision.specs.Stored.{AreStored}
 use Rattle.nd_history.specs.Marks.{AreMarked}
 use Rattle.nd_pump.specs.Turned.{AreTurns}
-use Rattle.nd_pump.specs.Vacancies.{AreVacant}
 
 abbrev pub seen : Inside → World
 seen d = record { inputs = premises_of d.inputs; history = d.book.entries }
@@ -36,7 +35,5 @@ pub record IsKept (d : Inside) : Type 0 where
   pub stores : AreStored (premises_of d.inputs) (reverse d.book.entries) d.stores
   -- the board follows the history
   pub marked : AreMarked (premises_of d.inputs) (reverse d.book.entries) d.board
-  -- the turns follow the history and the board
+  -- the turns follow the history and the board, and the builders that may have a free slot, which they keep, the history
   pub turns : AreTurns (premises_of d.inputs) (reverse d.book.entries) d.board d.turns
-  -- the builders that may have a free slot follow the history
-  pub vacant : AreVacant (premises_of d.inputs) (reverse d.book.entries) d.vacancies

@@ -1,6 +1,6 @@
 -- When starts, ends of builds and questions about copies are refused, and what they need before they are recorded.
 -- The histories of these definitions stand newest first. Public clauses cite the refusals; the rest serves private ones.
-use Rattle.std.specs.Prelude.{◌≡◌, ℕ, ◌+◌, ◌<◌, ◌≤◌, Bool, true, false, List, [], ◌∷◌, ◌++◌, length, reverse, IfSome}
+use Rattle.std.specs.Prelude.{◌≡◌, ℕ, ◌+◌, ◌<◌, ◌≤◌, true, false, List, [], ◌∷◌, ◌++◌, length, reverse, IfSome}
 use Rattle.nd_ledger.specs.declared.refusal.Refusal.{Refusal}
 use Rattle.nd_ledger.specs.declared.refusal.Refusal.TheVariants.{NotLive, AlreadyStarted, NotStarted, Uncovered, Extra, BadReferences, AlreadyStopped, Memory}
 use Rattle.nd_provision.specs.declared.copying.Additions.{Additions}
@@ -14,13 +14,8 @@ use Rattle.nd_history.specs.Premises.{Premises}
 use Rattle.nd_history.specs.History.{live as leases, is_started}
 use Rattle.nd_ledger.specs.Refusals.{IsLive}
 use Rattle.nd_history.specs.Marks.{board_after}
-use Rattle.nd_machines.specs.Builders.{Builder}
-use Rattle.nd_eligible.specs.declared.need.Need.{Need}
-use Rattle.nd_eligible.specs.Settings.{Settings}
-use Rattle.nd_kinds.specs.Kinds.{AreKinds}
-use Rattle.nd_pump.specs.Turned.{Turned, AreListed, HasTurned, IsWhole, is_parked, touched}
+use Rattle.nd_pump.specs.Turned.{Turned, HasTurned, IsWhole, touched}
 use Rattle.nd_pump.specs.Listing.{IsNewsWithin}
-use Rattle.nd_pump.specs.Vacancies.{AreAllVacant, HasOpened}
 use Rattle.nd_history.specs.References.{ArePathsRight, AreReferencesRight}
 use Rattle.nd_provision.specs.Stored.{Stored, Fits, AreStartAdditions, AreBuiltAdditions, IsUncovered, IsExtra}
 
@@ -72,24 +67,14 @@ pub record IsRoomier (old new : Recorded) : Type 0 where
   pub machines : new.machines ≡ old.machines
   pub room : old.room ≤ new.room
 
--- the turns of what is ready on the board, no kind passed over, and flags of all builders
-pub record AreFresh (machines : List Builder) (local : Settings) (needs : List Need) (board : Progress) (turns : Turned) (flags : List Bool) : Type 0 where
-  pub whole : IsWhole turns
-  pub kinds : AreKinds machines local needs turns.kinds
-  pub listed : AreListed board turns.queue
-  pub none : (n : ℕ) → is_parked turns n ≡ false
-  pub vacant : AreAllVacant (length machines) flags
-
--- the turns and the flags of builders can follow the entry: the turns are those of the board, and what the entry is about and touches
--- is there
-pub record CanTurn (book : Recorded) (board : Progress) (turns : Turned) (vacant : List Bool) (e : Entry) : Type 0 where
+-- the turns can follow the entry: they are those of the board, and what the entry is about and touches is there
+pub record CanTurn (book : Recorded) (board : Progress) (turns : Turned) (e : Entry) : Type 0 where
   pub sized : length board.inputs ≡ length turns.kinds.numbers
   pub within : IsNewsWithin (length board.inputs) e
   pub machine : IfSome (touched e (reverse book.entries)) (λ m. m < length turns.kinds.users)
-  pub builder : IfSome (touched e (reverse book.entries)) (λ m. m ≤ length vacant)
 
 -- a step is recorded, the board follows it, and there is room for the end of each lease, that of a choice among them, and for a stop
-pub record IsStepRecorded (old new : Recorded) (was now : Progress) (before after : Turned) (vacant vacant_after : List Bool) (step : Entry) : Type 0 where
+pub record IsStepRecorded (old new : Recorded) (was now : Progress) (before after : Turned) (step : Entry) : Type 0 where
   pub entries : new.entries ≡ old.entries ++ step ∷ []
   pub drvs : new.drvs ≡ old.drvs
   pub machines : new.machines ≡ old.machines
@@ -98,7 +83,6 @@ pub record IsStepRecorded (old new : Recorded) (was now : Progress) (before afte
   pub board : now ≡ board_after was step
   pub turned : HasTurned (board_after was step) step (touched step (reverse old.entries)) before after
   pub whole : IsWhole after
-  pub opened : HasOpened (touched step (reverse old.entries)) vacant vacant_after
 
 -- a start that may be recorded, with all the memory that it takes
 pub record IsReadyToStart (i : Premises) (past : List Entry) (t : Ticket) (paths : List (List ℕ)) (book : Recorded) (stores : Stored) (a : Additions) : Type 0 where

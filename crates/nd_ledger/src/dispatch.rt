@@ -20,7 +20,7 @@ ghost use Rattle.nd_ledger.specs.Worlds.{GoesOnFrom};
 ghost use Rattle.nd_ledger.specs.Refusals.{IsLive, IsTicketOf, IsFailRefused, IsDownRefused, IsStopRefused};
 
 use crate::following::{enter, record_step};
-use crate::fresh::{learn_jobs, make_turns};
+use crate::fresh::learn_jobs;
 use crate::job::{Job, copy_paths};
 use crate::moving::{is_live, prepare_end, prepare_start};
 use crate::refusal::{AdmitError, Refusal, Refused, admit_error};
@@ -39,7 +39,7 @@ use nd_leases::Ticket;
 use nd_machines::Machine;
 use nd_path::PathSet;
 use nd_provision::stores::Stores;
-use nd_pump::{Turns, Vacancies, decide_by_kind_in, next_step_in, reply_by_kind};
+use nd_pump::{Turns, next_step};
 use std::alloc::{AllocError, Global};
 use std::marker::Model;
 
@@ -52,7 +52,6 @@ pub struct Dispatch {
     board: Board,
     stores: Stores,
     turns: Turns,
-    vacancies: Vacancies,
 }
 
 impl Model for Dispatch {
@@ -82,20 +81,8 @@ impl Dispatch {
         ensures err { OnErr result (HasPumped self.old.inputs self.old.history self.new.history) }
     {
         let before = self.book.entries().len();
-        while let Some(step) = next_step_in(
-            &self.inputs,
-            &self.book,
-            &self.board,
-            &mut self.turns,
-            &mut self.vacancies,
-        ) {
-            record_step(
-                &mut self.book,
-                &mut self.board,
-                &mut self.turns,
-                &mut self.vacancies,
-                step,
-            )?; // it stands, whatever comes behind it
+        while let Some(step) = next_step(&self.inputs, &self.book, &self.board, &mut self.turns) {
+            record_step(&mut self.book, &mut self.board, &mut self.turns, step)?; // it stands, whatever comes behind it
         }
         let _order = self.inputs.graph.order();
         Ok(self.book.entries().len() - before)
@@ -133,7 +120,6 @@ impl Dispatch {
                     &mut self.book,
                     &mut self.board,
                     &mut self.turns,
-                    &mut self.vacancies,
                     Entry::Started {
                         drv: ticket.drv,
                         paths,
@@ -173,7 +159,6 @@ impl Dispatch {
                     &mut self.book,
                     &mut self.board,
                     &mut self.turns,
-                    &mut self.vacancies,
                     Entry::Built {
                         drv: ticket.drv,
                         refs,
@@ -249,7 +234,6 @@ impl Dispatch {
             &mut self.book,
             &mut self.board,
             &mut self.turns,
-            &mut self.vacancies,
             Entry::Failed {
                 drv: ticket.drv,
                 why,
@@ -281,7 +265,6 @@ impl Dispatch {
             &mut self.book,
             &mut self.board,
             &mut self.turns,
-            &mut self.vacancies,
             Entry::Down { drv: ticket.drv },
         );
         Ok(())
@@ -304,7 +287,6 @@ impl Dispatch {
             &mut self.book,
             &mut self.board,
             &mut self.turns,
-            &mut self.vacancies,
             Entry::Stop,
         );
         Ok(())
@@ -323,7 +305,6 @@ impl Dispatch {
             &mut self.book,
             &mut self.board,
             &mut self.turns,
-            &mut self.vacancies,
             Entry::Drain { machine },
         );
         Ok(())
@@ -342,7 +323,6 @@ impl Dispatch {
             &mut self.book,
             &mut self.board,
             &mut self.turns,
-            &mut self.vacancies,
             Entry::Enable { machine },
         );
         Ok(())
@@ -405,13 +385,7 @@ impl Dispatch {
         if let Err(rule) = check_ready(inputs, &self.book, &self.board, drv) {
             return Err(AdmitError::Illegal(rule));
         }
-        let decision = decide_by_kind_in(
-            inputs,
-            &self.book,
-            &self.turns,
-            &mut self.vacancies,
-            drv as usize,
-        );
+        let decision = self.turns.decide_by_kind(inputs, &self.book, drv as usize);
         if let Err(rule) = judge_ready_choice(inputs, &self.book, decision, drv, machine, slot) {
             return Err(AdmitError::Illegal(rule));
         }
@@ -419,7 +393,6 @@ impl Dispatch {
             &mut self.book,
             &mut self.board,
             &mut self.turns,
-            &mut self.vacancies,
             Entry::Chosen { drv, machine, slot },
         )?;
         Ok(())
@@ -437,13 +410,7 @@ impl Dispatch {
         if let Err(rule) = check_ready(inputs, &self.book, &self.board, drv) {
             return Err(AdmitError::Illegal(rule));
         }
-        let decision = decide_by_kind_in(
-            inputs,
-            &self.book,
-            &self.turns,
-            &mut self.vacancies,
-            drv as usize,
-        );
+        let decision = self.turns.decide_by_kind(inputs, &self.book, drv as usize);
         if let Err(rule) = judge_ready_no_builder(inputs, &self.book, decision, drv) {
             return Err(AdmitError::Illegal(rule));
         }
@@ -451,7 +418,6 @@ impl Dispatch {
             &mut self.book,
             &mut self.board,
             &mut self.turns,
-            &mut self.vacancies,
             Entry::NoBuilder { drv },
         )?;
         Ok(())
@@ -579,7 +545,7 @@ impl Dispatch {
         let Ok(stores) = Stores::new(alloc, &parts.graph, builders, &parts.info) else {
             return Err(parts);
         };
-        let Ok((turns, vacancies)) = make_turns(
+        let Ok(turns) = Turns::new(
             alloc,
             parts.machines.as_slice(),
             &parts.local,
@@ -601,7 +567,6 @@ impl Dispatch {
             board,
             stores,
             turns,
-            vacancies,
         })
     }
 
@@ -626,7 +591,7 @@ impl Dispatch {
             drop(stores);
             return Err(AllocError);
         };
-        let Ok((turns, vacancies)) = make_turns(
+        let Ok(turns) = Turns::new(
             alloc,
             inputs.machines.as_slice(),
             &inputs.local,
@@ -645,7 +610,6 @@ impl Dispatch {
             board,
             stores,
             turns,
-            vacancies,
         })
     }
 
@@ -666,7 +630,7 @@ impl Dispatch {
         requires { i < length self.now.inputs.graph.paths }
         ensures { HasReply self.now.inputs (reverse self.now.history) i result }
     {
-        reply_by_kind(&self.inputs, &self.book, &self.turns, i)
+        self.turns.reply_by_kind(&self.inputs, &self.book, i)
     }
 
     /// The live lease on this slot of this machine.

@@ -1,16 +1,15 @@
-//! One more entry: in the book, on the board, for the turns and among the builders that may have a free slot.
+//! One more entry: in the book, on the board and for the turns.
 
 ghost use Rattle.std.specs.Prelude.{◌≡◌, ◌+◌, ◌<◌, ◌≤◌, ◌++◌, [], ◌∷◌, reverse, OnOk, OnErr};
 ghost use Rattle.nd_history.specs.Marks.{board_after, CanFollow};
 ghost use Rattle.nd_history.specs.Books.{CanRecord, MayRecord};
 ghost use Rattle.nd_pump.specs.Turned.{machine_of as leased_on, touched, HasTurned, IsWhole};
-ghost use Rattle.nd_pump.specs.Vacancies.{HasOpened};
 ghost use Rattle.nd_ledger.specs.Moves.{IsRoomier, IsStepRecorded, CanTurn};
 
 use nd_failure::Board;
 use nd_history::book::Book;
 use nd_history::entry::Entry;
-use nd_pump::{Turns, Vacancies};
+use nd_pump::Turns;
 use std::alloc::AllocError;
 
 /// The machine of the live lease of derivation `drv`.
@@ -36,19 +35,12 @@ fn touches(book: &Book, entry: &Entry) -> Option<u32>
     }
 }
 
-/// Records an entry, and the board, the turns and the builders that may have a free slot follow it. It takes
-/// no memory.
-pub(crate) fn enter(
-    book: &mut Book,
-    board: &mut Board,
-    turns: &mut Turns,
-    vacancies: &mut Vacancies,
-    entry: Entry,
-)
+/// Records an entry, and the board and the turns follow it. It takes no memory.
+pub(crate) fn enter(book: &mut Book, board: &mut Board, turns: &mut Turns, entry: Entry)
     requires room { 0 < book.old.room }
     requires can { CanFollow board.old entry }
     requires fits { CanRecord book.old entry }
-    requires turn { CanTurn book.old board.old turns.old vacancies.old entry }
+    requires turn { CanTurn book.old board.old turns.old entry }
     ensures entries { book.new.entries ≡ book.old.entries ++ entry ∷ [] }
     ensures room { book.old.room ≤ book.new.room + 1 }
     ensures drvs { book.new.drvs ≡ book.old.drvs }
@@ -56,12 +48,10 @@ pub(crate) fn enter(
     ensures board { board.new ≡ board_after board.old entry }
     ensures turned { HasTurned (board_after board.old entry) entry (touched entry (reverse book.old.entries)) turns.old turns.new }
     ensures whole { IsWhole turns.new }
-    ensures opened { HasOpened (touched entry (reverse book.old.entries)) vacancies.old vacancies.new }
 {
     let machine = touches(book, &entry);
     follow(board, &entry);
     turns.follow(board, &entry, machine);
-    vacancies.follow(machine);
     book.record(entry);
 }
 
@@ -71,22 +61,20 @@ pub(crate) fn record_step(
     book: &mut Book,
     board: &mut Board,
     turns: &mut Turns,
-    vacancies: &mut Vacancies,
     step: Entry,
 ) -> Result<(), AllocError>
     requires can { CanFollow board.old step }
     requires may { MayRecord book.old step }
-    requires turn { CanTurn book.old board.old turns.old vacancies.old step }
-    ensures ok { OnOk result (IsStepRecorded book.old book.new board.old board.new turns.old turns.new vacancies.old vacancies.new step) }
+    requires turn { CanTurn book.old board.old turns.old step }
+    ensures ok { OnOk result (IsStepRecorded book.old book.new board.old board.new turns.old turns.new step) }
     ensures err { OnErr result (IsRoomier book.old book.new) }
     ensures same { OnErr result (board.new ≡ board.old) }
     ensures unturned { OnErr result (turns.new ≡ turns.old) }
-    ensures unopened { OnErr result (vacancies.new ≡ vacancies.old) }
 {
     let room = book.live_len() + 3;
     book.make_room(room)?;
     book.make_slot(&step)?;
-    enter(book, board, turns, vacancies, step);
+    enter(book, board, turns, step);
     Ok(())
 }
 

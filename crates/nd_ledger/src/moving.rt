@@ -50,13 +50,13 @@ pub(crate) fn prepare_start(
         return Err(Refusal::AlreadyStarted);
     }
     let machine = ticket.machine as usize;
-    let numbers = match stores.check_copies(alloc, inputs, ticket.drv as usize, machine, paths) {
+    let numbers = match stores.check_paths(alloc, inputs, ticket.drv as usize, machine, paths) {
         Ok(numbers) => numbers,
         Err(fault) => return Err(refusal_of(fault)),
     };
     let room = book.live_len() + 2;
     book.make_room(room)?;
-    Ok(stores.prepare_copies(alloc, machine, paths, numbers)?)
+    Ok(stores.prepare_start(alloc, machine, paths, numbers)?)
 }
 
 /// Tests the end of a build with these references, and takes the memory that it needs.

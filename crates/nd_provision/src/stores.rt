@@ -160,33 +160,13 @@ impl Stores {
     }
 
     /// Tests paths that were copied for a build of derivation `drv` on machine `m`: they are to lie in
-    /// its input closure, which is to lie in what the machine holds together with them.
+    /// its input closure, which is to lie in what the machine holds together with them. Where they are just what
+    /// the machine lacks, and the search for that stops at each path that it holds, it has found their numbers,
+    /// and these are the answer. A walk over the whole closure finds none.
     ///
     /// Refuses with `Uncovered` where a path of the closure is lacking, then with `Extra` where a copied
-    /// path is outside it.
+    /// path is outside it, and with `Memory` where an allocation is refused.
     pub fn check_paths(
-        &self,
-        alloc: Global,
-        inputs: &Inputs,
-        drv: usize,
-        m: usize,
-        paths: &PathSet,
-    ) -> Result<(), PathsError>
-        requires drv { drv < length inputs.now.graph.paths }
-        requires machine { m < length self.now.stocks }
-        ensures ok { OnOk result (ArePathsRightBy (premises_of inputs.now) self.now drv m paths.now) }
-        ensures refused { IfErr result (IsPathsFaultBy (premises_of inputs.now) self.now drv m paths.now) }
-    {
-        let missing = self.missing(alloc, inputs, drv, m)?;
-        if *paths == missing {
-            return Ok(());
-        }
-        self.walk_paths(alloc, inputs, drv, m, paths)
-    }
-
-    /// The same, with the numbers of the copied paths where they are at hand: where the paths are just what
-    /// the machine lacks, the search for that has found them. A walk over the whole closure finds none.
-    pub fn check_copies(
         &self,
         alloc: Global,
         inputs: &Inputs,
@@ -201,37 +181,14 @@ impl Stores {
         ensures numbers { IfOk result (λ r. IfSome r (λ v. AreNumbersOf self.now.numbers.paths paths.now v.items)) }
     {
         if self.whole {
-            return self.match_copies(alloc, inputs, drv, m, paths);
+            if let Some(numbers) = self.match_missing(alloc, drv, m, paths)? {
+                return Ok(Some(numbers));
+            }
+        } else if *paths == self.walk_missing(alloc, inputs, drv, m)? {
+            return Ok(None);
         }
-        match self.check_paths(alloc, inputs, drv, m, paths) {
-            Ok(()) => Ok(None),
-            Err(fault) => Err(fault),
-        }
-    }
-
-    /// The same while a search for what machine `m` lacks may stop at each path that it holds.
-    fn match_copies(
-        &self,
-        alloc: Global,
-        inputs: &Inputs,
-        drv: usize,
-        m: usize,
-        paths: &PathSet,
-    ) -> Result<Option<Vec<usize>>, PathsError>
-        requires drv { drv < length inputs.now.graph.paths }
-        requires machine { m < length self.now.stocks }
-        requires whole { self.now.whole ≡ true }
-        ensures ok { OnOk result (ArePathsRightBy (premises_of inputs.now) self.now drv m paths.now) }
-        ensures refused { IfErr result (IsPathsFaultBy (premises_of inputs.now) self.now drv m paths.now) }
-        ensures numbers { IfOk result (λ r. IfSome r (λ v. AreNumbersOf self.now.numbers.paths paths.now v.items)) }
-    {
-        if let Some(numbers) = self.match_missing(alloc, drv, m, paths)? {
-            return Ok(Some(numbers));
-        }
-        match self.walk_paths(alloc, inputs, drv, m, paths) {
-            Ok(()) => Ok(None),
-            Err(fault) => Err(fault),
-        }
+        self.walk_paths(alloc, inputs, drv, m, paths)?;
+        Ok(None)
     }
 
     /// The numbers of these paths where they are found to be just those of derivation `drv`'s input closure
@@ -323,24 +280,9 @@ impl Stores {
         Ok(all_lie_in(refs.lists(), &allowed))
     }
 
-    /// Takes the memory that a start on machine `m` with these copied paths needs. It is kept for its contract: a
-    /// dispatch calls [`Stores::prepare_copies`].
+    /// Takes the memory that a start on machine `m` with these copied paths needs. The numbers of these may be at
+    /// hand ([`Stores::check_paths`]).
     pub fn prepare_start(
-        &mut self,
-        alloc: Global,
-        m: usize,
-        paths: &PathSet,
-    ) -> Result<Additions, AllocError>
-        requires { m < length self.old.stocks }
-        ensures same { IsSameStored self.old self.new }
-        ensures fits { IfOk result (Fits self.new) }
-        ensures additions { IfOk result (AreStartAdditions self.new m paths.now) }
-    {
-        self.prepare_copies(alloc, m, paths, None)
-    }
-
-    /// The same where the numbers of the copied paths may be at hand ([`Stores::check_copies`]).
-    pub fn prepare_copies(
         &mut self,
         alloc: Global,
         m: usize,

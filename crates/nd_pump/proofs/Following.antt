@@ -15,9 +15,11 @@ use Rattle.nd_history.specs.Marks.{AreMarked, board_after}
 use Rattle.nd_history.proofs.Boards.{can_follow}
 use Rattle.nd_pump.specs.Waiting.{LiesIn}
 use Rattle.nd_pump.specs.Turned.{Turned, is_parked, IsWhole, AreListed, AreTurns, HasTurned, IsNews, touched}
+use Rattle.nd_pump.specs.Vacancies.{AreAllVacant}
 use Rattle.nd_pump.proofs.Waiting.{wait_stays}
 use Rattle.nd_pump.proofs.News.{ready_news, IsAboutOne}
 use Rattle.nd_pump.proofs.Steady.{steady_but}
+use Rattle.nd_pump.proofs.Vacant.{vacant_after, vacant_all}
 
 about_one : (i : Premises) (n : ℕ) (e : Entry) → n ≡ drvs_in i → IsInRange i e → IsAboutOne n e
 about_one i n (Chosen d m s) is ranged = let lt = ranged.0 in omega (arith, lt, is)
@@ -70,13 +72,15 @@ turned_after i past p t new e legal marked allowed was turned whole = record {
         (record { each = λ m may. steady_but i past e m legal allowed (untouched (touched e past) e (board_after p e) t new n m turned up (was.kinds.users.each n kind stood m may)) })
         (was.waits.each n kind stood (turned.parked n up));
   };
+  vacant = vacant_after i past e t.vacant new.vacant legal allowed was.vacant turned.opened;
 }
 
--- turns in which no kind is passed over
-pub turns_fresh : (i : Premises) (past : List Entry) (p : Progress) (t : Turned) → IsWhole t → AreKinds i.machines i.local i.graph.needs t.kinds → AreListed p t.queue → ((n : ℕ) → is_parked t n ≡ false) → AreTurns i past p t
-turns_fresh i past p t whole kinds listed none = record {
+-- turns in which no kind is passed over and each builder may have a free slot
+pub turns_fresh : (i : Premises) (past : List Entry) (p : Progress) (t : Turned) → IsWhole t → AreKinds i.machines i.local i.graph.needs t.kinds → AreListed p t.queue → ((n : ℕ) → is_parked t n ≡ false) → AreAllVacant (length i.machines) t.vacant → AreTurns i past p t
+turns_fresh i past p t whole kinds listed none vacant = record {
   whole = whole;
   kinds = kinds;
   listed = listed;
   waits = record { each = λ n kind at up. absurd (false≢true (sym (none n) ∙ up)) };
+  vacant = vacant_all i past t.vacant vacant;
 }

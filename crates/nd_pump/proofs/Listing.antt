@@ -1,5 +1,6 @@
 -- Derivations that are ready are listed one after another.
-use Rattle.std.proofs.Common.{◌≡◌, ◌∙◌, ℕ, ◌+◌, ◌<◌, ◌≤◌, Bool, true, false, List, length, get_or, refl, sym, ap, subst, inl, inr, ◌⊎◌, Some, None, arith}
+use Rattle.std.proofs.Common.{◌≡◌, ◌∙◌, ℕ, ◌+◌, ◌<◌, ◌≤◌, Bool, true, false, List, length, get_or, refl, sym, ap, subst, inl, inr, ◌⊎◌, Option, Some, None, arith}
+use Rattle.std.specs.Option.{IfSome}
 use Rattle.std.proofs.Math.ListN.{set, length-set}
 use Rattle.std.proofs.lemmas.Bool.{cases_eq, cases_lt, false≢true}
 use Rattle.std.proofs.lemmas.List.Elements.{All-contains, All-from_get_or}
@@ -14,6 +15,7 @@ use Rattle.nd_history.specs.declared.entry.Entry.TheVariants.{Down, Built}
 use Rattle.nd_kinds.specs.Kinds.{users_of}
 use Rattle.nd_pump.specs.Listing.{IsSized, ListsMore, ListsAlso, ListsTo, ListsEach, ListsAbove, ListsNews, Wakes}
 use Rattle.nd_pump.specs.Turned.{Turned, AreListed, HasTurned}
+use Rattle.nd_pump.specs.Vacancies.{HasOpened}
 
 member_set : (row : List Bool) (i k : ℕ) → i < length row → IsMember row k → IsMember (set row i true) k
 member_set row i k within member = elim (cases_eq k i) [
@@ -175,21 +177,29 @@ wakes_all groups n old new le so_far = record {
 -- ---- the turns after an entry
 
 -- .. which touches no machine
-pub turned_alone : (p : Progress) (e : Entry) (t : Turned) (q : Queued) → ListsNews p e t.queue q → HasTurned p e None t (record { queue = q; kinds = t.kinds })
-turned_alone p e t q news = record {
+pub turned_alone : (p : Progress) (e : Entry) (t : Turned) (q : Queued) (vacant : List Bool) → ListsNews p e t.queue q → HasOpened None t.vacant vacant → HasTurned p e None t (record { queue = q; kinds = t.kinds; vacant = vacant })
+turned_alone p e t q vacant news opened = record {
   kinds = refl;
   kept = news.more.kept;
   listed = news.news;
   parked = λ n up. ap (λ (xs : List Bool). get_or xs n false) (sym news.more.parked) ∙ up;
   woken = tt;
+  opened = opened;
 }
 
 -- .. which touches machine m
-pub turned_awake : (p : Progress) (e : Entry) (m : ℕ) (t : Turned) (mid q : Queued) → ListsNews p e t.queue mid → Wakes (users_of t.kinds m) mid q → HasTurned p e (Some m) t (record { queue = q; kinds = t.kinds })
-turned_awake p e m t mid q news wakes = record {
+pub turned_awake : (p : Progress) (e : Entry) (m : ℕ) (t : Turned) (mid q : Queued) (vacant : List Bool) → ListsNews p e t.queue mid → Wakes (users_of t.kinds m) mid q → HasOpened (Some m) t.vacant vacant
+    → HasTurned p e (Some m) t (record { queue = q; kinds = t.kinds; vacant = vacant })
+turned_awake p e m t mid q vacant news wakes opened = record {
   kinds = refl;
   kept = λ d member. subst (λ (xs : List Bool). IsMember xs d) (sym wakes.ready_same) (news.more.kept d member);
   listed = λ d is ready. subst (λ (xs : List Bool). IsMember xs d) (sym wakes.ready_same) (news.news d is ready);
   parked = λ n up. ap (λ (xs : List Bool). get_or xs n false) (sym news.more.parked) ∙ wakes.fewer n up;
   woken = wakes.woken;
+  opened = opened;
 }
+
+-- a machine past the local one is a builder
+pub builder_ranged : (o : Option ℕ) (machines builders : ℕ) → machines ≡ builders + 1 → IfSome o (λ m. m < machines) → IfSome o (λ m. m ≤ builders)
+builder_ranged None machines builders is h = tt
+builder_ranged (Some m) machines builders is h = omega (arith, is, h)

@@ -16,9 +16,9 @@ use Rattle.nd_hook.specs.declared.kinds.Decision.TheVariants.{Wait}
 use Rattle.nd_failure.specs.Progress as board
 use Rattle.nd_failure.specs.Progress.{Progress}
 use Rattle.nd_kinds.specs.declared.kind.Kind.{Kind}
-use Rattle.nd_kinds.specs.Kinds.{IsKindOf, number_of}
+use Rattle.nd_kinds.specs.Kinds.{Kinded, IsKindOf, number_of}
 use Rattle.nd_queue.specs.Grouped.{group_in}
-use Rattle.nd_queue.specs.Queues.{IsDue, IsLeastDue}
+use Rattle.nd_queue.specs.Queues.{Queued, IsDue, IsLeastDue}
 use Rattle.nd_history.specs.declared.entry.Entry.{Entry}
 use Rattle.nd_history.specs.Premises.{Premises}
 use Rattle.nd_history.specs.Standing.{drvs_in, IsReady}
@@ -29,8 +29,8 @@ use Rattle.nd_history.specs.Pumping.{IsStepOf, IsAtRest, AreAtRest, IsPumpStep}
 use Rattle.nd_history.proofs.Boards.{ready_marked}
 use Rattle.nd_history.proofs.Slots.{count_cons}
 use Rattle.nd_history.proofs.Steps.{step_ready, rest_waiting}
-use Rattle.nd_pump.specs.Decided.{HasKindDecision}
-use Rattle.nd_pump.specs.Turned.{Turned, is_parked, IsWhole, AreTurns}
+use Rattle.nd_pump.specs.Decided.{HasDecisionByKind}
+use Rattle.nd_pump.specs.Turned.{Turned, is_parked, AreTurns, HasSearched}
 use Rattle.nd_pump.specs.Taking.{left_in}
 use Rattle.nd_pump.proofs.Waiting.{kind_decides}
 
@@ -51,8 +51,8 @@ count_put p (x ∷ xs) (suc k) d b lt was now =
     ap (λ (k : ℕ). k + 1) (count_cons p x (set xs k b))
     ∙ (cond_more (p x) (count_by p (set xs k b)) (count_by p xs) (count_put p xs k d b (omega (arith, lt)) was now) ∙ sym (count_cons p x xs))
 
-same_turned : (a b : Turned) → a.queue ≡ b.queue → a.kinds ≡ b.kinds → a ≡ b
-same_turned a b p q = λ i. record { queue = p i; kinds = q i }
+same_turned : (a b : Turned) → a.queue ≡ b.queue → a.kinds ≡ b.kinds → a.vacant ≡ b.vacant → a ≡ b
+same_turned a b p q r = λ i. record { queue = p i; kinds = q i; vacant = r i }
 
 -- a derivation less is listed
 pub left_removed : (t new : Turned) (d : ℕ) → new.queue ≡ record t.queue { ready = set t.queue.ready d false } → IsMember t.queue.ready d → left_in new.queue < left_in t.queue
@@ -70,12 +70,12 @@ left_parked t new n is lt awake =
 
 -- ---- turns that are over
 
-pub turns_removed : (i : Premises) (past : List Entry) (p : Progress) (t new : Turned) (d : ℕ) → new.kinds ≡ t.kinds → new.queue ≡ record t.queue { ready = set t.queue.ready d false }
+pub turns_removed : (i : Premises) (past : List Entry) (p : Progress) (t new : Turned) (d : ℕ) → new.kinds ≡ t.kinds → new.vacant ≡ t.vacant → new.queue ≡ record t.queue { ready = set t.queue.ready d false }
     → (board.IsReady p d → ⊥) → AreTurns i past p t → AreTurns i past p new
-turns_removed i past p t new d kinds queue unready was =
-    let after : Turned = record { queue = record t.queue { ready = set t.queue.ready d false }; kinds = t.kinds } in
-    subst (AreTurns i past p) (sym (same_turned new after queue kinds)) (record {
-      whole = record { groups = was.whole.groups; ready = length-set t.queue.ready d false ∙ was.whole.ready; parked = was.whole.parked };
+turns_removed i past p t new d kinds vacant queue unready was =
+    let after : Turned = record { queue = record t.queue { ready = set t.queue.ready d false }; kinds = t.kinds; vacant = t.vacant } in
+    subst (AreTurns i past p) (sym (same_turned new after queue kinds vacant)) (record {
+      whole = record { groups = was.whole.groups; ready = length-set t.queue.ready d false ∙ was.whole.ready; parked = was.whole.parked; park = was.whole.park };
       kinds = was.kinds;
       listed = record {
         each = λ k ready. elim (cases_eq k d) [
@@ -84,25 +84,40 @@ turns_removed i past p t new d kinds queue unready was =
         ];
       };
       waits = record { each = was.waits.each };
+      vacant = was.vacant;
     })
 
-pub turns_parked : (i : Premises) (past : List Entry) (p : Progress) (t new : Turned) (n : ℕ) (kind : Kind) → new.kinds ≡ t.kinds → new.queue ≡ record t.queue { parked = set t.queue.parked n true }
-    → slice_get t.kinds.kinds n ≡ Some kind → HasKindDecision i past kind Wait → AreTurns i past p t → AreTurns i past p new
-turns_parked i past p t new n kind kinds queue at wait was =
-    let after : Turned = record { queue = record t.queue { parked = set t.queue.parked n true }; kinds = t.kinds } in
-    subst (AreTurns i past p) (sym (same_turned new after queue kinds)) (record {
-      whole = record { groups = was.whole.groups; ready = was.whole.ready; parked = length-set t.queue.parked n true ∙ was.whole.parked };
+-- turns for which builders were looked at
+pub turns_searched : (i : Premises) (past : List Entry) (p : Progress) (t new : Turned) → HasSearched i past t new → AreTurns i past p t → AreTurns i past p new
+turns_searched i past p t new searched was =
+    let after : Turned = record { queue = t.queue; kinds = t.kinds; vacant = new.vacant } in
+    let park = was.kinds.park in
+    let sized = searched.vacant.sized in
+    subst (AreTurns i past p) (sym (same_turned new after searched.queue searched.kinds refl)) (record {
+      whole = record { groups = was.whole.groups; ready = was.whole.ready; parked = was.whole.parked; park = omega (arith, park, sized) };
+      kinds = was.kinds;
+      listed = was.listed;
+      waits = record { each = was.waits.each };
+      vacant = searched.vacant;
+    })
+
+-- turns in which the kind of a derivation, which is to wait, is passed over
+pub turns_parked : (i : Premises) (past : List Entry) (p : Progress) (t new : Turned) (d : ℕ) → new.kinds ≡ t.kinds → new.vacant ≡ t.vacant → new.queue ≡ record t.queue { parked = set t.queue.parked (number_of t.kinds d) true }
+    → HasDecisionByKind i past t.kinds d Wait → AreTurns i past p t → AreTurns i past p new
+turns_parked i past p t new d kinds vacant queue wait was =
+    let n = number_of t.kinds d in
+    let after : Turned = record { queue = record t.queue { parked = set t.queue.parked n true }; kinds = t.kinds; vacant = t.vacant } in
+    subst (AreTurns i past p) (sym (same_turned new after queue kinds vacant)) (record {
+      whole = record { groups = was.whole.groups; ready = was.whole.ready; parked = length-set t.queue.parked n true ∙ was.whole.parked; park = was.whole.park };
       kinds = was.kinds;
       listed = record { each = was.listed.each };
       waits = record {
         each = λ m other stands up. elim (cases_eq m n) [
-          | inl same ↦
-              let here : slice_get t.kinds.kinds n ≡ Some other = subst (λ (k : ℕ). slice_get t.kinds.kinds k ≡ Some other) same stands in
-              let one : kind ≡ other = cc in
-              subst (λ (k : Kind). HasKindDecision i past k Wait) one wait
+          | inl same ↦ wait.each other (subst (λ (k : ℕ). slice_get t.kinds.kinds k ≡ Some other) same stands)
           | inr apart ↦ was.waits.each m other stands (sym (get_or-set_other t.queue.parked n m true false apart) ∙ up)
         ];
       };
+      vacant = was.vacant;
     })
 
 -- ---- a derivation that isn't due has no step
@@ -159,24 +174,21 @@ listed_within i past p t d sound was due =
     let sized = was.kinds.sized in
     omega (arith, lt, whole, sized)
 
--- the kind of a derivation is as its need wants it
-pub kind_fits : (i : Premises) (past : List Entry) (p : Progress) (t : Turned) (d : ℕ) (need : Need) (kind : Kind) → AreTurns i past p t → d < length i.graph.needs → slice_get i.graph.needs d ≡ Some need
-    → slice_get t.kinds.kinds (number_of t.kinds d) ≡ Some kind → IsKindOf i.machines i.local need kind
-kind_fits i past p t d need kind was lt needs at =
-    let has = was.kinds.kinds.each d need lt needs in
-    let at_has = has.at in
-    let one : has.kind ≡ kind = cc in
-    subst (λ (k : Kind). IsKindOf i.machines i.local need k) one has.fits
-
 pub kind_ranged : (i : Premises) (need : Need) (kind : Kind) → IsKindOf i.machines i.local need kind → All (λ p. p < length i.machines) kind.places
 kind_ranged i need kind fits =
     All-from_get_or (λ (p : ℕ). p < length i.machines) kind.places 0 (λ k lt. eligible_within i.machines need (get_or kind.places k 0) ((fits.eligible.exact (get_or kind.places k 0)).0 (Contains-get_or kind.places k 0 lt)))
 
--- the kind of a derivation that is due wasn't passed over
-pub parked_within : (t new : Turned) (d : ℕ) (kind : Kind) → new.queue ≡ record t.queue { parked = set t.queue.parked (number_of t.kinds d) true } → IsWhole t
-    → slice_get t.kinds.kinds (number_of t.kinds d) ≡ Some kind → IsDue t.queue d → left_in new.queue < left_in t.queue
-parked_within t new d kind is whole at due =
-    let number : group_in t.queue.groups d ≡ number_of t.kinds d = ap (λ (xs : List ℕ). get_or xs d 0) whole.groups in
-    let within = slice_get_within t.kinds.kinds (number_of t.kinds d) kind at in
-    let same = whole.parked in
-    left_parked t new (number_of t.kinds d) is (omega (arith, within, same)) (ap (λ (n : ℕ). get_or t.queue.parked n false) (sym number) ∙ due.awake)
+-- the kind of a derivation that is due wasn't passed over, and builders are looked at before it is
+pub left_waiting : (i : Premises) (past : List Entry) (p : Progress) (t mid new : Turned) (d : ℕ) → IsSound i.graph → AreTurns i past p t → IsDue t.queue d → HasSearched i past t mid
+    → new.queue ≡ record mid.queue { parked = set mid.queue.parked (number_of mid.kinds d) true } → left_in new.queue < left_in t.queue
+left_waiting i past p t mid new d sound was due searched is =
+    let number : group_in t.queue.groups d ≡ number_of t.kinds d = ap (λ (xs : List ℕ). get_or xs d 0) was.whole.groups in
+    let lt = listed_within i past p t d sound was due in
+    let need = need_at i d lt in
+    let has = was.kinds.kinds.each d need.0 lt need.1 in
+    let within = slice_get_within t.kinds.kinds (number_of t.kinds d) has.kind has.at in
+    let same = was.whole.parked in
+    let parks : new.queue ≡ record t.queue { parked = set t.queue.parked (number_of t.kinds d) true } =
+    is ∙ (ap (λ (q : Queued). record q { parked = set q.parked (number_of mid.kinds d) true }) searched.queue
+    ∙ ap (λ (k : Kinded). record t.queue { parked = set t.queue.parked (number_of k d) true }) searched.kinds) in
+    left_parked t new (number_of t.kinds d) parks (omega (arith, within, same)) (ap (λ (n : ℕ). get_or t.queue.parked n false) (sym number) ∙ due.awake)

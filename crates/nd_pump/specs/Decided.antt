@@ -8,7 +8,7 @@ use Rattle.nd_hook.specs.Replies.{IsReply}
 use Rattle.nd_hook.specs.declared.kinds.Decision.{Decision}
 use Rattle.nd_hook.specs.declared.kinds.Reply.{Reply}
 use Rattle.nd_kinds.specs.declared.kind.Kind.{Kind}
-use Rattle.nd_kinds.specs.Kinds.{IsKindOf}
+use Rattle.nd_kinds.specs.Kinds.{Kinded, IsKindOf, number_of}
 use Rattle.nd_history.specs.declared.entry.Entry.{Entry}
 use Rattle.nd_history.specs.Premises.{Premises}
 use Rattle.nd_history.specs.History.{load, is_up}
@@ -32,6 +32,10 @@ pub record HasKindDecision (i : Premises) (past : List Entry) (kind : Kind) (dec
   pub loc_free : Bool
   pub loc_free_is : IsTrue loc_free ↔ IsHomeFree i past kind
   pub decided : IsDecision i.machines (loads_of i past) (ups_of i past) (Contains kind.places) kind.prefer_local loc loc_free decision
+
+-- the decision about the kind of derivation d
+pub record HasDecisionByKind (i : Premises) (past : List Entry) (k : Kinded) (d : ℕ) (decision : Decision) : Type 0 where
+  pub each : (kind : Kind) → slice_get k.kinds (number_of k d) ≡ Some kind → HasKindDecision i past kind decision
 
 -- the reply about derivations of this kind; it doesn't ask how they stand
 pub record HasKindReply (i : Premises) (past : List Entry) (kind : Kind) (reply : Reply) : Type 0 where

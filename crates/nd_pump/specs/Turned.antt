@@ -1,7 +1,8 @@
--- Whose turn it is: the ready derivations by kind, and the kinds that are passed over since they are to wait. How a queue follows
--- a history entry by entry. The histories of these definitions stand newest first. Parking is this project's own choice.
+-- Whose turn it is: the ready derivations by kind, the kinds that are passed over since they are to wait, and the builders that may
+-- have a free slot. How these follow a history entry by entry. The histories of these definitions stand newest first. Parking is this
+-- project's own choice.
 -- Public clauses cite this.
-use Rattle.std.specs.Prelude.{◌≡◌, ℕ, Bool, true, false, List, Contains, Option, None, Some, MatchOption, length, slice_get, slice_index_or}
+use Rattle.std.specs.Prelude.{◌≡◌, ◌+◌, ℕ, Bool, true, false, List, Contains, Option, None, Some, MatchOption, length, slice_get, slice_index_or}
 use Rattle.std.specs.Option.{option_map}
 use Rattle.nd_flags.specs.Members.{IsMember}
 use Rattle.nd_graph.specs.Walks.{inputs_of}
@@ -16,21 +17,25 @@ use Rattle.nd_history.specs.declared.entry.Entry.TheVariants.{Chosen, NoBuilder,
 use Rattle.nd_history.specs.Premises.{Premises}
 use Rattle.nd_history.specs.History.{lease_of}
 use Rattle.nd_pump.specs.Decided.{HasKindDecision}
+use Rattle.nd_pump.specs.Vacancies.{AreVacant, HasOpened}
 
 pub record Turned : Type 0 where
   -- the ready derivations by the numbers of their kinds, and which kinds are parked
   pub queue : Queued
   pub kinds : Kinded
+  -- for each builder whether it may have a free slot
+  pub vacant : List Bool
 
 -- kind n is passed over
 abbrev pub is_parked : Turned → ℕ → Bool
 is_parked t n = slice_index_or t.queue.parked n false
 
--- the queue's groups are the kinds
+-- the queue's groups are the kinds, and each machine but the local one is a builder
 pub record IsWhole (t : Turned) : Type 0 where
   pub groups : t.queue.groups ≡ t.kinds.numbers
   pub ready : length t.queue.ready ≡ length t.kinds.numbers
   pub parked : length t.queue.parked ≡ length t.kinds.kinds
+  pub park : length t.kinds.users ≡ length t.vacant + 1
 
 -- what is ready on the board is ready in the queue
 pub record AreListed (p : Progress) (q : Queued) : Type 0 where
@@ -46,6 +51,13 @@ pub record AreTurns (i : Premises) (past : List Entry) (p : Progress) (t : Turne
   pub kinds : AreKinds i.machines i.local i.graph.needs t.kinds
   pub listed : AreListed p t.queue
   pub waits : DoWait i past t
+  pub vacant : AreVacant i past t.vacant
+
+-- builders were looked at: those that may have a free slot go on following the history, and nothing else changed
+pub record HasSearched (i : Premises) (past : List Entry) (old new : Turned) : Type 0 where
+  pub queue : new.queue ≡ old.queue
+  pub kinds : new.kinds ≡ old.kinds
+  pub vacant : AreVacant i past new.vacant
 
 -- the machine of derivation d's live lease
 abbrev pub machine_of : ℕ → List Entry → Option ℕ
@@ -75,11 +87,12 @@ IsNews p Stop d = ⊥
 IsNews p (Drain m) d = ⊥
 IsNews p (Enable m) d = ⊥
 
--- the turns followed an entry that touches this machine, after the board, which is p: what became ready is listed, and no kind that
--- may use the machine is passed over
+-- the turns followed an entry that touches this machine, after the board, which is p: what became ready is listed, no kind that may
+-- use the machine is passed over, and it may have a free slot
 pub record HasTurned (p : Progress) (e : Entry) (machine : Option ℕ) (old new : Turned) : Type 0 where
   pub kinds : new.kinds ≡ old.kinds
   pub kept : (d : ℕ) → IsMember old.queue.ready d → IsMember new.queue.ready d
   pub listed : (d : ℕ) → IsNews p e d → IsReady p d → IsMember new.queue.ready d
   pub parked : (n : ℕ) → is_parked new n ≡ true → is_parked old n ≡ true
   pub woken : MatchOption machine (Unit {0}) (λ m. (n : ℕ) → Contains (users_of old.kinds m) n → is_parked new n ≡ false)
+  pub opened : HasOpened machine old.vacant new.vacant

@@ -40,33 +40,10 @@ fn is_home_free(inputs: &Inputs, book: &Book, kind: &Kind) -> bool
     book.load(0) < inputs.local.jobs() as usize
 }
 
-/// The decision about the derivations of a kind. It takes no memory.
-pub fn decide_kind(inputs: &Inputs, book: &Book, kind: &Kind) -> Decision
-    requires park { book.now.machines ≡ length inputs.now.machines + 1 }
-    requires rising { IsStrictlyIncreasing kind.now.places }
-    requires ranged { All (λ p. p < length inputs.now.machines) kind.now.places }
-    ensures { HasKindDecision (premises_of inputs.now) (reverse book.now.entries) kind.now result }
-{
-    let machines = inputs.machines.as_slice();
-    let loads = builder_loads(inputs, book);
-    let ups = builder_ups(inputs, book);
-    let loc = is_home(inputs, book, kind);
-    let loc_free = is_home_free(inputs, book, kind);
-    decide_in(
-        machines,
-        kind.places.as_slice(),
-        loads,
-        ups,
-        kind.prefer_local,
-        loc,
-        loc_free,
-    )
-}
-
-/// The decision as [`decide_kind`] has it, found among the builders that may have a free slot where these are
-/// few. No builder is looked at where the local machine is preferred and may build them: it decides alone then. It
-/// takes no memory.
-pub(crate) fn decide_kind_in(
+/// The decision about the derivations of a kind, found among the builders that may have a free slot where these
+/// are few. No builder is looked at where the local machine is preferred and may build them: it decides alone then.
+/// It takes no memory.
+pub(crate) fn decide_kind(
     inputs: &Inputs,
     book: &Book,
     vacancies: &mut Vacancies,
@@ -80,11 +57,11 @@ pub(crate) fn decide_kind_in(
     ensures decision { HasKindDecision (premises_of inputs.now) (reverse book.now.entries) kind.now result }
 {
     if kind.prefer_local && is_home(inputs, book, kind) {
-        return decide_kind(inputs, book, kind);
+        return decide_all(inputs, book, kind);
     }
     match few_of_kind(inputs, book, vacancies, kind) {
         Some(few) => decide_few(inputs, book, kind, few.as_slice()),
-        None => decide_kind(inputs, book, kind),
+        None => decide_all(inputs, book, kind),
     }
 }
 
@@ -128,8 +105,31 @@ fn decide_few(inputs: &Inputs, book: &Book, kind: &Kind, few: &[usize]) -> Decis
     )
 }
 
+/// The decision about the derivations of a kind, found by a walk over all of its machines.
+fn decide_all(inputs: &Inputs, book: &Book, kind: &Kind) -> Decision
+    requires park { book.now.machines ≡ length inputs.now.machines + 1 }
+    requires rising { IsStrictlyIncreasing kind.now.places }
+    requires ranged { All (λ p. p < length inputs.now.machines) kind.now.places }
+    ensures { HasKindDecision (premises_of inputs.now) (reverse book.now.entries) kind.now result }
+{
+    let machines = inputs.machines.as_slice();
+    let loads = builder_loads(inputs, book);
+    let ups = builder_ups(inputs, book);
+    let loc = is_home(inputs, book, kind);
+    let loc_free = is_home_free(inputs, book, kind);
+    decide_in(
+        machines,
+        kind.places.as_slice(),
+        loads,
+        ups,
+        kind.prefer_local,
+        loc,
+        loc_free,
+    )
+}
+
 /// The hook's reply about the derivations of a kind, whatever their status. It takes no memory.
-pub fn reply_kind(inputs: &Inputs, book: &Book, kind: &Kind) -> Reply
+pub(crate) fn reply_kind(inputs: &Inputs, book: &Book, kind: &Kind) -> Reply
     requires park { book.now.machines ≡ length inputs.now.machines + 1 }
     requires rising { IsStrictlyIncreasing kind.now.places }
     requires ranged { All (λ p. p < length inputs.now.machines) kind.now.places }

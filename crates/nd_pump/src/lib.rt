@@ -2,15 +2,12 @@
 //! it is, and that a kind that is to wait goes on waiting until one of its machines changes.
 #![tactic(auto)]
 
-mod asking;
-pub mod deciding;
+mod deciding;
 mod few;
 pub mod laws;
 mod stepping;
 mod turns;
 mod vacancies;
 
-pub use asking::{decide_by_kind_in, reply_by_kind};
-pub use stepping::{next_step, next_step_in};
+pub use stepping::next_step;
 pub use turns::Turns;
-pub use vacancies::Vacancies;

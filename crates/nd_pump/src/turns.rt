@@ -1,26 +1,37 @@
 //! Whose turn it is among the derivations that are ready.
 
-ghost use Rattle.std.specs.Prelude.{◌≡◌, ◌<◌, ℕ, All, Some, false, true, length, slice_get, slice_set, IfOk, IfSome};
+ghost use Rattle.std.specs.Prelude.{◌≡◌, ◌+◌, ◌<◌, ℕ, All, Some, false, true, length, reverse, slice_get, slice_set, IfOk, IfSome};
+ghost use Rattle.nd_graph.specs.Graphs.{IsSound};
+ghost use Rattle.nd_history.specs.Choices.{HasDecision, HasReply};
+ghost use Rattle.nd_history.specs.Premises.{premises_of};
 ghost use Rattle.nd_kinds.specs.Kinds.{AreKinds, number_of};
+ghost use Rattle.nd_pump.specs.Decided.{HasDecisionByKind};
 ghost use Rattle.nd_pump.specs.Listing.{IsSized, ListsAlso, ListsTo, ListsEach, ListsAbove, ListsNews, IsNewsWithin, Wakes};
-ghost use Rattle.nd_pump.specs.Turned.{AreListed, IsWhole, HasTurned, is_parked};
+ghost use Rattle.nd_pump.specs.Turned.{AreListed, IsWhole, HasSearched, HasTurned, is_parked};
+ghost use Rattle.nd_pump.specs.Vacancies.{AreAllVacant, AreVacant};
 ghost use Rattle.nd_queue.specs.Queues.{IsFirstDue};
 
+use crate::deciding::{decide_kind, reply_kind};
+use crate::vacancies::Vacancies;
 use nd_eligible::{Local, Need};
 use nd_failure::Board;
+use nd_history::book::Book;
 use nd_history::entry::Entry;
+use nd_history::inputs::Inputs;
+use nd_hook::{Decision, Reply};
 use nd_kinds::{Kind, Kinds};
 use nd_machines::Machine;
 use nd_queue::Queue;
 use std::alloc::{AllocError, Global};
 use std::marker::Model;
 
-/// The derivations that are ready, by kind, and the kinds that are passed over since they are to wait.
-/// Only `new` takes memory.
+/// The derivations that are ready, by kind, the kinds that are passed over since they are to wait, and the
+/// builders that may have a free slot. Only `new` takes memory.
 #[derive(Drop, Debug)]
 pub struct Turns {
     queue: Queue,
     kinds: Kinds,
+    vacancies: Vacancies,
 }
 
 impl Model for Turns {
@@ -107,8 +118,18 @@ fn wake_all(queue: &mut Queue, groups: &[usize])
     }
 }
 
+/// The kind of a derivation.
+fn kind_of(kinds: &Kinds, drv: usize) -> &Kind
+    requires { drv < length kinds.now.numbers }
+    ensures { slice_get kinds.now.kinds (number_of kinds.now drv) ≡ Some result.now }
+{
+    let numbers = kinds.numbers();
+    kinds.kind(numbers[drv])
+}
+
 impl Turns {
-    /// The turns of the derivations with these needs, as they are on the board; no kind is passed over.
+    /// The turns of the derivations with these needs, as they are on the board; no kind is passed over, and each
+    /// builder may have a free slot.
     pub fn new(
         alloc: Global,
         machines: &[Machine],
@@ -121,11 +142,17 @@ impl Turns {
         ensures kinds { IfOk result (λ t. AreKinds machines.now local.now needs.now t.kinds) }
         ensures listed { IfOk result (λ t. AreListed board.now t.queue) }
         ensures parked { IfOk result (λ t. (n : ℕ) → is_parked t n ≡ false) }
+        ensures vacant { IfOk result (λ t. AreAllVacant (length machines.now) t.vacant) }
     {
         let kinds = Kinds::new(alloc, machines, local, needs)?;
         let mut queue = Queue::new(alloc, kinds.numbers(), kinds.len())?;
         list_ready(&mut queue, board, needs.len());
-        Ok(Turns { queue, kinds })
+        let vacancies = Vacancies::new(alloc, machines.len())?;
+        Ok(Turns {
+            queue,
+            kinds,
+            vacancies,
+        })
     }
 
     /// The first derivation that is ready and of no kind that is passed over.
@@ -136,19 +163,44 @@ impl Turns {
         self.queue.next()
     }
 
-    /// The kind of a derivation.
-    pub(crate) fn kind(&self, drv: usize) -> &Kind
-        requires { drv < length self.now.kinds.numbers }
-        ensures { slice_get self.now.kinds.kinds (number_of self.now.kinds drv) ≡ Some result.now }
+    /// The decision about derivation `drv`, found among the machines of its kind, and among the builders that may
+    /// have a free slot where these are few. It takes no memory.
+    pub fn decide_by_kind(&mut self, inputs: &Inputs, book: &Book, drv: usize) -> Decision
+        requires sound { IsSound inputs.now.graph }
+        requires node { drv < length inputs.now.graph.paths }
+        requires park { book.now.machines ≡ length inputs.now.machines + 1 }
+        requires kinds { AreKinds inputs.now.machines inputs.now.local inputs.now.graph.needs self.old.kinds }
+        requires vacant { AreVacant (premises_of inputs.now) (reverse book.now.entries) self.old.vacant }
+        ensures searched { HasSearched (premises_of inputs.now) (reverse book.now.entries) self.old self.new }
+        ensures kind { HasDecisionByKind (premises_of inputs.now) (reverse book.now.entries) self.old.kinds drv result }
+        ensures decision { HasDecision (premises_of inputs.now) (reverse book.now.entries) drv result }
     {
-        let numbers = self.kinds.numbers();
-        self.kinds.kind(numbers[drv])
+        // For the proof: what is decided about the kind is decided about each derivation with this need.
+        let _need = inputs.graph.need(drv);
+        let kind = kind_of(&self.kinds, drv);
+        decide_kind(inputs, book, &mut self.vacancies, kind)
+    }
+
+    /// The hook's reply about derivation `drv`, whatever its status, found among the machines of its kind alone.
+    /// It takes no memory.
+    pub fn reply_by_kind(&self, inputs: &Inputs, book: &Book, drv: usize) -> Reply
+        requires sound { IsSound inputs.now.graph }
+        requires node { drv < length inputs.now.graph.paths }
+        requires park { book.now.machines ≡ length inputs.now.machines + 1 }
+        requires kinds { AreKinds inputs.now.machines inputs.now.local inputs.now.graph.needs self.now.kinds }
+        ensures { HasReply (premises_of inputs.now) (reverse book.now.entries) drv result }
+    {
+        // For the proof: what is replied about the kind is replied about each derivation with this need.
+        let _need = inputs.graph.need(drv);
+        let kind = kind_of(&self.kinds, drv);
+        reply_kind(inputs, book, kind)
     }
 
     /// A derivation isn't listed any more.
     pub(crate) fn remove(&mut self, drv: usize)
         requires { drv < length self.old.kinds.numbers }
         ensures kinds { self.new.kinds ≡ self.old.kinds }
+        ensures vacant { self.new.vacant ≡ self.old.vacant }
         ensures queue { self.new.queue ≡ record self.old.queue { ready = slice_set self.old.queue.ready drv false } }
     {
         self.queue.remove(drv);
@@ -158,15 +210,16 @@ impl Turns {
     pub(crate) fn park(&mut self, drv: usize)
         requires { drv < length self.old.kinds.numbers }
         ensures kinds { self.new.kinds ≡ self.old.kinds }
+        ensures vacant { self.new.vacant ≡ self.old.vacant }
         ensures queue { self.new.queue ≡ record self.old.queue { parked = slice_set self.old.queue.parked (number_of self.old.kinds drv) true } }
     {
         let number = self.queue.group(drv);
         self.queue.park(number);
     }
 
-    /// Follows one more entry, which the board has followed: what it made ready is listed, and no kind
-    /// that may use `machine`, which it touches, is passed over. It takes no memory.
-    #[tactic(auto, using(crate::proofs::Listing::turned_awake, crate::proofs::Listing::turned_alone))]
+    /// Follows one more entry, which the board has followed: what it made ready is listed, no kind that may use
+    /// `machine`, which it touches, is passed over, and that machine may have a free slot. It takes no memory.
+    #[tactic(auto, using(crate::proofs::Listing::turned_awake, crate::proofs::Listing::turned_alone, crate::proofs::Listing::builder_ranged))]
     pub fn follow(&mut self, board: &Board, entry: &Entry, machine: Option<u32>)
         requires board { length board.now.inputs ≡ length self.old.kinds.numbers }
         requires within { IsNewsWithin (length board.now.inputs) entry.now }
@@ -174,6 +227,7 @@ impl Turns {
         ensures turned { HasTurned board.now entry.now machine self.old self.new }
         ensures whole { IsWhole self.new }
     {
+        self.vacancies.follow(machine);
         list_news(&mut self.queue, board, entry);
         if let Some(machine) = machine {
             wake_all(&mut self.queue, self.kinds.users(machine as usize));

@@ -28,7 +28,7 @@ const LOOKS_AN_OTHER: usize = 4;
 /// The builders that may have a free slot: all others have none. Contracts see a flag for each builder, in
 /// the order of their list. Only `new` takes memory.
 #[derive(Drop, Debug)]
-pub struct Vacancies {
+pub(crate) struct Vacancies {
     builders: NodeSet,
 }
 
@@ -148,7 +148,7 @@ fn look(
 
 impl Vacancies {
     /// All of so many builders.
-    pub fn new(alloc: Global, builders: usize) -> Result<Vacancies, AllocError>
+    pub(crate) fn new(alloc: Global, builders: usize) -> Result<Vacancies, AllocError>
         ensures { IfOk result (AreAllVacant builders) }
     {
         let mut all = NodeSet::new(alloc, builders)?;
@@ -158,7 +158,7 @@ impl Vacancies {
 
     /// Follows an entry that touches this machine, where one is named: machine 0 is the local one, and the
     /// builder at place p of the list is machine p + 1. It takes no memory.
-    pub fn follow(&mut self, machine: Option<u32>)
+    pub(crate) fn follow(&mut self, machine: Option<u32>)
         requires { IfSome machine (λ m. m ≤ length self.old) }
         ensures { HasOpened machine self.old self.new }
     {

@@ -8,4 +8,4 @@ make_slot-requires c = same_may c.args.book.now c.make_room.new.self c.args.step
 
 pub enter-requires-clause-turn : goal.enter-requires-clause-turn
 enter-requires-clause-turn c =
-    same_turn c.args.book.now c.make_slot.new.self c.args.board.now c.args.turns.now c.args.vacancies.now c.args.step (c.in_ok-make_slot.ensures.entries ∙ c.in_ok-make_room.ensures.entries) c.requires.turn
+    same_turn c.args.book.now c.make_slot.new.self c.args.board.now c.args.turns.now c.args.step (c.in_ok-make_slot.ensures.entries ∙ c.in_ok-make_room.ensures.entries) c.requires.turn

@@ -12,16 +12,16 @@ is_started-requires c =
     let found : IsLive (reverse c.args.book.now.entries) c.args.ticket = c.is_live.ensures.0 c.if-not-is_live.false in
     live_in_book (premises_of c.args.inputs.now) c.args.book.now c.args.ticket c.requires.fit found
 
-pub check_copies-requires : goal.check_copies-requires
-check_copies-requires c =
+pub check_paths-requires : goal.check_paths-requires
+check_paths-requires c =
     let found : IsLive (reverse c.args.book.now.entries) c.args.ticket = c.is_live.ensures.0 c.if-not-is_live.false in
     record {
       drv = live_in_graph (premises_of c.args.inputs.now) c.args.book.now c.args.ticket c.requires.fit found;
       machine = live_in_park (premises_of c.args.inputs.now) c.args.book.now c.args.stores.now c.args.ticket c.requires.fit c.requires.stored found;
     }
 
-pub prepare_copies-requires : goal.prepare_copies-requires
-prepare_copies-requires c =
+pub prepare_start-requires : goal.prepare_start-requires
+prepare_start-requires c =
     let found : IsLive (reverse c.args.book.now.entries) c.args.ticket = c.is_live.ensures.0 c.if-not-is_live.false in
     record {
       machine = live_in_park (premises_of c.args.inputs.now) c.args.book.now c.args.stores.now c.args.ticket c.requires.fit c.requires.stored found;

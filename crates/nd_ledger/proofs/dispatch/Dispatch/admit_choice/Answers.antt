@@ -3,7 +3,7 @@ use Rattle.nd_history.specs.declared.entry.Entry.TheVariants.{Chosen}
 use Rattle.nd_history.specs.Premises.{premises_of}
 use Rattle.nd_history.proofs.Boards.{can_follow}
 use Rattle.nd_history.proofs.Following.{may_record}
-use Rattle.nd_ledger.proofs.Keeping.{fit_kept, kept_step, kept_vacancies}
+use Rattle.nd_ledger.proofs.Keeping.{fit_kept, kept_step, kept_searched}
 use Rattle.nd_ledger.proofs.Keeping.{can_turn}
 use Rattle.nd_ledger.proofs.dispatch.Dispatch.admit_choice.Goals as goal
 
@@ -19,7 +19,7 @@ record_step-requires-clause-can c =
 
 pub invariant_of-self-2 : goal.invariant_of-self-2
 invariant_of-self-2 c =
-    kept_step (record c.self.inside { vacancies = c.decide_by_kind_in-decision.new.vacancies }) c.record_step.new.book c.record_step.new.board c.record_step.new.turns c.record_step.new.vacancies (Chosen c.args.drv c.args.machine c.args.slot) c.in_ok-record_step.ensures.ok (kept_vacancies c.self.inside c.decide_by_kind_in-decision.new.vacancies c.decide_by_kind_in-decision.ensures.vacant c.self.invariant) c.in_default-judge_ready_choice.ensures refl
+    kept_step (record c.self.inside { turns = c.decide_by_kind-decision.new.self }) c.record_step.new.book c.record_step.new.board c.record_step.new.turns (Chosen c.args.drv c.args.machine c.args.slot) c.in_ok-record_step.ensures.ok (kept_searched c.self.inside c.decide_by_kind-decision.new.self c.decide_by_kind-decision.ensures.searched c.self.invariant) c.in_default-judge_ready_choice.ensures refl
 
 pub record_step-requires-clause-turn : goal.record_step-requires-clause-turn
-record_step-requires-clause-turn c = can_turn (record c.self.inside { vacancies = c.decide_by_kind_in-decision.new.vacancies }) (Chosen c.args.drv c.args.machine c.args.slot) (kept_vacancies c.self.inside c.decide_by_kind_in-decision.new.vacancies c.decide_by_kind_in-decision.ensures.vacant c.self.invariant) c.in_default-judge_ready_choice.ensures
+record_step-requires-clause-turn c = can_turn (record c.self.inside { turns = c.decide_by_kind-decision.new.self }) (Chosen c.args.drv c.args.machine c.args.slot) (kept_searched c.self.inside c.decide_by_kind-decision.new.self c.decide_by_kind-decision.ensures.searched c.self.invariant) c.in_default-judge_ready_choice.ensures

@@ -2,7 +2,7 @@ use Rattle.std.proofs.Common.{reverse, refl}
 use Rattle.nd_history.specs.declared.entry.Entry.TheVariants.{NoBuilder}
 use Rattle.nd_history.specs.Premises.{premises_of}
 use Rattle.nd_history.proofs.Boards.{can_follow}
-use Rattle.nd_ledger.proofs.Keeping.{kept_step, kept_vacancies}
+use Rattle.nd_ledger.proofs.Keeping.{kept_step, kept_searched}
 use Rattle.nd_ledger.proofs.Keeping.{can_turn}
 use Rattle.nd_ledger.proofs.dispatch.Dispatch.admit_no_builder.Goals as goal
 
@@ -13,7 +13,7 @@ record_step-requires-clause-can c =
 
 pub invariant_of-self-2 : goal.invariant_of-self-2
 invariant_of-self-2 c =
-    kept_step (record c.self.inside { vacancies = c.decide_by_kind_in-decision.new.vacancies }) c.record_step.new.book c.record_step.new.board c.record_step.new.turns c.record_step.new.vacancies (NoBuilder c.args.drv) c.in_ok-record_step.ensures.ok (kept_vacancies c.self.inside c.decide_by_kind_in-decision.new.vacancies c.decide_by_kind_in-decision.ensures.vacant c.self.invariant) c.in_default-judge_ready_no_builder.ensures refl
+    kept_step (record c.self.inside { turns = c.decide_by_kind-decision.new.self }) c.record_step.new.book c.record_step.new.board c.record_step.new.turns (NoBuilder c.args.drv) c.in_ok-record_step.ensures.ok (kept_searched c.self.inside c.decide_by_kind-decision.new.self c.decide_by_kind-decision.ensures.searched c.self.invariant) c.in_default-judge_ready_no_builder.ensures refl
 
 pub record_step-requires-clause-turn : goal.record_step-requires-clause-turn
-record_step-requires-clause-turn c = can_turn (record c.self.inside { vacancies = c.decide_by_kind_in-decision.new.vacancies }) (NoBuilder c.args.drv) (kept_vacancies c.self.inside c.decide_by_kind_in-decision.new.vacancies c.decide_by_kind_in-decision.ensures.vacant c.self.invariant) c.in_default-judge_ready_no_builder.ensures
+record_step-requires-clause-turn c = can_turn (record c.self.inside { turns = c.decide_by_kind-decision.new.self }) (NoBuilder c.args.drv) (kept_searched c.self.inside c.decide_by_kind-decision.new.self c.decide_by_kind-decision.ensures.searched c.self.invariant) c.in_default-judge_ready_no_builder.ensures

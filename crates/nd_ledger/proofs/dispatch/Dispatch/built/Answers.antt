@@ -12,8 +12,8 @@ use Rattle.nd_ledger.proofs.dispatch.Dispatch.built.Goals as goal
 pub invariant_of-self : goal.invariant_of-self
 invariant_of-self c =
     let r = c.enter.ensures in
-    kept_built c.self.inside c.enter.new.book c.enter.new.board c.enter.new.turns c.enter.new.vacancies c.prepare_end.new.stores c.take_in.new.self c.args.ticket c.args.refs c.in-Ok.additions _ refl
-    (record { entries = r.entries; room = r.room; drvs = r.drvs; machines = r.machines; board = r.board; turned = r.turned; whole = r.whole; opened = r.opened })
+    kept_built c.self.inside c.enter.new.book c.enter.new.board c.enter.new.turns c.prepare_end.new.stores c.take_in.new.self c.args.ticket c.args.refs c.in-Ok.additions _ refl
+    (record { entries = r.entries; room = r.room; drvs = r.drvs; machines = r.machines; board = r.board; turned = r.turned; whole = r.whole })
     c.self.invariant c.in-Ok.ensures.stores c.in-Ok.ensures.ready c.take_in.ensures
 
 pub enter-requires-clause-can : goal.enter-requires-clause-can

@@ -15,7 +15,7 @@ invariant_of-self c =
     let found : IsLive (reverse c.self.inside.book.entries) c.args.ticket = search rules in
     let fresh : is_started c.args.ticket.drv (reverse c.self.inside.book.entries) ≡ false = search rules in
     let r = c.enter.ensures in
-    kept_down c.self.inside c.enter.new.book c.enter.new.board c.enter.new.turns c.enter.new.vacancies c.args.ticket _ refl (record { entries = r.entries; room = r.room; drvs = r.drvs; machines = r.machines; board = r.board; turned = r.turned; whole = r.whole; opened = r.opened }) c.self.invariant found fresh
+    kept_down c.self.inside c.enter.new.book c.enter.new.board c.enter.new.turns c.args.ticket _ refl (record { entries = r.entries; room = r.room; drvs = r.drvs; machines = r.machines; board = r.board; turned = r.turned; whole = r.whole }) c.self.invariant found fresh
 
 pub is_started-requires : goal.is_started-requires
 is_started-requires c =

@@ -16,9 +16,9 @@ invariant_of-self-2 c =
     let many : length (live (reverse d.book.entries)) + 0 + 2 ≤ c.make_room.new.self.room = (let made = m.made in let is = c.live_len-room.ensures.live in omega arith) in
     let P = λ (w : World). c.args.machine < machines_in w.inputs in
     let ranged : c.args.machine < machines_in (premises_of d.inputs) = subst P (sym c.self.view_is) c.requires in
-    kept_more d c.make_room.new.self c.enter.new.book c.enter.new.board c.enter.new.turns c.enter.new.vacancies (Drain c.args.machine) 0
+    kept_more d c.make_room.new.self c.enter.new.book c.enter.new.board c.enter.new.turns (Drain c.args.machine) 0
     (record { entries = m.entries; drvs = m.drvs; machines = m.machines; room = m.kept; more = many })
-    (record { entries = r.entries; room = r.room; drvs = r.drvs; machines = r.machines; board = r.board; turned = r.turned; whole = r.whole; opened = r.opened })
+    (record { entries = r.entries; room = r.room; drvs = r.drvs; machines = r.machines; board = r.board; turned = r.turned; whole = r.whole })
     c.self.invariant (record { ranged = ranged; may = tt }) (omega arith) refl
 
 pub returns-clause-allowed : goal.returns-clause-allowed
@@ -29,4 +29,4 @@ enter-requires-clause-turn c =
     let d = c.self.inside in
     let P = λ (w : World). c.args.machine < machines_in w.inputs in
     let ranged : c.args.machine < machines_in (premises_of d.inputs) = subst P (sym c.self.view_is) c.requires in
-    same_turn d.book c.make_room.new.self d.board d.turns d.vacancies (Drain c.args.machine) c.in_ok-make_room.ensures.entries (can_turn d (Drain c.args.machine) c.self.invariant (record { ranged = ranged; may = tt }))
+    same_turn d.book c.make_room.new.self d.board d.turns (Drain c.args.machine) c.in_ok-make_room.ensures.entries (can_turn d (Drain c.args.machine) c.self.invariant (record { ranged = ranged; may = tt }))

@@ -13,7 +13,7 @@ pub invariant_of-self : goal.invariant_of-self
 invariant_of-self c =
     let found : IsLive (reverse c.self.inside.book.entries) c.args.ticket = search rules in
     let r = c.enter.ensures in
-    kept_failed c.self.inside c.enter.new.book c.enter.new.board c.enter.new.turns c.enter.new.vacancies c.args.ticket _ c.args.why refl (record { entries = r.entries; room = r.room; drvs = r.drvs; machines = r.machines; board = r.board; turned = r.turned; whole = r.whole; opened = r.opened }) c.self.invariant found
+    kept_failed c.self.inside c.enter.new.book c.enter.new.board c.enter.new.turns c.args.ticket _ c.args.why refl (record { entries = r.entries; room = r.room; drvs = r.drvs; machines = r.machines; board = r.board; turned = r.turned; whole = r.whole }) c.self.invariant found
 
 pub enter-requires-clause-can : goal.enter-requires-clause-can
 enter-requires-clause-can c =

@@ -15,12 +15,11 @@ loop-step-preserved c =
     let inv = c.loop-step.invariant in
     let e = c.in-Some.step in
     let rec = c.in_ok-record_step.ensures.ok in
-    let t = c.next_step_in.new.turns in
-    let v = c.next_step_in.new.vacancies in
+    let t = c.next_step.new.turns in
     let step = c.in-Some.ensures.step in
     let P : Premises → Type 0 = λ i. IsPumpStep i (reverse d.book.entries) e in
     record {
-      kept = kept_step (record d { turns = t; vacancies = v }) c.record_step.new.book c.record_step.new.board c.record_step.new.turns c.record_step.new.vacancies e rec (kept_turns d t v c.in-Some.ensures.turns c.in-Some.ensures.vacant inv.kept) step.step.allowed (step_quiet e step.drv step.step.about);
+      kept = kept_step (record d { turns = t }) c.record_step.new.book c.record_step.new.board c.record_step.new.turns e rec (kept_turns d t c.in-Some.ensures.turns inv.kept) step.step.allowed (step_quiet e step.drv step.step.about);
       same = inv.same;
       pumped = pumped_more _ _ d.book.entries c.record_step.new.book.entries e inv.pumped rec.entries (subst P inv.same step);
     }
@@ -61,4 +60,4 @@ record_step-requires-clause-can c =
 pub record_step-requires-clause-turn : goal.record_step-requires-clause-turn
 record_step-requires-clause-turn c =
     let d = c.loop-step.self-inside in
-    can_turn (record d { turns = c.next_step_in.new.turns; vacancies = c.next_step_in.new.vacancies }) c.in-Some.step (kept_turns d c.next_step_in.new.turns c.next_step_in.new.vacancies c.in-Some.ensures.turns c.in-Some.ensures.vacant c.loop-step.invariant.kept) c.in-Some.ensures.step.step.allowed
+    can_turn (record d { turns = c.next_step.new.turns }) c.in-Some.step (kept_turns d c.next_step.new.turns c.in-Some.ensures.turns c.loop-step.invariant.kept) c.in-Some.ensures.step.step.allowed

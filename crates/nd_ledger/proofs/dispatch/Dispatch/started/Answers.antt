@@ -12,8 +12,8 @@ use Rattle.nd_ledger.proofs.dispatch.Dispatch.started.Goals as goal
 pub invariant_of-self : goal.invariant_of-self
 invariant_of-self c =
     let r = c.enter.ensures in
-    kept_started c.self.inside c.prepare_start.new.book c.enter.new.book c.enter.new.board c.enter.new.turns c.enter.new.vacancies c.prepare_start.new.stores c.take_in.new.self c.args.ticket c.args.paths c.in-Ok.additions _ refl
-    c.in-Ok.ensures.book (record { entries = r.entries; room = r.room; drvs = r.drvs; machines = r.machines; board = r.board; turned = r.turned; whole = r.whole; opened = r.opened })
+    kept_started c.self.inside c.prepare_start.new.book c.enter.new.book c.enter.new.board c.enter.new.turns c.prepare_start.new.stores c.take_in.new.self c.args.ticket c.args.paths c.in-Ok.additions _ refl
+    c.in-Ok.ensures.book (record { entries = r.entries; room = r.room; drvs = r.drvs; machines = r.machines; board = r.board; turned = r.turned; whole = r.whole })
     c.self.invariant c.in-Ok.ensures.stores c.in-Ok.ensures.ready c.take_in.ensures
 
 pub returns-in-Ok-clause-live : goal.returns-in-Ok-clause-live
@@ -32,7 +32,7 @@ pub enter-requires-clause-turn : goal.enter-requires-clause-turn
 enter-requires-clause-turn c =
     let d = c.self.inside in
     let ready = c.in-Ok.ensures.ready in
-    same_turn d.book c.prepare_start.new.book d.board d.turns d.vacancies (Started c.args.ticket.drv c.args.paths) c.in-Ok.ensures.book.entries
+    same_turn d.book c.prepare_start.new.book d.board d.turns (Started c.args.ticket.drv c.args.paths) c.in-Ok.ensures.book.entries
     (can_turn d (Started c.args.ticket.drv c.args.paths) c.self.invariant
     (allowed_started (premises_of d.inputs) (reverse d.book.entries) c.args.ticket c.args.paths c.self.invariant.legal ready.live ready.fresh ready.right))
 

@@ -11,7 +11,7 @@ pub invariant_of-self : goal.invariant_of-self
 invariant_of-self c =
     let none : has_stop (reverse c.self.inside.book.entries) ≡ false = sym c.self.invariant.marked.stop ∙ sym c.has_stop.ensures ∙ c.if-has_stop.false in
     let r = c.enter.ensures in
-    kept_stop c.self.inside c.enter.new.book c.enter.new.board c.enter.new.turns c.enter.new.vacancies (record { entries = r.entries; room = r.room; drvs = r.drvs; machines = r.machines; board = r.board; turned = r.turned; whole = r.whole; opened = r.opened }) c.self.invariant none
+    kept_stop c.self.inside c.enter.new.book c.enter.new.board c.enter.new.turns (record { entries = r.entries; room = r.room; drvs = r.drvs; machines = r.machines; board = r.board; turned = r.turned; whole = r.whole }) c.self.invariant none
 
 pub returns-clause-allowed : goal.returns-clause-allowed
 returns-clause-allowed c =

@@ -1,3 +1,6 @@
+use Rattle.std.proofs.Common.{reverse}
+use Rattle.nd_history.specs.Premises.{premises_of}
+use Rattle.nd_pump.proofs.Following.{turns_fresh}
 use Rattle.nd_ledger.proofs.Keeping.{kept_copy}
 use Rattle.nd_ledger.proofs.dispatch.Dispatch.try_clone.Goals as goal
 
@@ -7,7 +10,19 @@ invariant_of-result c =
     let book = c.in-Ok in
     let stores = c.in-Ok-try_clone in
     let board = c.in-Ok-try_clone-2 in
-    let fresh = c.in-Ok-make_turns in
-    kept_copy c.self.inside (record { inputs = inputs.inputs; book = book.book; stores = stores.stores; board = board.board; turns = fresh.turns; vacancies = fresh.vacancies })
-    (record { inputs = inputs.ensures; entries = book.ensures.entries; drvs = book.ensures.drvs; machines = book.ensures.machines; room = book.ensures.room; stores = stores.ensures; board = board.ensures; fresh = rw (← c.as_slice.ensures, ← c.needs.ensures.needs) fresh.ensures })
+    let turns = c.in-Ok-new in
+    let fresh = turns.ensures in
+    kept_copy c.self.inside (record { inputs = inputs.inputs; book = book.book; stores = stores.stores; board = board.board; turns = turns.turns })
+    (record {
+      inputs = inputs.ensures;
+      entries = book.ensures.entries;
+      drvs = book.ensures.drvs;
+      machines = book.ensures.machines;
+      room = book.ensures.room;
+      stores = stores.ensures;
+      board = board.ensures;
+      turns =
+          turns_fresh (premises_of inputs.inputs) (reverse book.book.entries) board.board turns.turns fresh.whole
+          (rw (← c.as_slice.ensures, ← c.needs.ensures.needs) fresh.kinds) fresh.listed fresh.parked (rw (← c.as_slice.ensures) fresh.vacant);
+    })
     c.self.invariant

@@ -1,4 +1,4 @@
-use Rattle.nd_pump.proofs.deciding.decide_kind.Goals as goal
+use Rattle.nd_pump.proofs.deciding.decide_all.Goals as goal
 
 pub returns : goal.returns
 returns c = record {
