@@ -4,9 +4,9 @@ use Rattle.std.proofs.lemmas.List.{append-nil}
 use Rattle.nd_history.specs.declared.entry.Entry.{Entry}
 use Rattle.nd_receipts.specs.declared.receipt.Receipt.{Receipt}
 use Rattle.nd_work.specs.declared.working.End.{End}
-use Rattle.nd_work.specs.declared.working.End.TheVariants.{Again, Finished, Left, Refused}
+use Rattle.nd_work.specs.declared.working.End.TheVariants.{Left}
 use Rattle.nd_receipts.specs.Noted.AreLeases.{none}
-use Rattle.nd_receipts.specs.Noted.{Noted, Track, track, GoesOn}
+use Rattle.nd_receipts.specs.Noted.{Noted, track}
 use Rattle.nd_work.specs.Ends.{EndsWell}
 use Rattle.nd_transports.specs.Calls.{State}
 use Rattle.nd_workers.specs.declared.seat.Seat.{Seat}
