@@ -1,5 +1,5 @@
 -- What a dispatch holds stays so when an allowed entry is recorded.
-use Rattle.std.proofs.Common.{◌≡◌, ℕ, ◌+◌, ◌<◌, ◌≤◌, Bool, true, false, not, ◌==◌, ◌||◌, cond, if◌then◌else◌, List, [], ◌∷◌, ◌++◌, length, reverse, refl, sym, ap, ◌∙◌, subst, arith, Option, None, Some}
+use Rattle.std.proofs.Common.{◌≡◌, ℕ, ◌+◌, ◌<◌, ◌≤◌, Bool, true, false, not, ◌==◌, ◌||◌, cond, if◌then◌else◌, List, [], ◌∷◌, length, reverse, refl, sym, ap, ◌∙◌, subst, arith, Option, None, Some}
 use Rattle.std.proofs.lemmas.Grind.{common_steps}
 use Rattle.std.specs.List.{list_any, filter, find}
 use Rattle.std.specs.Option.{option_map, IfSome}
@@ -21,12 +21,14 @@ use Rattle.nd_history.specs.Fitting.{FitTogether}
 use Rattle.nd_provision.specs.Stored.{Stored, AreStored, is_quiet, IsSameStored, HasTaken}
 use Rattle.nd_provision.specs.declared.copying.Additions.{Additions}
 use Rattle.nd_history.specs.Pumping.{step_drv}
-use Rattle.nd_ledger.specs.Moves.{IsRoomier, IsStepRecorded, CanTurn, IsReadyToStart, IsReadyToEnd}
+use Rattle.nd_ledger.specs.declared.state.State.{State}
+use Rattle.nd_ledger.specs.States.{IsEntered, IsRoomier, IsStepRecorded, CanTurn}
+use Rattle.nd_ledger.specs.Moves.{IsReadyToStart, IsReadyToEnd}
 use Rattle.nd_ledger.specs.Inner.{IsKept, room_for}
-use Rattle.nd_history.specs.Marks.{AreMarked, board_after}
+use Rattle.nd_history.specs.Marks.{AreMarked}
 use Rattle.nd_history.specs.Choices.{machines_in}
 use Rattle.nd_history.specs.Legal.{IsInRange}
-use Rattle.nd_pump.specs.Turned.{Turned, AreTurns, HasSearched, HasTurned, IsWhole, touched}
+use Rattle.nd_pump.specs.Turned.{Turned, AreTurns, HasSearched, touched}
 use Rattle.nd_pump.specs.Listing.{IsNewsWithin}
 use Rattle.nd_pump.proofs.Following.{turned_after}
 use Rattle.nd_pump.proofs.Taking.{drvs_needs, turns_searched}
@@ -38,26 +40,16 @@ use Rattle.nd_history.proofs.Boards.{leased_marked}
 use Rattle.nd_history.proofs.Marking.{followed}
 use Rattle.nd_provision.proofs.Storing.{stored_quiet, stored_same, stored_start, stored_built}
 
--- one more entry in the book and on the board
-pub record IsRecorded (old new : Recorded) (was now : Progress) (before after : Turned) (e : Entry) : Type 0 where
-  pub entries : new.entries ≡ old.entries ++ e ∷ []
-  pub room : old.room ≤ new.room + 1
-  pub drvs : new.drvs ≡ old.drvs
-  pub machines : new.machines ≡ old.machines
-  pub board : now ≡ board_after was e
-  pub turned : HasTurned (board_after was e) e (touched e (reverse old.entries)) before after
-  pub whole : IsWhole after
-
--- .. with what is kept of references and holdings after it
-pub kept_with : (d : Inside) (book : Recorded) (board : Progress) (turns : Turned) (stores : Stored) (e : Entry) → IsRecorded d.book book d.board board d.turns turns e → IsKept d → IsAllowed (premises_of d.inputs) e (reverse d.book.entries) → room_for (e ∷ reverse d.book.entries) + 1 ≤ d.book.room
-    → AreStored (premises_of d.inputs) (e ∷ reverse d.book.entries) stores → IsKept (record d { book = book; board = board; turns = turns; stores = stores })
-kept_with d book board turns stores e rec was allowed room stored =
-    let turned : reverse book.entries ≡ e ∷ reverse d.book.entries = newest_first d.book.entries book.entries e rec.entries in
+-- one more entry, with what is kept of references and holdings after it
+pub kept_with : (d : Inside) (after : State) (stores : Stored) (e : Entry) → IsEntered d.state after e → IsKept d → IsAllowed (premises_of d.inputs) e (reverse d.state.book.entries) → room_for (e ∷ reverse d.state.book.entries) + 1 ≤ d.state.book.room
+    → AreStored (premises_of d.inputs) (e ∷ reverse d.state.book.entries) stores → IsKept (record d { state = after; stores = stores })
+kept_with d after stores e rec was allowed room stored =
+    let turned : reverse after.book.entries ≡ e ∷ reverse d.state.book.entries = newest_first d.state.book.entries after.book.entries e rec.entries in
     let P : List Entry → Type 0 = λ past. IsLegal (premises_of d.inputs) past in
-    let Q : List Entry → Type 0 = λ past. room_for past ≤ book.room in
+    let Q : List Entry → Type 0 = λ past. room_for past ≤ after.book.room in
     let R : List Entry → Type 0 = λ past. AreStored (premises_of d.inputs) past stores in
-    let S : List Entry → Type 0 = λ past. AreMarked (premises_of d.inputs) past board in
-    let T : Progress → Type 0 = λ p. AreMarked (premises_of d.inputs) (e ∷ reverse d.book.entries) p in
+    let S : List Entry → Type 0 = λ past. AreMarked (premises_of d.inputs) past after.board in
+    let T : Progress → Type 0 = λ p. AreMarked (premises_of d.inputs) (e ∷ reverse d.state.book.entries) p in
     record {
       legal = subst P (sym turned) (allowed, was.legal);
       room = subst Q (sym turned) (let more = rec.room in omega arith);
@@ -67,17 +59,17 @@ kept_with d book board turns stores e rec was allowed room stored =
       few = was.few;
       small = was.small;
       stores = subst R (sym turned) stored;
-      marked = subst S (sym turned) (subst T (sym rec.board) (followed (premises_of d.inputs) (reverse d.book.entries) d.board e was.legal was.marked allowed));
+      marked = subst S (sym turned) (subst T (sym rec.board) (followed (premises_of d.inputs) (reverse d.state.book.entries) d.state.board e was.legal was.marked allowed));
       turns = (
-          let U : List Entry → Type 0 = λ past. AreTurns (premises_of d.inputs) past board turns in
-          let V : Progress → Type 0 = λ p. AreTurns (premises_of d.inputs) (e ∷ reverse d.book.entries) p turns in
-          subst U (sym turned) (subst V (sym rec.board) (turned_after (premises_of d.inputs) (reverse d.book.entries) d.board d.turns turns e was.legal was.marked allowed was.turns rec.turned rec.whole))
+          let U : List Entry → Type 0 = λ past. AreTurns (premises_of d.inputs) past after.board after.turns in
+          let V : Progress → Type 0 = λ p. AreTurns (premises_of d.inputs) (e ∷ reverse d.state.book.entries) p after.turns in
+          subst U (sym turned) (subst V (sym rec.board) (turned_after (premises_of d.inputs) (reverse d.state.book.entries) d.state.board d.state.turns after.turns e was.legal was.marked allowed was.turns rec.turned rec.whole))
           );
     }
 
 -- .. which an entry that is no start and no build leaves as it was
-pub kept : (d : Inside) (book : Recorded) (board : Progress) (turns : Turned) (e : Entry) → IsRecorded d.book book d.board board d.turns turns e → IsKept d → IsAllowed (premises_of d.inputs) e (reverse d.book.entries) → room_for (e ∷ reverse d.book.entries) + 1 ≤ d.book.room → is_quiet e ≡ true → IsKept (record d { book = book; board = board; turns = turns })
-kept d book board turns e rec was allowed room quiet = kept_with d book board turns d.stores e rec was allowed room (stored_quiet (premises_of d.inputs) (reverse d.book.entries) e d.stores quiet was.stores)
+pub kept : (d : Inside) (after : State) (e : Entry) → IsEntered d.state after e → IsKept d → IsAllowed (premises_of d.inputs) e (reverse d.state.book.entries) → room_for (e ∷ reverse d.state.book.entries) + 1 ≤ d.state.book.room → is_quiet e ≡ true → IsKept (record d { state = after })
+kept d after e rec was allowed room quiet = kept_with d after d.stores e rec was allowed room (stored_quiet (premises_of d.inputs) (reverse d.state.book.entries) e d.stores quiet was.stores)
 
 -- ---- leases that are found
 
@@ -109,30 +101,30 @@ fewer d (t ∷ leases) h = fewer_step d t leases (d == t.drv) h (fewer d leases)
 
 -- ---- the entries that end leases, and a stop
 
-pub kept_failed : (d : Inside) (book : Recorded) (board : Progress) (turns : Turned) (t : Ticket) (e : Entry) (why : Why) → e ≡ Failed t.drv why → IsRecorded d.book book d.board board d.turns turns e → IsKept d → lease_of t.drv (reverse d.book.entries) ≡ Some t → IsKept (record d { book = book; board = board; turns = turns })
-kept_failed d book board turns t e why is rec was found =
-    let past = reverse d.book.entries in
+pub kept_failed : (d : Inside) (after : State) (t : Ticket) (e : Entry) (why : Why) → e ≡ Failed t.drv why → IsEntered d.state after e → IsKept d → lease_of t.drv (reverse d.state.book.entries) ≡ Some t → IsKept (record d { state = after })
+kept_failed d after t e why is rec was found =
+    let past = reverse d.state.book.entries in
     let leased = found_leased t.drv past t found in
-    let P : Entry → Type 0 = λ e. IsRecorded d.book book d.board board d.turns turns e in
-    kept d book board turns (Failed t.drv why) (subst P is rec) was
+    let P : Entry → Type 0 = λ e. IsEntered d.state after e in
+    kept d after (Failed t.drv why) (subst P is rec) was
     (record { ranged = leased_ranged (premises_of d.inputs) past was.legal t.drv leased; may = leased })
     (let less = fewer t.drv (live past) leased in let room = was.room in omega arith) refl
 
-pub kept_down : (d : Inside) (book : Recorded) (board : Progress) (turns : Turned) (t : Ticket) (e : Entry) → e ≡ Down t.drv → IsRecorded d.book book d.board board d.turns turns e → IsKept d → lease_of t.drv (reverse d.book.entries) ≡ Some t → is_started t.drv (reverse d.book.entries) ≡ false → IsKept (record d { book = book; board = board; turns = turns })
-kept_down d book board turns t e is rec was found fresh =
-    let past = reverse d.book.entries in
+pub kept_down : (d : Inside) (after : State) (t : Ticket) (e : Entry) → e ≡ Down t.drv → IsEntered d.state after e → IsKept d → lease_of t.drv (reverse d.state.book.entries) ≡ Some t → is_started t.drv (reverse d.state.book.entries) ≡ false → IsKept (record d { state = after })
+kept_down d after t e is rec was found fresh =
+    let past = reverse d.state.book.entries in
     let leased = found_leased t.drv past t found in
-    let P : Entry → Type 0 = λ e. IsRecorded d.book book d.board board d.turns turns e in
-    kept d book board turns (Down t.drv) (subst P is rec) was
+    let P : Entry → Type 0 = λ e. IsEntered d.state after e in
+    kept d after (Down t.drv) (subst P is rec) was
     (record { ranged = leased_ranged (premises_of d.inputs) past was.legal t.drv leased; may = record { live = leased; fresh = fresh } })
     (let less = fewer t.drv (live past) leased in let room = was.room in omega arith) refl
 
 stop_room : (past : List Entry) (n : ℕ) → has_stop past ≡ false → room_for past ≤ n → room_for (Stop ∷ past) + 1 ≤ n
 stop_room past n none room = let at = rw none at room in omega arith
 
-pub kept_stop : (d : Inside) (book : Recorded) (board : Progress) (turns : Turned) → IsRecorded d.book book d.board board d.turns turns Stop → IsKept d → has_stop (reverse d.book.entries) ≡ false → IsKept (record d { book = book; board = board; turns = turns })
-kept_stop d book board turns rec was none =
-    kept d book board turns Stop rec was (record { ranged = tt; may = none }) (stop_room (reverse d.book.entries) d.book.room none was.room) refl
+pub kept_stop : (d : Inside) (after : State) → IsEntered d.state after Stop → IsKept d → has_stop (reverse d.state.book.entries) ≡ false → IsKept (record d { state = after })
+kept_stop d after rec was none =
+    kept d after Stop rec was (record { ranged = tt; may = none }) (stop_room (reverse d.state.book.entries) d.state.book.room none was.room) refl
 
 -- ---- entries that end no lease, for which room was made
 
@@ -149,7 +141,7 @@ stop_bit true = omega arith
 stop_bit false = omega arith
 
 -- what was held is held with more room
-pub kept_room : (d : Inside) (book : Recorded) (n : ℕ) → HasRoom d.book book n → IsKept d → IsKept (record d { book = book })
+pub kept_room : (d : Inside) (book : Recorded) (n : ℕ) → HasRoom d.state.book book n → IsKept d → IsKept (record d { state = record d.state { book = book } })
 kept_room d book n more was =
     let P : List Entry → Type 0 = λ es. IsLegal (premises_of d.inputs) (reverse es) in
     let Q : List Entry → Type 0 = λ es. room_for (reverse es) ≤ book.room in
@@ -162,44 +154,44 @@ kept_room d book n more was =
       few = was.few;
       small = was.small;
       stores = (let R : List Entry → Type 0 = λ es. AreStored (premises_of d.inputs) (reverse es) d.stores in subst R (sym more.entries) was.stores);
-      marked = (let S : List Entry → Type 0 = λ es. AreMarked (premises_of d.inputs) (reverse es) d.board in subst S (sym more.entries) was.marked);
-      turns = (let U : List Entry → Type 0 = λ es. AreTurns (premises_of d.inputs) (reverse es) d.board d.turns in subst U (sym more.entries) was.turns);
+      marked = (let S : List Entry → Type 0 = λ es. AreMarked (premises_of d.inputs) (reverse es) d.state.board in subst S (sym more.entries) was.marked);
+      turns = (let U : List Entry → Type 0 = λ es. AreTurns (premises_of d.inputs) (reverse es) d.state.board d.state.turns in subst U (sym more.entries) was.turns);
     }
 
 -- an entry is recorded where room was made for it, a stop and all leases
-pub kept_more_with : (d : Inside) (roomy book : Recorded) (board : Progress) (turns : Turned) (stores : Stored) (e : Entry) (n : ℕ) → HasRoom d.book roomy (length (live (reverse d.book.entries)) + n + 2) → IsRecorded roomy book d.board board d.turns turns e → IsKept d → IsAllowed (premises_of d.inputs) e (reverse d.book.entries)
-    → length (live (e ∷ reverse d.book.entries)) ≤ length (live (reverse d.book.entries)) + n → AreStored (premises_of d.inputs) (e ∷ reverse d.book.entries) stores → IsKept (record d { book = book; board = board; turns = turns; stores = stores })
-kept_more_with d roomy book board turns stores e n more rec was allowed few stored =
+pub kept_more_with : (d : Inside) (roomy : Recorded) (after : State) (stores : Stored) (e : Entry) (n : ℕ) → HasRoom d.state.book roomy (length (live (reverse d.state.book.entries)) + n + 2) → IsEntered (record d.state { book = roomy }) after e → IsKept d → IsAllowed (premises_of d.inputs) e (reverse d.state.book.entries)
+    → length (live (e ∷ reverse d.state.book.entries)) ≤ length (live (reverse d.state.book.entries)) + n → AreStored (premises_of d.inputs) (e ∷ reverse d.state.book.entries) stores → IsKept (record d { state = after; stores = stores })
+kept_more_with d roomy after stores e n more rec was allowed few stored =
     let P : List Entry → Type 0 = λ es. IsAllowed (premises_of d.inputs) e (reverse es) in
     let Q : List Entry → Type 0 = λ es. room_for (e ∷ reverse es) + 1 ≤ roomy.room in
     let R : List Entry → Type 0 = λ es. AreStored (premises_of d.inputs) (e ∷ reverse es) stores in
-    let bit = stop_bit (has_stop (e ∷ reverse d.book.entries)) in
+    let bit = stop_bit (has_stop (e ∷ reverse d.state.book.entries)) in
     let had = more.more in
-    kept_with (record d { book = roomy }) book board turns stores e rec (kept_room d roomy (length (live (reverse d.book.entries)) + n + 2) more was)
+    kept_with (record d { state = record d.state { book = roomy } }) after stores e rec (kept_room d roomy (length (live (reverse d.state.book.entries)) + n + 2) more was)
     (subst P (sym more.entries) allowed)
     (subst Q (sym more.entries) (omega arith))
     (subst R (sym more.entries) stored)
 
 -- an entry that is no start and no build, and makes no more than one lease
-pub kept_more : (d : Inside) (roomy book : Recorded) (board : Progress) (turns : Turned) (e : Entry) (n : ℕ) → HasRoom d.book roomy (length (live (reverse d.book.entries)) + n + 2) → IsRecorded roomy book d.board board d.turns turns e → IsKept d → IsAllowed (premises_of d.inputs) e (reverse d.book.entries)
-    → length (live (e ∷ reverse d.book.entries)) ≤ length (live (reverse d.book.entries)) + n → is_quiet e ≡ true → IsKept (record d { book = book; board = board; turns = turns })
-kept_more d roomy book board turns e n more rec was allowed few quiet =
-    kept_more_with d roomy book board turns d.stores e n more rec was allowed few (stored_quiet (premises_of d.inputs) (reverse d.book.entries) e d.stores quiet was.stores)
+pub kept_more : (d : Inside) (roomy : Recorded) (after : State) (e : Entry) (n : ℕ) → HasRoom d.state.book roomy (length (live (reverse d.state.book.entries)) + n + 2) → IsEntered (record d.state { book = roomy }) after e → IsKept d → IsAllowed (premises_of d.inputs) e (reverse d.state.book.entries)
+    → length (live (e ∷ reverse d.state.book.entries)) ≤ length (live (reverse d.state.book.entries)) + n → is_quiet e ≡ true → IsKept (record d { state = after })
+kept_more d roomy after e n more rec was allowed few quiet =
+    kept_more_with d roomy after d.stores e n more rec was allowed few (stored_quiet (premises_of d.inputs) (reverse d.state.book.entries) e d.stores quiet was.stores)
 
 -- the load of a machine is a small number
-pub small_load : (d : Inside) → IsKept d → (m : ℕ) → load m (reverse d.book.entries) ≤ 65535
+pub small_load : (d : Inside) → IsKept d → (m : ℕ) → load m (reverse d.state.book.entries) ≤ 65535
 small_load d was m =
-    let within = load_within (premises_of d.inputs) (reverse d.book.entries) was.legal m in
+    let within = load_within (premises_of d.inputs) (reverse d.state.book.entries) was.legal m in
     let few = was.small.jobs m in
     omega arith
 
 -- the derivation of a live lease is in the book's range
-pub in_book : (d : Inside) → IsKept d → (t : Ticket) → lease_of t.drv (reverse d.book.entries) ≡ Some t → t.drv < d.book.drvs
+pub in_book : (d : Inside) → IsKept d → (t : Ticket) → lease_of t.drv (reverse d.state.book.entries) ≡ Some t → t.drv < d.state.book.drvs
 in_book d was t found =
-    rw was.drvs (leased_ranged (premises_of d.inputs) (reverse d.book.entries) was.legal t.drv (found_leased t.drv (reverse d.book.entries) t found))
+    rw was.drvs (leased_ranged (premises_of d.inputs) (reverse d.state.book.entries) was.legal t.drv (found_leased t.drv (reverse d.state.book.entries) t found))
 
 -- the inputs and the book fit together
-pub fit_kept : (d : Inside) → IsKept d → FitTogether (premises_of d.inputs) d.book
+pub fit_kept : (d : Inside) → IsKept d → FitTogether (premises_of d.inputs) d.state.book
 fit_kept d was = record { legal = was.legal; sound = was.sound; drvs = was.drvs; park = was.park; few = was.few; small = was.small }
 
 -- an entry makes at most one lease
@@ -221,14 +213,15 @@ step_quiet (Built c refs) d h = cc
 step_quiet e d h = refl
 
 -- a step is recorded
-pub kept_step : (d : Inside) (book : Recorded) (board : Progress) (turns : Turned) (e : Entry) → IsStepRecorded d.book book d.board board d.turns turns e → IsKept d → IsAllowed (premises_of d.inputs) e (reverse d.book.entries) → is_quiet e ≡ true → IsKept (record d { book = book; board = board; turns = turns })
-kept_step d book board turns e rec was allowed quiet =
+pub kept_step : (d : Inside) (after : State) (e : Entry) → IsStepRecorded d.state after e → IsKept d → IsAllowed (premises_of d.inputs) e (reverse d.state.book.entries) → is_quiet e ≡ true → IsKept (record d { state = after })
+kept_step d after e rec was allowed quiet =
+    let one = rec.entered in
     let had = rec.room in
-    let roomy : Recorded = record { entries = d.book.entries; room = book.room + 1; drvs = book.drvs; machines = book.machines; rooms = book.rooms } in
-    kept_more d roomy book board turns e 1
-    (record { entries = refl; drvs = rec.drvs; machines = rec.machines; room = rec.kept; more = omega arith })
-    (record { entries = rec.entries; room = omega arith; drvs = refl; machines = refl; board = rec.board; turned = rec.turned; whole = rec.whole })
-    was allowed (live_grows (reverse d.book.entries) e) quiet
+    let roomy : Recorded = record { entries = d.state.book.entries; room = after.book.room + 1; drvs = after.book.drvs; machines = after.book.machines; rooms = after.book.rooms } in
+    kept_more d roomy after e 1
+    (record { entries = refl; drvs = one.drvs; machines = one.machines; room = one.room; more = omega arith })
+    (record { entries = one.entries; room = omega arith; drvs = refl; machines = refl; board = one.board; turned = one.turned; whole = one.whole })
+    was allowed (live_grows (reverse d.state.book.entries) e) quiet
 
 -- what was kept with other room for references and holdings is kept
 pub kept_stores : (d : Inside) (stores : Stored) → IsSameStored d.stores stores → IsKept d → IsKept (record d { stores = stores })
@@ -240,37 +233,37 @@ kept_stores d stores same was = record {
   park = was.park;
   few = was.few;
   small = was.small;
-  stores = stored_same (premises_of d.inputs) (reverse d.book.entries) d.stores stores same was.stores;
+  stores = stored_same (premises_of d.inputs) (reverse d.state.book.entries) d.stores stores same was.stores;
   marked = was.marked;
   turns = was.turns;
 }
 
 -- ---- starts, and builds that end
 
-pub kept_started : (d : Inside) (roomy book : Recorded) (board : Progress) (turns : Turned) (mid new : Stored) (t : Ticket) (paths : List (List ℕ)) (a : Additions) (e : Entry) → e ≡ Started t.drv paths → IsRoomier d.book roomy → IsRecorded roomy book d.board board d.turns turns e → IsKept d → IsSameStored d.stores mid
-    → IsReadyToStart (premises_of d.inputs) (reverse d.book.entries) t paths roomy mid a → HasTaken mid new a → IsKept (record d { book = book; board = board; turns = turns; stores = new })
-kept_started d roomy book board turns mid new t paths a e is more rec was same ready took =
+pub kept_started : (d : Inside) (roomy : Recorded) (after : State) (mid new : Stored) (t : Ticket) (paths : List (List ℕ)) (a : Additions) (e : Entry) → e ≡ Started t.drv paths → IsRoomier d.state.book roomy → IsEntered (record d.state { book = roomy }) after e → IsKept d → IsSameStored d.stores mid
+    → IsReadyToStart (premises_of d.inputs) (reverse d.state.book.entries) t paths roomy mid a → HasTaken mid new a → IsKept (record d { state = after; stores = new })
+kept_started d roomy after mid new t paths a e is more rec was same ready took =
     let i = premises_of d.inputs in
-    let past = reverse d.book.entries in
-    let P : Entry → Type 0 = λ e. IsRecorded roomy book d.board board d.turns turns e in
+    let past = reverse d.state.book.entries in
+    let P : Entry → Type 0 = λ e. IsEntered (record d.state { book = roomy }) after e in
     let leased = found_leased t.drv past t ready.live in
     let had = ready.room in
-    kept_more_with d roomy book board turns new (Started t.drv paths) 0
+    kept_more_with d roomy after new (Started t.drv paths) 0
     (record { entries = more.entries; drvs = more.drvs; machines = more.machines; room = more.room; more = omega arith })
     (subst P is rec) was
     (record { ranged = leased_ranged i past was.legal t.drv leased; may = record { ticket = t; live = ready.live; fresh = ready.fresh; right = ready.right } })
     (omega arith)
     (stored_start i past t.drv t paths mid new a was.legal ready.live ready.right (stored_same i past d.stores mid same was.stores) ready.adds took)
 
-pub kept_built : (d : Inside) (book : Recorded) (board : Progress) (turns : Turned) (mid new : Stored) (t : Ticket) (refs : List (List (List ℕ))) (a : Additions) (e : Entry) → e ≡ Built t.drv refs → IsRecorded d.book book d.board board d.turns turns e → IsKept d → IsSameStored d.stores mid
-    → IsReadyToEnd (premises_of d.inputs) (reverse d.book.entries) t refs mid a → HasTaken mid new a → IsKept (record d { book = book; board = board; turns = turns; stores = new })
-kept_built d book board turns mid new t refs a e is rec was same ready took =
+pub kept_built : (d : Inside) (after : State) (mid new : Stored) (t : Ticket) (refs : List (List (List ℕ))) (a : Additions) (e : Entry) → e ≡ Built t.drv refs → IsEntered d.state after e → IsKept d → IsSameStored d.stores mid
+    → IsReadyToEnd (premises_of d.inputs) (reverse d.state.book.entries) t refs mid a → HasTaken mid new a → IsKept (record d { state = after; stores = new })
+kept_built d after mid new t refs a e is rec was same ready took =
     let i = premises_of d.inputs in
-    let past = reverse d.book.entries in
-    let P : Entry → Type 0 = λ e. IsRecorded d.book book d.board board d.turns turns e in
+    let past = reverse d.state.book.entries in
+    let P : Entry → Type 0 = λ e. IsEntered d.state after e in
     let leased = found_leased t.drv past t ready.live in
     let allowed : IsAllowed i (Built t.drv refs) past = record { ranged = leased_ranged i past was.legal t.drv leased; may = record { live = leased; started = ready.started; right = ready.right } } in
-    kept_with d book board turns new (Built t.drv refs) (subst P is rec) was allowed
+    kept_with d after new (Built t.drv refs) (subst P is rec) was allowed
     (let less = fewer t.drv (live past) leased in let room = was.room in omega arith)
     (stored_built i past t.drv t refs mid new a (allowed, was.legal) ready.live (stored_same i past d.stores mid same was.stores) ready.adds took)
 
@@ -279,30 +272,30 @@ kept_built d book board turns mid new t refs a e is rec was same ready took =
 -- the same inputs and entries, with room for the end of each live lease and for a stop
 pub record IsCopy (d copy : Inside) : Type 0 where
   pub inputs : premises_of copy.inputs ≡ premises_of d.inputs
-  pub entries : copy.book.entries ≡ d.book.entries
-  pub drvs : copy.book.drvs ≡ d.book.drvs
-  pub machines : copy.book.machines ≡ d.book.machines
-  pub room : length (live (reverse d.book.entries)) + 1 ≤ copy.book.room
+  pub entries : copy.state.book.entries ≡ d.state.book.entries
+  pub drvs : copy.state.book.drvs ≡ d.state.book.drvs
+  pub machines : copy.state.book.machines ≡ d.state.book.machines
+  pub room : length (live (reverse d.state.book.entries)) + 1 ≤ copy.state.book.room
   pub stores : IsSameStored d.stores copy.stores
-  pub board : copy.board ≡ d.board
-  pub turns : AreTurns (premises_of copy.inputs) (reverse copy.book.entries) copy.board copy.turns
+  pub board : copy.state.board ≡ d.state.board
+  pub turns : AreTurns (premises_of copy.inputs) (reverse copy.state.book.entries) copy.state.board copy.state.turns
 
 -- a copy holds what the original holds
 pub kept_copy : (d copy : Inside) → IsCopy d copy → IsKept d → IsKept copy
 kept_copy d copy same was =
-    let past = reverse d.book.entries in
+    let past = reverse d.state.book.entries in
     let stored = stored_same (premises_of d.inputs) past d.stores copy.stores same.stores was.stores in
-    let roomy : room_for past ≤ copy.book.room = (let bit = stop_bit (has_stop past) in let room = same.room in omega arith) in
+    let roomy : room_for past ≤ copy.state.book.room = (let bit = stop_bit (has_stop past) in let room = same.room in omega arith) in
     let Legal : Premises → Type 0 = λ i. IsLegal i past in
     let Sound : Premises → Type 0 = λ i. IsSound i.graph in
     let Few : Premises → Type 0 = λ i. length i.machines ≤ 1024 in
     let Stores : Premises → Type 0 = λ i. AreStored i past copy.stores in
     let LegalAfter : List Entry → Type 0 = λ es. IsLegal (premises_of copy.inputs) (reverse es) in
-    let RoomAfter : List Entry → Type 0 = λ es. room_for (reverse es) ≤ copy.book.room in
+    let RoomAfter : List Entry → Type 0 = λ es. room_for (reverse es) ≤ copy.state.book.room in
     let StoresAfter : List Entry → Type 0 = λ es. AreStored (premises_of copy.inputs) (reverse es) copy.stores in
-    let Marked : Premises → Type 0 = λ i. AreMarked i past d.board in
+    let Marked : Premises → Type 0 = λ i. AreMarked i past d.state.board in
     let BoardAfter : Progress → Type 0 = λ p. AreMarked (premises_of copy.inputs) past p in
-    let MarkedAfter : List Entry → Type 0 = λ es. AreMarked (premises_of copy.inputs) (reverse es) copy.board in
+    let MarkedAfter : List Entry → Type 0 = λ es. AreMarked (premises_of copy.inputs) (reverse es) copy.state.board in
     record {
       legal = subst LegalAfter (sym same.entries) (subst Legal (sym same.inputs) was.legal);
       room = subst RoomAfter (sym same.entries) roomy;
@@ -317,14 +310,14 @@ kept_copy d copy same was =
     }
 
 -- a derivation whose lease is found is leased on the board
-pub found_marked : (d : Inside) → IsKept d → (t : Ticket) → lease_of t.drv (reverse d.book.entries) ≡ Some t → IsLeased d.board t.drv
+pub found_marked : (d : Inside) → IsKept d → (t : Ticket) → lease_of t.drv (reverse d.state.book.entries) ≡ Some t → IsLeased d.state.board t.drv
 found_marked d was t found =
-    leased_marked (premises_of d.inputs) (reverse d.book.entries) d.board was.legal was.marked t.drv (found_leased t.drv (reverse d.book.entries) t found)
+    leased_marked (premises_of d.inputs) (reverse d.state.book.entries) d.state.board was.legal was.marked t.drv (found_leased t.drv (reverse d.state.book.entries) t found)
 
 -- ---- turns
 
 -- other turns for the same history
-pub kept_turns : (d : Inside) (turns : Turned) → AreTurns (premises_of d.inputs) (reverse d.book.entries) d.board turns → IsKept d → IsKept (record d { turns = turns })
+pub kept_turns : (d : Inside) (turns : Turned) → AreTurns (premises_of d.inputs) (reverse d.state.book.entries) d.state.board turns → IsKept d → IsKept (record d { state = record d.state { turns = turns } })
 kept_turns d turns are was = record {
   legal = was.legal;
   room = was.room;
@@ -339,8 +332,8 @@ kept_turns d turns are was = record {
 }
 
 -- .. those with which builders were looked at
-pub kept_searched : (d : Inside) (turns : Turned) → HasSearched (premises_of d.inputs) (reverse d.book.entries) d.turns turns → IsKept d → IsKept (record d { turns = turns })
-kept_searched d turns searched was = kept_turns d turns (turns_searched (premises_of d.inputs) (reverse d.book.entries) d.board d.turns turns searched was.turns) was
+pub kept_searched : (d : Inside) (turns : Turned) → HasSearched (premises_of d.inputs) (reverse d.state.book.entries) d.state.turns turns → IsKept d → IsKept (record d { state = record d.state { turns = turns } })
+kept_searched d turns searched was = kept_turns d turns (turns_searched (premises_of d.inputs) (reverse d.state.book.entries) d.state.board d.state.turns turns searched was.turns) was
 
 machine_ranged : (n : ℕ) (o : Option Ticket) → ((t : Ticket) → o ≡ Some t → t.machine < n) → IfSome (option_map (λ (t : Ticket). t.machine) o) (λ m. m < n)
 machine_ranged n None h = tt
@@ -375,20 +368,20 @@ news_within i n (Drain m) is ranged = tt
 news_within i n (Enable m) is ranged = tt
 
 -- the turns can follow what is allowed
-pub can_turn : (d : Inside) (e : Entry) → IsKept d → IsAllowed (premises_of d.inputs) e (reverse d.book.entries) → CanTurn d.book d.board d.turns e
+pub can_turn : (d : Inside) (e : Entry) → IsKept d → IsAllowed (premises_of d.inputs) e (reverse d.state.book.entries) → CanTurn d.state e
 can_turn d e was allowed =
     let i = premises_of d.inputs in
-    let rows : length d.board.inputs ≡ drvs_in i = ap length was.marked.inputs in
+    let rows : length d.state.board.inputs ≡ drvs_in i = ap length was.marked.inputs in
     record {
       sized = rows ∙ (sym (drvs_needs i was.sound) ∙ sym was.turns.kinds.sized);
-      within = news_within i (length d.board.inputs) e rows allowed.ranged;
-      machine = touched_ranged i (reverse d.book.entries) (length d.turns.kinds.users) e was.turns.kinds.park was.legal allowed.ranged;
+      within = news_within i (length d.state.board.inputs) e rows allowed.ranged;
+      machine = touched_ranged i (reverse d.state.book.entries) (length d.state.turns.kinds.users) e was.turns.kinds.park was.legal allowed.ranged;
     }
 
 -- .. over a book with the same entries
-pub same_turn : (old new : Recorded) (board : Progress) (turns : Turned) (e : Entry) → new.entries ≡ old.entries → CanTurn old board turns e → CanTurn new board turns e
-same_turn old new board turns e same can = record {
+pub same_turn : (s : State) (book : Recorded) (e : Entry) → book.entries ≡ s.book.entries → CanTurn s e → CanTurn (record s { book = book }) e
+same_turn s book e same can = record {
   sized = can.sized;
   within = can.within;
-  machine = subst (λ (es : List Entry). IfSome (touched e (reverse es)) (λ m. m < length turns.kinds.users)) (sym same) can.machine;
+  machine = subst (λ (es : List Entry). IfSome (touched e (reverse es)) (λ m. m < length s.turns.kinds.users)) (sym same) can.machine;
 }

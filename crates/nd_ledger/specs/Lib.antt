@@ -2,5 +2,6 @@ pub mod Admitting
 pub mod Inner
 pub mod Moves
 pub mod Refusals
+pub mod States
 pub mod Worlds
 pub mod Names

@@ -1,6 +1,6 @@
 -- When starts, ends of builds and questions about copies are refused, and what they need before they are recorded.
 -- The histories of these definitions stand newest first. Public clauses cite the refusals; the rest serves private ones.
-use Rattle.std.specs.Prelude.{◌≡◌, ℕ, ◌+◌, ◌<◌, ◌≤◌, true, false, List, [], ◌∷◌, ◌++◌, length, reverse, IfSome}
+use Rattle.std.specs.Prelude.{◌≡◌, ℕ, ◌+◌, ◌≤◌, true, false, List, length}
 use Rattle.nd_ledger.specs.declared.refusal.Refusal.{Refusal}
 use Rattle.nd_ledger.specs.declared.refusal.Refusal.TheVariants.{NotLive, AlreadyStarted, NotStarted, Uncovered, Extra, BadReferences, AlreadyStopped, Memory}
 use Rattle.nd_provision.specs.declared.copying.Additions.{Additions}
@@ -8,14 +8,10 @@ use Rattle.nd_provision.specs.declared.copying.PathsError.{PathsError}
 use Rattle.nd_provision.specs.declared.copying.PathsError.TheVariants.{Uncovered as Bare, Extra as Beside, Memory as NoMemory}
 use Rattle.nd_history.specs.declared.entry.Entry.{Entry}
 use Rattle.nd_leases.specs.declared.ticket.Ticket.{Ticket}
-use Rattle.nd_failure.specs.Progress.{Progress}
 use Rattle.nd_history.specs.Books.{Recorded}
 use Rattle.nd_history.specs.Premises.{Premises}
 use Rattle.nd_history.specs.History.{live as leases, is_started}
 use Rattle.nd_ledger.specs.Refusals.{IsLive}
-use Rattle.nd_history.specs.Marks.{board_after}
-use Rattle.nd_pump.specs.Turned.{Turned, HasTurned, IsWhole, touched}
-use Rattle.nd_pump.specs.Listing.{IsNewsWithin}
 use Rattle.nd_history.specs.References.{ArePathsRight, AreReferencesRight}
 use Rattle.nd_provision.specs.Stored.{Stored, Fits, AreStartAdditions, AreBuiltAdditions, IsUncovered, IsExtra}
 
@@ -59,30 +55,6 @@ abbrev pub refusal_for : PathsError → Refusal
 refusal_for Bare = Uncovered
 refusal_for Beside = Extra
 refusal_for NoMemory = Memory
-
--- the book is as it was, with as much room or more
-pub record IsRoomier (old new : Recorded) : Type 0 where
-  pub entries : new.entries ≡ old.entries
-  pub drvs : new.drvs ≡ old.drvs
-  pub machines : new.machines ≡ old.machines
-  pub room : old.room ≤ new.room
-
--- the turns can follow the entry: they are those of the board, and what the entry is about and touches is there
-pub record CanTurn (book : Recorded) (board : Progress) (turns : Turned) (e : Entry) : Type 0 where
-  pub sized : length board.inputs ≡ length turns.kinds.numbers
-  pub within : IsNewsWithin (length board.inputs) e
-  pub machine : IfSome (touched e (reverse book.entries)) (λ m. m < length turns.kinds.users)
-
--- a step is recorded, the board follows it, and there is room for the end of each lease, that of a choice among them, and for a stop
-pub record IsStepRecorded (old new : Recorded) (was now : Progress) (before after : Turned) (step : Entry) : Type 0 where
-  pub entries : new.entries ≡ old.entries ++ step ∷ []
-  pub drvs : new.drvs ≡ old.drvs
-  pub machines : new.machines ≡ old.machines
-  pub room : length (leases (reverse old.entries)) + 2 ≤ new.room
-  pub kept : old.room ≤ new.room + 1
-  pub board : now ≡ board_after was step
-  pub turned : HasTurned (board_after was step) step (touched step (reverse old.entries)) before after
-  pub whole : IsWhole after
 
 -- a start that may be recorded, with all the memory that it takes
 pub record IsReadyToStart (i : Premises) (past : List Entry) (t : Ticket) (paths : List (List ℕ)) (book : Recorded) (stores : Stored) (a : Additions) : Type 0 where

@@ -19,11 +19,11 @@ ghost use Rattle.nd_provision.specs.Stored.{IsMissing};
 ghost use Rattle.nd_ledger.specs.Worlds.{GoesOnFrom};
 ghost use Rattle.nd_ledger.specs.Refusals.{IsLive, IsTicketOf, IsFailRefused, IsDownRefused, IsStopRefused};
 
-use crate::following::{enter, record_step};
 use crate::fresh::learn_jobs;
 use crate::job::{Job, copy_paths};
 use crate::moving::{is_live, prepare_end, prepare_start};
 use crate::refusal::{AdmitError, Refusal, Refused, admit_error};
+use crate::state::State;
 use nd_bytes::Items;
 use nd_closure::{RefTable, Refs};
 use nd_eligible::Local;
@@ -48,10 +48,8 @@ use std::marker::Model;
 #[derive(Drop)]
 pub struct Dispatch {
     inputs: Inputs,
-    book: Book,
-    board: Board,
+    state: State,
     stores: Stores,
-    turns: Turns,
 }
 
 impl Model for Dispatch {
@@ -69,6 +67,62 @@ impl Model for Dispatch {
 impl Dispatch {
     ghost use Rattle.nd_ledger.specs.Inner.{room_for};
 
+    /// A dispatch over these inputs, with the empty history. There are at most 1,024 builders.
+    ///
+    /// Where memory is refused the five inputs come back.
+    pub fn new(
+        alloc: Global,
+        graph: Graph,
+        machines: Vec<Machine>,
+        local: Local,
+        info: RefTable,
+        keep_going: bool,
+    ) -> Result<Dispatch, Parts>
+        requires { length machines.items ≤ 1024 }
+        ensures inputs { IfOk result (λ d. d.inputs ≡ premises graph machines.items local info.entries keep_going) }
+        ensures empty { IfOk result (λ d. d.history ≡ []) }
+        ensures back { IfErr result (λ p. p ≡ record { graph = graph; machines = machines; local = local; info = info; keep_going = keep_going }) }
+    {
+        let parts = Parts {
+            graph,
+            machines,
+            local,
+            info,
+            keep_going,
+        };
+        let builders = parts.machines.len();
+        let Ok(book) = Book::new(alloc, parts.graph.len(), builders + 1) else {
+            return Err(parts);
+        };
+        let Ok(board) = Board::new(alloc, &parts.graph, keep_going) else {
+            return Err(parts);
+        };
+        let Ok(stores) = Stores::new(alloc, &parts.graph, builders, &parts.info) else {
+            return Err(parts);
+        };
+        let Ok(turns) = Turns::new(
+            alloc,
+            parts.machines.as_slice(),
+            &parts.local,
+            parts.graph.needs(),
+            &board,
+        ) else {
+            return Err(parts);
+        };
+        learn_jobs(parts.machines.as_slice(), &parts.local);
+        Ok(Dispatch {
+            inputs: Inputs {
+                graph: parts.graph,
+                machines: Items::new(parts.machines),
+                local: parts.local,
+                info: parts.info,
+                keep_going,
+            },
+            state: State { book, board, turns },
+            stores,
+        })
+    }
+
     /// Again and again the first derivation, in the order of the bundle, that is ready and whose
     /// decision is not to wait gets its choice or the word that nothing can build it, until there is
     /// none. The answer is the number of these steps; those made before a refusal stand. Where no lease
@@ -80,12 +134,17 @@ impl Dispatch {
         ensures idle { OnOk result (WaitsForLeases self.new.inputs (reverse self.new.history)) }
         ensures err { OnErr result (HasPumped self.old.inputs self.old.history self.new.history) }
     {
-        let before = self.book.entries().len();
-        while let Some(step) = next_step(&self.inputs, &self.book, &self.board, &mut self.turns) {
-            record_step(&mut self.book, &mut self.board, &mut self.turns, step)?; // it stands, whatever comes behind it
+        let before = self.state.book.entries().len();
+        while let Some(step) = next_step(
+            &self.inputs,
+            &self.state.book,
+            &self.state.board,
+            &mut self.state.turns,
+        ) {
+            self.state.record_step(step)?; // it stands, whatever comes behind it
         }
         let _order = self.inputs.graph.order();
-        Ok(self.book.entries().len() - before)
+        Ok(self.state.book.entries().len() - before)
     }
 
     /// A build starts, after these paths were copied to its machine.
@@ -110,21 +169,16 @@ impl Dispatch {
         match prepare_start(
             alloc,
             &self.inputs,
-            &mut self.book,
+            &mut self.state.book,
             &mut self.stores,
             ticket,
             &paths,
         ) {
             Ok(additions) => {
-                enter(
-                    &mut self.book,
-                    &mut self.board,
-                    &mut self.turns,
-                    Entry::Started {
-                        drv: ticket.drv,
-                        paths,
-                    },
-                );
+                self.state.enter(Entry::Started {
+                    drv: ticket.drv,
+                    paths,
+                });
                 self.stores.take_in(additions);
                 Ok(())
             }
@@ -149,21 +203,16 @@ impl Dispatch {
         match prepare_end(
             alloc,
             &self.inputs,
-            &self.book,
+            &self.state.book,
             &mut self.stores,
             ticket,
             &refs,
         ) {
             Ok(additions) => {
-                enter(
-                    &mut self.book,
-                    &mut self.board,
-                    &mut self.turns,
-                    Entry::Built {
-                        drv: ticket.drv,
-                        refs,
-                    },
-                );
+                self.state.enter(Entry::Built {
+                    drv: ticket.drv,
+                    refs,
+                });
                 self.stores.take_in(additions);
                 Ok(())
             }
@@ -180,7 +229,7 @@ impl Dispatch {
         ensures live { OnOk result (IsLive (reverse self.now.history) ticket.now) }
         ensures refused { IfErr result (IsJobRefused (reverse self.now.history) ticket.now) }
     {
-        if !is_live(&self.book, *ticket) {
+        if !is_live(&self.state.book, *ticket) {
             return Err(Refusal::NotLive);
         }
         Ok(
@@ -227,18 +276,13 @@ impl Dispatch {
         ensures err { OnErr result (self.new ≡ self.old) }
         ensures succeeds { IsLive (reverse self.old.history) ticket → IsOk result }
     {
-        if !is_live(&self.book, ticket) {
+        if !is_live(&self.state.book, ticket) {
             return Err(Refusal::NotLive);
         }
-        enter(
-            &mut self.book,
-            &mut self.board,
-            &mut self.turns,
-            Entry::Failed {
-                drv: ticket.drv,
-                why,
-            },
-        );
+        self.state.enter(Entry::Failed {
+            drv: ticket.drv,
+            why,
+        });
         Ok(())
     }
 
@@ -255,18 +299,13 @@ impl Dispatch {
         ensures err { OnErr result (self.new ≡ self.old) }
         ensures succeeds { IsLive (reverse self.old.history) ticket → is_started ticket.drv (reverse self.old.history) ≡ false → IsOk result }
     {
-        if !is_live(&self.book, ticket) {
+        if !is_live(&self.state.book, ticket) {
             return Err(Refusal::NotLive);
         }
-        if self.book.is_started(ticket.drv as usize) {
+        if self.state.book.is_started(ticket.drv as usize) {
             return Err(Refusal::AlreadyStarted);
         }
-        enter(
-            &mut self.book,
-            &mut self.board,
-            &mut self.turns,
-            Entry::Down { drv: ticket.drv },
-        );
+        self.state.enter(Entry::Down { drv: ticket.drv });
         Ok(())
     }
 
@@ -280,15 +319,10 @@ impl Dispatch {
         ensures err { OnErr result (self.new ≡ self.old) }
         ensures first { has_stop (reverse self.old.history) ≡ false → IsOk result }
     {
-        if self.board.has_stop() {
+        if self.state.board.has_stop() {
             return Err(Refusal::AlreadyStopped);
         }
-        enter(
-            &mut self.book,
-            &mut self.board,
-            &mut self.turns,
-            Entry::Stop,
-        );
+        self.state.enter(Entry::Stop);
         Ok(())
     }
 
@@ -299,14 +333,9 @@ impl Dispatch {
         ensures allowed { OnOk result (IsAllowed self.old.inputs (Entry.Drain machine) (reverse self.old.history)) }
         ensures err { OnErr result (self.new ≡ self.old) }
     {
-        let room = self.book.live_len() + 2;
-        self.book.make_room(room)?;
-        enter(
-            &mut self.book,
-            &mut self.board,
-            &mut self.turns,
-            Entry::Drain { machine },
-        );
+        let room = self.state.book.live_len() + 2;
+        self.state.book.make_room(room)?;
+        self.state.enter(Entry::Drain { machine });
         Ok(())
     }
 
@@ -317,14 +346,9 @@ impl Dispatch {
         ensures allowed { OnOk result (IsAllowed self.old.inputs (Entry.Enable machine) (reverse self.old.history)) }
         ensures err { OnErr result (self.new ≡ self.old) }
     {
-        let room = self.book.live_len() + 2;
-        self.book.make_room(room)?;
-        enter(
-            &mut self.book,
-            &mut self.board,
-            &mut self.turns,
-            Entry::Enable { machine },
-        );
+        let room = self.state.book.live_len() + 2;
+        self.state.book.make_room(room)?;
+        self.state.enter(Entry::Enable { machine });
         Ok(())
     }
 
@@ -382,19 +406,25 @@ impl Dispatch {
         ensures err { OnErr result (self.new ≡ self.old) }
     {
         let inputs = &self.inputs;
-        if let Err(rule) = check_ready(inputs, &self.book, &self.board, drv) {
+        if let Err(rule) = check_ready(inputs, &self.state.book, &self.state.board, drv) {
             return Err(AdmitError::Illegal(rule));
         }
-        let decision = self.turns.decide_by_kind(inputs, &self.book, drv as usize);
-        if let Err(rule) = judge_ready_choice(inputs, &self.book, decision, drv, machine, slot) {
+        let decision = self
+            .state
+            .turns
+            .decide_by_kind(inputs, &self.state.book, drv as usize);
+        if let Err(rule) = judge_ready_choice(
+            inputs,
+            &self.state.book,
+            decision,
+            drv,
+            machine,
+            slot,
+        ) {
             return Err(AdmitError::Illegal(rule));
         }
-        record_step(
-            &mut self.book,
-            &mut self.board,
-            &mut self.turns,
-            Entry::Chosen { drv, machine, slot },
-        )?;
+        self.state
+            .record_step(Entry::Chosen { drv, machine, slot })?;
         Ok(())
     }
 
@@ -407,19 +437,17 @@ impl Dispatch {
         ensures err { OnErr result (self.new ≡ self.old) }
     {
         let inputs = &self.inputs;
-        if let Err(rule) = check_ready(inputs, &self.book, &self.board, drv) {
+        if let Err(rule) = check_ready(inputs, &self.state.book, &self.state.board, drv) {
             return Err(AdmitError::Illegal(rule));
         }
-        let decision = self.turns.decide_by_kind(inputs, &self.book, drv as usize);
-        if let Err(rule) = judge_ready_no_builder(inputs, &self.book, decision, drv) {
+        let decision = self
+            .state
+            .turns
+            .decide_by_kind(inputs, &self.state.book, drv as usize);
+        if let Err(rule) = judge_ready_no_builder(inputs, &self.state.book, decision, drv) {
             return Err(AdmitError::Illegal(rule));
         }
-        record_step(
-            &mut self.book,
-            &mut self.board,
-            &mut self.turns,
-            Entry::NoBuilder { drv },
-        )?;
+        self.state.record_step(Entry::NoBuilder { drv })?;
         Ok(())
     }
 
@@ -440,7 +468,7 @@ impl Dispatch {
         let Some(ticket) = self.live_ticket(drv) else {
             return Err(AdmitError::Illegal(Rule::Live));
         };
-        if self.book.is_started(drv as usize) {
+        if self.state.book.is_started(drv as usize) {
             return Err(AdmitError::Illegal(Rule::Started));
         }
         match self.started(alloc, ticket, paths) {
@@ -475,7 +503,7 @@ impl Dispatch {
         let Some(ticket) = self.live_ticket(drv) else {
             return Err(AdmitError::Illegal(Rule::Live));
         };
-        if !self.book.is_started(drv as usize) {
+        if !self.state.book.is_started(drv as usize) {
             return Err(AdmitError::Illegal(Rule::Started));
         }
         match self.built(alloc, ticket, refs) {
@@ -512,71 +540,13 @@ impl Dispatch {
         }
     }
 
-    /// A dispatch over these inputs, with the empty history. There are at most 1,024 builders.
-    ///
-    /// Where memory is refused the five inputs come back.
-    pub fn new(
-        alloc: Global,
-        graph: Graph,
-        machines: Vec<Machine>,
-        local: Local,
-        info: RefTable,
-        keep_going: bool,
-    ) -> Result<Dispatch, Parts>
-        requires { length machines.items ≤ 1024 }
-        ensures inputs { IfOk result (λ d. d.inputs ≡ premises graph machines.items local info.entries keep_going) }
-        ensures empty { IfOk result (λ d. d.history ≡ []) }
-        ensures back { IfErr result (λ p. p ≡ record { graph = graph; machines = machines; local = local; info = info; keep_going = keep_going }) }
-    {
-        let parts = Parts {
-            graph,
-            machines,
-            local,
-            info,
-            keep_going,
-        };
-        let builders = parts.machines.len();
-        let Ok(book) = Book::new(alloc, parts.graph.len(), builders + 1) else {
-            return Err(parts);
-        };
-        let Ok(board) = Board::new(alloc, &parts.graph, keep_going) else {
-            return Err(parts);
-        };
-        let Ok(stores) = Stores::new(alloc, &parts.graph, builders, &parts.info) else {
-            return Err(parts);
-        };
-        let Ok(turns) = Turns::new(
-            alloc,
-            parts.machines.as_slice(),
-            &parts.local,
-            parts.graph.needs(),
-            &board,
-        ) else {
-            return Err(parts);
-        };
-        learn_jobs(parts.machines.as_slice(), &parts.local);
-        Ok(Dispatch {
-            inputs: Inputs {
-                graph: parts.graph,
-                machines: Items::new(parts.machines),
-                local: parts.local,
-                info: parts.info,
-                keep_going,
-            },
-            book,
-            board,
-            stores,
-            turns,
-        })
-    }
-
     /// A copy that is equal to the original. It keeps room of its own for the end of each live lease and
     /// for a stop.
     pub fn try_clone(&self, alloc: Global) -> Result<Dispatch, AllocError>
         ensures { IfOk result (λ copy. copy ≡ self.now) }
     {
         let inputs = self.inputs.try_clone(alloc)?;
-        let Ok(book) = self.book.try_clone(alloc) else {
+        let Ok(book) = self.state.book.try_clone(alloc) else {
             drop(inputs);
             return Err(AllocError);
         };
@@ -585,7 +555,7 @@ impl Dispatch {
             drop(book);
             return Err(AllocError);
         };
-        let Ok(board) = self.board.try_clone(alloc) else {
+        let Ok(board) = self.state.board.try_clone(alloc) else {
             drop(inputs);
             drop(book);
             drop(stores);
@@ -606,10 +576,8 @@ impl Dispatch {
         };
         Ok(Dispatch {
             inputs,
-            book,
-            board,
+            state: State { book, board, turns },
             stores,
-            turns,
         })
     }
 
@@ -621,7 +589,7 @@ impl Dispatch {
         if !self.inputs.is_same(&other.inputs) {
             return false;
         }
-        self.book.extends(&other.book)
+        self.state.book.extends(&other.state.book)
     }
 
     /// The hook's reply about derivation `i`, as the machines are now. It doesn't ask how `i` stands,
@@ -630,21 +598,23 @@ impl Dispatch {
         requires { i < length self.now.inputs.graph.paths }
         ensures { HasReply self.now.inputs (reverse self.now.history) i result }
     {
-        self.turns.reply_by_kind(&self.inputs, &self.book, i)
+        self.state
+            .turns
+            .reply_by_kind(&self.inputs, &self.state.book, i)
     }
 
     /// The live lease on this slot of this machine.
     pub fn current(&self, machine: u32, slot: u32) -> Option<Ticket>
         ensures { result ≡ current_of machine slot (reverse self.now.history) }
     {
-        self.book.current(machine, slot)
+        self.state.book.current(machine, slot)
     }
 
     /// The live lease of derivation `i`.
     pub fn lease(&self, i: u32) -> Option<Ticket>
         ensures { result ≡ lease_of i (reverse self.now.history) }
     {
-        self.book.lease(i)
+        self.state.book.lease(i)
     }
 
     /// The status of derivation `i`: built, failed or leased as its entries say; else cancelled where
@@ -654,7 +624,7 @@ impl Dispatch {
         requires { i < drvs_in self.now.inputs }
         ensures { HasStatusIn self.now.inputs (reverse self.now.history) i result }
     {
-        self.board.status(i)
+        self.state.board.status(i)
     }
 
     /// How many derivations have each status. The five numbers sum to the number of derivations. It takes
@@ -663,14 +633,14 @@ impl Dispatch {
         ensures drvs { AreCountsIn self.now.inputs (reverse self.now.history) result }
         ensures sum { total_of result ≡ drvs_in self.now.inputs }
     {
-        self.board.counts()
+        self.state.board.counts()
     }
 
     /// Whether the run is over: no derivation waits, and none is leased. It takes no memory.
     pub fn finished(&self) -> bool
         ensures { IsTrue result ↔ IsFinished self.now.inputs (reverse self.now.history) }
     {
-        let board = &self.board;
+        let board = &self.state.board;
         let counts = board.counts();
         if counts.waiting > 0 {
             return false;
@@ -683,7 +653,7 @@ impl Dispatch {
         requires { machine < machines_in self.now.inputs }
         ensures { result ≡ load machine (reverse self.now.history) }
     {
-        self.book.load(machine) as u32
+        self.state.book.load(machine) as u32
     }
 
     /// Whether this machine is up.
@@ -691,7 +661,7 @@ impl Dispatch {
         requires { machine < machines_in self.now.inputs }
         ensures { result ≡ is_up machine (reverse self.now.history) }
     {
-        self.book.is_up(machine as usize)
+        self.state.book.is_up(machine as usize)
     }
 
     /// The entries so far, oldest first. They are a legal history of the five inputs, and so:
@@ -718,7 +688,7 @@ impl Dispatch {
         ensures counts { CountsSum self.now.inputs (reverse self.now.history) }
         ensures choices { ChoicesAreBest self.now.inputs (reverse self.now.history) }
     {
-        self.book.entries()
+        self.state.book.entries()
     }
 
     /// The derivations and what each needs.

@@ -2,12 +2,12 @@
 #![tactic(auto)]
 
 mod dispatch;
-mod following;
 mod fresh;
 pub mod job;
 pub mod laws;
 mod moving;
 pub mod refusal;
+mod state;
 
 pub use dispatch::Dispatch;
 pub use job::Job;

@@ -2,9 +2,10 @@
 
 ghost use Rattle.std.specs.Prelude.{◌≡◌, ◌↔◌, reverse, IfOk, IfErr, IsTrue};
 ghost use Rattle.nd_history.specs.Fitting.{FitTogether};
-ghost use Rattle.nd_ledger.specs.Moves.{IsStartRefused, IsEndRefused, refusal_for, IsRoomier, IsReadyToStart, IsReadyToEnd};
+ghost use Rattle.nd_ledger.specs.Moves.{IsStartRefused, IsEndRefused, refusal_for, IsReadyToStart, IsReadyToEnd};
 ghost use Rattle.nd_history.specs.Premises.{premises_of};
 ghost use Rattle.nd_ledger.specs.Refusals.{IsLive};
+ghost use Rattle.nd_ledger.specs.States.{IsRoomier};
 ghost use Rattle.nd_provision.specs.Stored.{AreStored, IsSameStored};
 
 use crate::refusal::Refusal;

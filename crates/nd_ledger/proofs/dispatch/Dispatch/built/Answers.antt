@@ -11,9 +11,8 @@ use Rattle.nd_ledger.proofs.dispatch.Dispatch.built.Goals as goal
 
 pub invariant_of-self : goal.invariant_of-self
 invariant_of-self c =
-    let r = c.enter.ensures in
-    kept_built c.self.inside c.enter.new.book c.enter.new.board c.enter.new.turns c.prepare_end.new.stores c.take_in.new.self c.args.ticket c.args.refs c.in-Ok.additions _ refl
-    (record { entries = r.entries; room = r.room; drvs = r.drvs; machines = r.machines; board = r.board; turned = r.turned; whole = r.whole })
+    kept_built c.self.inside c.enter.new.self c.prepare_end.new.stores c.take_in.new.self c.args.ticket c.args.refs c.in-Ok.additions _ refl
+    c.enter.ensures
     c.self.invariant c.in-Ok.ensures.stores c.in-Ok.ensures.ready c.take_in.ensures
 
 pub enter-requires-clause-can : goal.enter-requires-clause-can
@@ -29,14 +28,14 @@ returns-in-Ok-clause-allowed c =
     let d = c.self.inside in
     let ready = c.in-Ok.ensures.ready in
     let P = λ (w : World). IsAllowed w.inputs (Built c.args.ticket.drv c.args.refs) (reverse w.history) in
-    subst P c.self.view_is (allowed_built (premises_of d.inputs) (reverse d.book.entries) c.args.ticket c.args.refs c.self.invariant.legal ready.live ready.started ready.right)
+    subst P c.self.view_is (allowed_built (premises_of d.inputs) (reverse d.state.book.entries) c.args.ticket c.args.refs c.self.invariant.legal ready.live ready.started ready.right)
 
 pub enter-requires-clause-turn : goal.enter-requires-clause-turn
 enter-requires-clause-turn c =
     let d = c.self.inside in
     let ready = c.in-Ok.ensures.ready in
     can_turn d (Built c.args.ticket.drv c.args.refs) c.self.invariant
-    (allowed_built (premises_of d.inputs) (reverse d.book.entries) c.args.ticket c.args.refs c.self.invariant.legal ready.live ready.started ready.right)
+    (allowed_built (premises_of d.inputs) (reverse d.state.book.entries) c.args.ticket c.args.refs c.self.invariant.legal ready.live ready.started ready.right)
 
 pub invariant_of-self-in-Err : goal.invariant_of-self-in-Err
 invariant_of-self-in-Err c = kept_stores c.self.inside c.prepare_end.new.stores c.in-Err.ensures.stores c.self.invariant

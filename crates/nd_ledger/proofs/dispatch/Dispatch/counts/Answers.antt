@@ -10,7 +10,7 @@ pub returns-clause-drvs : goal.returns-clause-drvs
 returns-clause-drvs c =
     let d = c.self.inside in
     let P = λ (w : World). AreCountsIn w.inputs (reverse w.history) c.counts.result in
-    subst P c.self.view_is (counts_said (premises_of d.inputs) (reverse d.book.entries) d.board c.counts.result c.self.invariant.legal c.self.invariant.marked c.counts.ensures.nodes)
+    subst P c.self.view_is (counts_said (premises_of d.inputs) (reverse d.state.book.entries) d.state.board c.counts.result c.self.invariant.legal c.self.invariant.marked c.counts.ensures.nodes)
 
 pub returns-clause-sum : goal.returns-clause-sum
 returns-clause-sum c =

@@ -12,32 +12,31 @@ use Rattle.nd_ledger.proofs.dispatch.Dispatch.down.Goals as goal
 
 pub invariant_of-self : goal.invariant_of-self
 invariant_of-self c =
-    let found : IsLive (reverse c.self.inside.book.entries) c.args.ticket = search rules in
-    let fresh : is_started c.args.ticket.drv (reverse c.self.inside.book.entries) ≡ false = search rules in
-    let r = c.enter.ensures in
-    kept_down c.self.inside c.enter.new.book c.enter.new.board c.enter.new.turns c.args.ticket _ refl (record { entries = r.entries; room = r.room; drvs = r.drvs; machines = r.machines; board = r.board; turned = r.turned; whole = r.whole }) c.self.invariant found fresh
+    let found : IsLive (reverse c.self.inside.state.book.entries) c.args.ticket = search rules in
+    let fresh : is_started c.args.ticket.drv (reverse c.self.inside.state.book.entries) ≡ false = search rules in
+    kept_down c.self.inside c.enter.new.self c.args.ticket _ refl c.enter.ensures c.self.invariant found fresh
 
 pub is_started-requires : goal.is_started-requires
 is_started-requires c =
-    let found : IsLive (reverse c.self.inside.book.entries) c.args.ticket = search rules in
+    let found : IsLive (reverse c.self.inside.state.book.entries) c.args.ticket = search rules in
     in_book c.self.inside c.self.invariant c.args.ticket found
 
 pub enter-requires-clause-can : goal.enter-requires-clause-can
 enter-requires-clause-can c =
-    let found : IsLive (reverse c.self.inside.book.entries) c.args.ticket = search rules in
+    let found : IsLive (reverse c.self.inside.state.book.entries) c.args.ticket = search rules in
     found_marked c.self.inside c.self.invariant c.args.ticket found
 
 pub returns-clause-allowed : goal.returns-clause-allowed
 returns-clause-allowed c =
     let d = c.self.inside in
-    let found : IsLive (reverse d.book.entries) c.args.ticket = search rules in
-    let fresh : is_started c.args.ticket.drv (reverse d.book.entries) ≡ false = search rules in
+    let found : IsLive (reverse d.state.book.entries) c.args.ticket = search rules in
+    let fresh : is_started c.args.ticket.drv (reverse d.state.book.entries) ≡ false = search rules in
     let P = λ (w : World). IsAllowed w.inputs (Down c.args.ticket.drv) (reverse w.history) in
-    subst P c.self.view_is (allowed_down (premises_of d.inputs) (reverse d.book.entries) c.args.ticket c.self.invariant.legal found fresh)
+    subst P c.self.view_is (allowed_down (premises_of d.inputs) (reverse d.state.book.entries) c.args.ticket c.self.invariant.legal found fresh)
 
 pub enter-requires-clause-turn : goal.enter-requires-clause-turn
 enter-requires-clause-turn c =
     let d = c.self.inside in
-    let found : IsLive (reverse d.book.entries) c.args.ticket = search rules in
-    let fresh : is_started c.args.ticket.drv (reverse d.book.entries) ≡ false = search rules in
-    can_turn d (Down c.args.ticket.drv) c.self.invariant (allowed_down (premises_of d.inputs) (reverse d.book.entries) c.args.ticket c.self.invariant.legal found fresh)
+    let found : IsLive (reverse d.state.book.entries) c.args.ticket = search rules in
+    let fresh : is_started c.args.ticket.drv (reverse d.state.book.entries) ≡ false = search rules in
+    can_turn d (Down c.args.ticket.drv) c.self.invariant (allowed_down (premises_of d.inputs) (reverse d.state.book.entries) c.args.ticket c.self.invariant.legal found fresh)

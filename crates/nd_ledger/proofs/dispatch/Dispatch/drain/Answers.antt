@@ -12,13 +12,12 @@ pub invariant_of-self-2 : goal.invariant_of-self-2
 invariant_of-self-2 c =
     let d = c.self.inside in
     let m = c.in_ok-make_room.ensures in
-    let r = c.enter.ensures in
-    let many : length (live (reverse d.book.entries)) + 0 + 2 ≤ c.make_room.new.self.room = (let made = m.made in let is = c.live_len-room.ensures.live in omega arith) in
+    let many : length (live (reverse d.state.book.entries)) + 0 + 2 ≤ c.make_room.new.self.room = (let made = m.made in let is = c.live_len-room.ensures.live in omega arith) in
     let P = λ (w : World). c.args.machine < machines_in w.inputs in
     let ranged : c.args.machine < machines_in (premises_of d.inputs) = subst P (sym c.self.view_is) c.requires in
-    kept_more d c.make_room.new.self c.enter.new.book c.enter.new.board c.enter.new.turns (Drain c.args.machine) 0
+    kept_more d c.make_room.new.self c.enter.new.self (Drain c.args.machine) 0
     (record { entries = m.entries; drvs = m.drvs; machines = m.machines; room = m.kept; more = many })
-    (record { entries = r.entries; room = r.room; drvs = r.drvs; machines = r.machines; board = r.board; turned = r.turned; whole = r.whole })
+    c.enter.ensures
     c.self.invariant (record { ranged = ranged; may = tt }) (omega arith) refl
 
 pub returns-clause-allowed : goal.returns-clause-allowed
@@ -29,4 +28,4 @@ enter-requires-clause-turn c =
     let d = c.self.inside in
     let P = λ (w : World). c.args.machine < machines_in w.inputs in
     let ranged : c.args.machine < machines_in (premises_of d.inputs) = subst P (sym c.self.view_is) c.requires in
-    same_turn d.book c.make_room.new.self d.board d.turns (Drain c.args.machine) c.in_ok-make_room.ensures.entries (can_turn d (Drain c.args.machine) c.self.invariant (record { ranged = ranged; may = tt }))
+    same_turn d.state c.make_room.new.self (Drain c.args.machine) c.in_ok-make_room.ensures.entries (can_turn d (Drain c.args.machine) c.self.invariant (record { ranged = ranged; may = tt }))

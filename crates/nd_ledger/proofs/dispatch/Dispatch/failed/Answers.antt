@@ -11,24 +11,23 @@ use Rattle.nd_ledger.proofs.dispatch.Dispatch.failed.Goals as goal
 
 pub invariant_of-self : goal.invariant_of-self
 invariant_of-self c =
-    let found : IsLive (reverse c.self.inside.book.entries) c.args.ticket = search rules in
-    let r = c.enter.ensures in
-    kept_failed c.self.inside c.enter.new.book c.enter.new.board c.enter.new.turns c.args.ticket _ c.args.why refl (record { entries = r.entries; room = r.room; drvs = r.drvs; machines = r.machines; board = r.board; turned = r.turned; whole = r.whole }) c.self.invariant found
+    let found : IsLive (reverse c.self.inside.state.book.entries) c.args.ticket = search rules in
+    kept_failed c.self.inside c.enter.new.self c.args.ticket _ c.args.why refl c.enter.ensures c.self.invariant found
 
 pub enter-requires-clause-can : goal.enter-requires-clause-can
 enter-requires-clause-can c =
-    let found : IsLive (reverse c.self.inside.book.entries) c.args.ticket = search rules in
+    let found : IsLive (reverse c.self.inside.state.book.entries) c.args.ticket = search rules in
     found_marked c.self.inside c.self.invariant c.args.ticket found
 
 pub returns-clause-allowed : goal.returns-clause-allowed
 returns-clause-allowed c =
     let d = c.self.inside in
-    let found : IsLive (reverse d.book.entries) c.args.ticket = search rules in
+    let found : IsLive (reverse d.state.book.entries) c.args.ticket = search rules in
     let P = λ (w : World). IsAllowed w.inputs (Failed c.args.ticket.drv c.args.why) (reverse w.history) in
-    subst P c.self.view_is (allowed_failed (premises_of d.inputs) (reverse d.book.entries) c.args.ticket c.args.why c.self.invariant.legal found)
+    subst P c.self.view_is (allowed_failed (premises_of d.inputs) (reverse d.state.book.entries) c.args.ticket c.args.why c.self.invariant.legal found)
 
 pub enter-requires-clause-turn : goal.enter-requires-clause-turn
 enter-requires-clause-turn c =
     let d = c.self.inside in
-    let found : IsLive (reverse d.book.entries) c.args.ticket = search rules in
-    can_turn d (Failed c.args.ticket.drv c.args.why) c.self.invariant (allowed_failed (premises_of d.inputs) (reverse d.book.entries) c.args.ticket c.args.why c.self.invariant.legal found)
+    let found : IsLive (reverse d.state.book.entries) c.args.ticket = search rules in
+    can_turn d (Failed c.args.ticket.drv c.args.why) c.self.invariant (allowed_failed (premises_of d.inputs) (reverse d.state.book.entries) c.args.ticket c.args.why c.self.invariant.legal found)

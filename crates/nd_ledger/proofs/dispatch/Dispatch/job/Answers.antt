@@ -10,12 +10,12 @@ pub path-requires : goal.path-requires
 path-requires c =
     let d = c.self.inside in
     let P = λ (w : World). IsLive (reverse w.history) c.args.ticket.now in
-    let found : IsLive (reverse d.book.entries) c.args.ticket.now = subst P (sym c.self.view_is) c.in_ok-paths.ensures.live in
-    live_in_graph (premises_of d.inputs) d.book c.args.ticket.now (fit_kept d c.self.invariant) found
+    let found : IsLive (reverse d.state.book.entries) c.args.ticket.now = subst P (sym c.self.view_is) c.in_ok-paths.ensures.live in
+    live_in_graph (premises_of d.inputs) d.state.book c.args.ticket.now (fit_kept d c.self.invariant) found
 
 pub outputs-requires : goal.outputs-requires
 outputs-requires c =
     let d = c.self.inside in
     let P = λ (w : World). IsLive (reverse w.history) c.args.ticket.now in
-    let found : IsLive (reverse d.book.entries) c.args.ticket.now = subst P (sym c.self.view_is) c.in_ok-paths.ensures.live in
-    live_in_graph (premises_of d.inputs) d.book c.args.ticket.now (fit_kept d c.self.invariant) found
+    let found : IsLive (reverse d.state.book.entries) c.args.ticket.now = subst P (sym c.self.view_is) c.in_ok-paths.ensures.live in
+    live_in_graph (premises_of d.inputs) d.state.book c.args.ticket.now (fit_kept d c.self.invariant) found

@@ -17,19 +17,19 @@ loop-step-preserved c =
     let rec = c.in_ok-record_step.ensures.ok in
     let t = c.next_step.new.turns in
     let step = c.in-Some.ensures.step in
-    let P : Premises → Type 0 = λ i. IsPumpStep i (reverse d.book.entries) e in
+    let P : Premises → Type 0 = λ i. IsPumpStep i (reverse d.state.book.entries) e in
     record {
-      kept = kept_step (record d { turns = t }) c.record_step.new.book c.record_step.new.board c.record_step.new.turns e rec (kept_turns d t c.in-Some.ensures.turns inv.kept) step.step.allowed (step_quiet e step.drv step.step.about);
+      kept = kept_step (record d { state = record d.state { turns = t } }) c.record_step.new.self e rec (kept_turns d t c.in-Some.ensures.turns inv.kept) step.step.allowed (step_quiet e step.drv step.step.about);
       same = inv.same;
-      pumped = pumped_more _ _ d.book.entries c.record_step.new.book.entries e inv.pumped rec.entries (subst P inv.same step);
+      pumped = pumped_more _ _ d.state.book.entries c.record_step.new.self.book.entries e inv.pumped rec.entered.entries (subst P inv.same step);
     }
 
 pub loop-step-smaller : goal.loop-step-smaller
 loop-step-smaller c =
     let d = c.loop-step.self-inside in
     let e = c.in-Some.step in
-    let longer = c.in_ok-record_step.ensures.ok.entries in
-    pump_smaller (premises_of d.inputs) (reverse d.book.entries) e (reverse c.record_step.new.book.entries) (newest_first d.book.entries c.record_step.new.book.entries e longer) c.in-Some.ensures.step
+    let longer = c.in_ok-record_step.ensures.ok.entered.entries in
+    pump_smaller (premises_of d.inputs) (reverse d.state.book.entries) e (reverse c.record_step.new.self.book.entries) (newest_first d.state.book.entries c.record_step.new.self.book.entries e longer) c.in-Some.ensures.step
 
 pub returns-clause-steps : goal.returns-clause-steps
 returns-clause-steps c =
@@ -37,27 +37,27 @@ returns-clause-steps c =
     record {
       pumped = pumped;
       count =
-          pump_counted c.args.self.now.history c.loop-step.self-inside.book.entries c.entries-before.result.now c.entries.result.now pumped.steps
+          pump_counted c.args.self.now.history c.loop-step.self-inside.state.book.entries c.entries-before.result.now c.entries.result.now pumped.steps
           c.entries.ensures (c.entries-before.ensures ∙ ap (λ (w : World). w.history) c.self.view_is) pumped.grown;
     }
 
 pub returns-clause-idle : goal.returns-clause-idle
 returns-clause-idle c =
     let d = c.loop-step.self-inside in
-    waits_for_leases (premises_of d.inputs) (reverse d.book.entries) c.order-order.result.now c.loop-step.invariant.kept.sound.ranged c.order-order.ensures.fall c.in_default.ensures.step
+    waits_for_leases (premises_of d.inputs) (reverse d.state.book.entries) c.order-order.result.now c.loop-step.invariant.kept.sound.ranged c.order-order.ensures.fall c.in_default.ensures.step
 
 pub record_step-requires-clause-may : goal.record_step-requires-clause-may
 record_step-requires-clause-may c =
     let d = c.loop-step.self-inside in
-    may_record (premises_of d.inputs) d.book c.in-Some.step (fit_kept d c.loop-step.invariant.kept) c.in-Some.ensures.step.step.allowed
+    may_record (premises_of d.inputs) d.state.book c.in-Some.step (fit_kept d c.loop-step.invariant.kept) c.in-Some.ensures.step.step.allowed
 
 pub record_step-requires-clause-can : goal.record_step-requires-clause-can
 record_step-requires-clause-can c =
     let d = c.loop-step.self-inside in
     let kept = c.loop-step.invariant.kept in
-    can_follow (premises_of d.inputs) (reverse d.book.entries) d.board c.in-Some.step kept.legal kept.marked c.in-Some.ensures.step.step.allowed
+    can_follow (premises_of d.inputs) (reverse d.state.book.entries) d.state.board c.in-Some.step kept.legal kept.marked c.in-Some.ensures.step.step.allowed
 
 pub record_step-requires-clause-turn : goal.record_step-requires-clause-turn
 record_step-requires-clause-turn c =
     let d = c.loop-step.self-inside in
-    can_turn (record d { turns = c.next_step.new.turns }) c.in-Some.step (kept_turns d c.next_step.new.turns c.in-Some.ensures.turns c.loop-step.invariant.kept) c.in-Some.ensures.step.step.allowed
+    can_turn (record d { state = record d.state { turns = c.next_step.new.turns } }) c.in-Some.step (kept_turns d c.next_step.new.turns c.in-Some.ensures.turns c.loop-step.invariant.kept) c.in-Some.ensures.step.step.allowed

@@ -10,8 +10,8 @@ abbrev pub invariant-loop-step : goal.invariant-loop-step
 invariant-loop-step l = record {
   kept : IsKept l.self-inside;
   same : premises_of l.self-inside.inputs ≡ l.fn.self.inputs;
-  pumped : HasPumped l.fn.self.inputs l.fn.self.history l.self-inside.book.entries;
+  pumped : HasPumped l.fn.self.inputs l.fn.self.history l.self-inside.state.book.entries;
 }
 
 abbrev pub decreases-loop-step : goal.decreases-loop-step
-decreases-loop-step l = open_count (reverse l.self-inside.book.entries) (drvs_in (premises_of l.self-inside.inputs))
+decreases-loop-step l = open_count (reverse l.self-inside.state.book.entries) (drvs_in (premises_of l.self-inside.inputs))

@@ -11,9 +11,8 @@ use Rattle.nd_ledger.proofs.dispatch.Dispatch.started.Goals as goal
 
 pub invariant_of-self : goal.invariant_of-self
 invariant_of-self c =
-    let r = c.enter.ensures in
-    kept_started c.self.inside c.prepare_start.new.book c.enter.new.book c.enter.new.board c.enter.new.turns c.prepare_start.new.stores c.take_in.new.self c.args.ticket c.args.paths c.in-Ok.additions _ refl
-    c.in-Ok.ensures.book (record { entries = r.entries; room = r.room; drvs = r.drvs; machines = r.machines; board = r.board; turned = r.turned; whole = r.whole })
+    kept_started c.self.inside c.prepare_start.new.book c.enter.new.self c.prepare_start.new.stores c.take_in.new.self c.args.ticket c.args.paths c.in-Ok.additions _ refl
+    c.in-Ok.ensures.book c.enter.ensures
     c.self.invariant c.in-Ok.ensures.stores c.in-Ok.ensures.ready c.take_in.ensures
 
 pub returns-in-Ok-clause-live : goal.returns-in-Ok-clause-live
@@ -26,15 +25,15 @@ returns-in-Ok-clause-allowed c =
     let d = c.self.inside in
     let ready = c.in-Ok.ensures.ready in
     let P = λ (w : World). IsAllowed w.inputs (Started c.args.ticket.drv c.args.paths) (reverse w.history) in
-    subst P c.self.view_is (allowed_started (premises_of d.inputs) (reverse d.book.entries) c.args.ticket c.args.paths c.self.invariant.legal ready.live ready.fresh ready.right)
+    subst P c.self.view_is (allowed_started (premises_of d.inputs) (reverse d.state.book.entries) c.args.ticket c.args.paths c.self.invariant.legal ready.live ready.fresh ready.right)
 
 pub enter-requires-clause-turn : goal.enter-requires-clause-turn
 enter-requires-clause-turn c =
     let d = c.self.inside in
     let ready = c.in-Ok.ensures.ready in
-    same_turn d.book c.prepare_start.new.book d.board d.turns (Started c.args.ticket.drv c.args.paths) c.in-Ok.ensures.book.entries
+    same_turn d.state c.prepare_start.new.book (Started c.args.ticket.drv c.args.paths) c.in-Ok.ensures.book.entries
     (can_turn d (Started c.args.ticket.drv c.args.paths) c.self.invariant
-    (allowed_started (premises_of d.inputs) (reverse d.book.entries) c.args.ticket c.args.paths c.self.invariant.legal ready.live ready.fresh ready.right))
+    (allowed_started (premises_of d.inputs) (reverse d.state.book.entries) c.args.ticket c.args.paths c.self.invariant.legal ready.live ready.fresh ready.right))
 
 pub invariant_of-self-in-Err : goal.invariant_of-self-in-Err
 invariant_of-self-in-Err c =
@@ -42,4 +41,4 @@ invariant_of-self-in-Err c =
     let roomier = c.in-Err.ensures.book in
     let roomy = kept_room d c.prepare_start.new.book 0
     (record { entries = roomier.entries; drvs = roomier.drvs; machines = roomier.machines; room = roomier.room; more = omega arith }) c.self.invariant in
-    kept_stores (record d { book = c.prepare_start.new.book }) c.prepare_start.new.stores c.in-Err.ensures.stores roomy
+    kept_stores (record d { state = record d.state { book = c.prepare_start.new.book } }) c.prepare_start.new.stores c.in-Err.ensures.stores roomy

@@ -10,7 +10,7 @@ pub returns : goal.returns
 returns c =
     let d = c.self.inside in
     let P = λ (w : World). HasStatusIn w.inputs (reverse w.history) c.args.i c.status.result in
-    subst P c.self.view_is (status_said (premises_of d.inputs) (reverse d.book.entries) d.board c.self.invariant.legal c.self.invariant.marked c.args.i c.status.result c.status.ensures)
+    subst P c.self.view_is (status_said (premises_of d.inputs) (reverse d.state.book.entries) d.state.board c.self.invariant.legal c.self.invariant.marked c.args.i c.status.result c.status.ensures)
 
 pub status-requires : goal.status-requires
 status-requires c =

@@ -9,17 +9,16 @@ use Rattle.nd_ledger.proofs.dispatch.Dispatch.stop.Goals as goal
 
 pub invariant_of-self : goal.invariant_of-self
 invariant_of-self c =
-    let none : has_stop (reverse c.self.inside.book.entries) ≡ false = sym c.self.invariant.marked.stop ∙ sym c.has_stop.ensures ∙ c.if-has_stop.false in
-    let r = c.enter.ensures in
-    kept_stop c.self.inside c.enter.new.book c.enter.new.board c.enter.new.turns (record { entries = r.entries; room = r.room; drvs = r.drvs; machines = r.machines; board = r.board; turned = r.turned; whole = r.whole }) c.self.invariant none
+    let none : has_stop (reverse c.self.inside.state.book.entries) ≡ false = sym c.self.invariant.marked.stop ∙ sym c.has_stop.ensures ∙ c.if-has_stop.false in
+    kept_stop c.self.inside c.enter.new.self c.enter.ensures c.self.invariant none
 
 pub returns-clause-allowed : goal.returns-clause-allowed
 returns-clause-allowed c =
-    let none : has_stop (reverse c.self.inside.book.entries) ≡ false = sym c.self.invariant.marked.stop ∙ sym c.has_stop.ensures ∙ c.if-has_stop.false in
+    let none : has_stop (reverse c.self.inside.state.book.entries) ≡ false = sym c.self.invariant.marked.stop ∙ sym c.has_stop.ensures ∙ c.if-has_stop.false in
     let P = λ (w : World). IsAllowed w.inputs Stop (reverse w.history) in
     subst P c.self.view_is (record { ranged = tt; may = none })
 
 pub enter-requires-clause-turn : goal.enter-requires-clause-turn
 enter-requires-clause-turn c =
-    let none : has_stop (reverse c.self.inside.book.entries) ≡ false = sym c.self.invariant.marked.stop ∙ sym c.has_stop.ensures ∙ c.if-has_stop.false in
+    let none : has_stop (reverse c.self.inside.state.book.entries) ≡ false = sym c.self.invariant.marked.stop ∙ sym c.has_stop.ensures ∙ c.if-has_stop.false in
     can_turn c.self.inside Stop c.self.invariant (record { ranged = tt; may = none })

@@ -12,7 +12,7 @@ invariant_of-result c =
     let board = c.in-Ok-try_clone-2 in
     let turns = c.in-Ok-new in
     let fresh = turns.ensures in
-    kept_copy c.self.inside (record { inputs = inputs.inputs; book = book.book; stores = stores.stores; board = board.board; turns = turns.turns })
+    kept_copy c.self.inside (record { inputs = inputs.inputs; state = record { book = book.book; board = board.board; turns = turns.turns }; stores = stores.stores })
     (record {
       inputs = inputs.ensures;
       entries = book.ensures.entries;

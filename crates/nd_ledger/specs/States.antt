@@ -1,0 +1,38 @@
+-- How one more entry goes into a book, and the board and the turns follow it. The histories of these definitions stand newest first.
+-- No public clause cites this: it serves private ones.
+use Rattle.std.specs.Prelude.{◌≡◌, ◌+◌, ◌<◌, ◌≤◌, [], ◌∷◌, ◌++◌, length, reverse, IfSome}
+use Rattle.nd_history.specs.declared.entry.Entry.{Entry}
+use Rattle.nd_history.specs.Books.{Recorded}
+use Rattle.nd_history.specs.History.{live}
+use Rattle.nd_history.specs.Marks.{board_after}
+use Rattle.nd_pump.specs.Turned.{HasTurned, IsWhole, touched}
+use Rattle.nd_pump.specs.Listing.{IsNewsWithin}
+use Rattle.nd_ledger.specs.declared.state.State.{State}
+
+-- the book is as it was, with as much room or more
+pub record IsRoomier (old new : Recorded) : Type 0 where
+  pub entries : new.entries ≡ old.entries
+  pub drvs : new.drvs ≡ old.drvs
+  pub machines : new.machines ≡ old.machines
+  pub room : old.room ≤ new.room
+
+-- the turns can follow the entry: they are those of the board, and what the entry is about and touches is there
+pub record CanTurn (s : State) (e : Entry) : Type 0 where
+  pub sized : length s.board.inputs ≡ length s.turns.kinds.numbers
+  pub within : IsNewsWithin (length s.board.inputs) e
+  pub machine : IfSome (touched e (reverse s.book.entries)) (λ m. m < length s.turns.kinds.users)
+
+-- one more entry in the book, which the board and the turns follow
+pub record IsEntered (old new : State) (e : Entry) : Type 0 where
+  pub entries : new.book.entries ≡ old.book.entries ++ e ∷ []
+  pub room : old.book.room ≤ new.book.room + 1
+  pub drvs : new.book.drvs ≡ old.book.drvs
+  pub machines : new.book.machines ≡ old.book.machines
+  pub board : new.board ≡ board_after old.board e
+  pub turned : HasTurned (board_after old.board e) e (touched e (reverse old.book.entries)) old.turns new.turns
+  pub whole : IsWhole new.turns
+
+-- .. a step, with room for the end of each lease, that of a choice among them, and for a stop
+pub record IsStepRecorded (old new : State) (step : Entry) : Type 0 where
+  pub entered : IsEntered old new step
+  pub room : length (live (reverse old.book.entries)) + 2 ≤ new.book.room
