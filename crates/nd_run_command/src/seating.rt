@@ -1,13 +1,13 @@
 //! The places of a park: each machine with each of its slots, and a stand-in for each.
 
 ghost use Rattle.std.specs.Prelude.{◌≡◌, ◌+◌, ◌≤◌, ◌++◌, length, map, vec_len, IfOk, IfErr, OnOk};
-ghost use Rattle.nd_history.specs.Choices.{machines_in, jobs_of};
 ghost use Rattle.nd_run_desk.specs.Abandoned.{places_on, places_of};
 ghost use Rattle.nd_workers.specs.Runs.{AreManned};
 ghost use Rattle.nd_run_command.specs.Seats.{AreTooMany, stand_in_on};
 
 use nd_cli::CliFault;
 use nd_ledger::Dispatch;
+use nd_run_desk::{jobs_on, machine_count};
 use nd_script::Rule;
 use nd_transports::{RuleBook, StandIn};
 use nd_workers::Seat;
@@ -24,9 +24,9 @@ pub fn stand_ins(
     alloc: Global,
     dispatch: &Dispatch,
     rules: Vec<Rule>,
-) -> Result<Vec<Seat<Box<StandIn>>>, CliFault>
+) -> Result<Vec<Seat<StandIn>>, CliFault>
     ensures placed { IfOk result (λ seats. map (λ w. (w.machine, w.slot)) seats.items ≡ places_of dispatch.now.inputs) }
-    ensures ruled { IfOk result (λ seats. map (λ w. w.transport.value) seats.items ≡ map (stand_in_on rules.items) (places_of dispatch.now.inputs)) }
+    ensures ruled { IfOk result (λ seats. map (λ w. w.transport) seats.items ≡ map (stand_in_on rules.items) (places_of dispatch.now.inputs)) }
     ensures manned { IfOk result (λ seats. AreManned dispatch.now.inputs (map (λ w. (w.machine, w.slot)) seats.items)) }
     ensures refused { IfErr result (AreTooMany (places_of dispatch.now.inputs)) }
 {
@@ -45,9 +45,9 @@ fn seats(
     alloc: Global,
     places: Vec<(u32, u32)>,
     rules: Vec<Rule>,
-) -> Result<Vec<Seat<Box<StandIn>>>, AllocError>
+) -> Result<Vec<Seat<StandIn>>, AllocError>
     ensures placed { IfOk result (λ seats. map (λ w. (w.machine, w.slot)) seats.items ≡ places.items) }
-    ensures ruled { IfOk result (λ seats. map (λ w. w.transport.value) seats.items ≡ map (stand_in_on rules.items) places.items) }
+    ensures ruled { IfOk result (λ seats. map (λ w. w.transport) seats.items ≡ map (stand_in_on rules.items) places.items) }
 {
     let book = RuleBook::new(rules)?;
     seats_by(alloc, places, &book)
@@ -58,17 +58,16 @@ fn seats_by(
     alloc: Global,
     places: Vec<(u32, u32)>,
     book: &RuleBook,
-) -> Result<Vec<Seat<Box<StandIn>>>, AllocError>
+) -> Result<Vec<Seat<StandIn>>, AllocError>
     ensures placed { IfOk result (λ seats. map (λ w. (w.machine, w.slot)) seats.items ≡ places.items) }
-    ensures ruled { IfOk result (λ seats. map (λ w. w.transport.value) seats.items ≡ map (stand_in_on book.now) places.items) }
+    ensures ruled { IfOk result (λ seats. map (λ w. w.transport) seats.items ≡ map (stand_in_on book.now) places.items) }
 {
     let mut seats = Vec::new(alloc);
     for (machine, slot) in places {
-        let transport = Box::new(alloc, StandIn::new(alloc, machine, book.try_clone()?))?;
         let seat = Seat {
             machine,
             slot,
-            transport,
+            transport: StandIn::new(alloc, machine, book.try_clone()?),
         };
         seats.push(seat)?;
     }
@@ -118,24 +117,4 @@ fn add_machine(
         }
     }
     Ok(())
-}
-
-/// The number of machines of the park.
-fn machine_count(dispatch: &Dispatch) -> u32
-    ensures { result ≡ machines_in dispatch.now.inputs }
-{
-    dispatch.machines().len() as u32 + 1
-}
-
-/// How many builds may run at once on this machine.
-fn jobs_on(dispatch: &Dispatch, machine: u32) -> u32
-    ensures { result ≡ jobs_of dispatch.now.inputs machine }
-{
-    if machine == 0 {
-        return dispatch.local().jobs();
-    }
-    match dispatch.machines().get(machine as usize - 1) {
-        Some(machine) => machine.jobs(),
-        None => 0,
-    }
 }
