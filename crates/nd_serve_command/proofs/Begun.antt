@@ -1,5 +1,5 @@
 -- What a session begins with.
-use Rattle.std.proofs.Common.{◌≡◌, ◌∙◌, ◌==◌, ℕ, ◌<◌, Bool, true, false, List, [], ◌∷◌, length, Option, refl, sym, ap, subst, arith, eqb-true, true≢false, inl, inr}
+use Rattle.std.proofs.Common.{◌≡◌, ◌∙◌, ◌==◌, ℕ, ◌<◌, ◌≤◌, Bool, true, false, List, [], ◌∷◌, length, Option, refl, sym, ap, subst, arith, eqb-true, true≢false, inl, inr}
 use Rattle.std.proofs.lemmas.Bool.{eqb-false}
 use Rattle.nd_history.specs.declared.entry.Entry.{Entry}
 use Rattle.nd_history.specs.declared.rule.Rule.{Rule}
@@ -13,20 +13,25 @@ use Rattle.nd_resume.specs.declared.resume_error.ResumeError.TheVariants.{BadLin
 use Rattle.nd_crashes.specs.Crashes.{IsBegunWith}
 use Rattle.nd_crashes.proofs.Begun.{journals_begin}
 use Rattle.nd_serve_command.specs.Faults.{fault_of_journal}
-use Rattle.nd_cli.specs.Asked.{IsAskFault}
 use Rattle.nd_cli.specs.declared.options.ParkOptions.{ParkOptions}
+use Rattle.nd_cli.specs.Inputs.{limit}
+use Rattle.nd_cli.specs.declared.fault.Place.{Place}
+use Rattle.nd_cli.specs.declared.fault.CliFault.TheVariants.{TooLarge}
 use Rattle.nd_commands.specs.Opened.{HasInputs, ReadsInputs}
 use Rattle.nd_devices.specs.Watched.{Watched}
-use Rattle.nd_serve_command.specs.Sessions.{MayHold, HoldsSome, IsJournalFault, BeginsSession, IsOpenFault}
+use Rattle.nd_serve_command.specs.Sessions.{MayHold, HoldsSome, IsUntaken, IsJournalFault, BeginsSession, IsOpenFault}
 use Rattle.nd_serve_command.specs.declared.fault.ServeFault.{ServeFault}
 use Rattle.nd_serve_command.specs.declared.fault.ServeFault.TheVariants.{Cli, NotEmpty, InUse, Journal, JournalFailed}
 
-pub may_resume : (resumes : Bool) (journal : List ℕ) → resumes ≡ true → MayHold resumes journal
-may_resume true journal same = tt
-may_resume false journal same = absurd (true≢false (sym same))
+pub may_resume : (resumes : Bool) (journal : List ℕ) → resumes ≡ true → length journal ≤ limit → MayHold resumes journal
+may_resume true journal same within = within
+may_resume false journal same within = absurd (true≢false (sym same))
+
+pub too_long : (resumes : Bool) (journal : List ℕ) → resumes ≡ true → limit < length journal → IsUntaken journal resumes (TooLarge Place.History)
+too_long resumes journal same long = inl (refl, (same, long))
 
 pub may_be_new : (resumes : Bool) (journal : List ℕ) (none : Bool) → none ≡ (length journal == 0) → none ≡ true → resumes ≡ false → MayHold resumes journal
-may_be_new true journal none is h same = tt
+may_be_new true journal none is h same = absurd (true≢false same)
 may_be_new false [] none is h same = refl
 may_be_new false (b ∷ journal) none is h same =
     let nothing : length (b ∷ journal) ≡ 0 = eqb-true (length (b ∷ journal)) 0 (sym is ∙ h) in absurd (omega arith)
@@ -38,7 +43,16 @@ some_held (b ∷ journal) h = omega arith
 pub holds_some : (resumes : Bool) (journal : List ℕ) (none : Bool) → none ≡ (length journal == 0) → none ≡ false → resumes ≡ false → HoldsSome resumes journal
 holds_some resumes journal none is h same = (same, some_held journal (sym is ∙ h))
 
-pub ruleset beginnings = (may_resume, may_be_new, holds_some)
+-- .. and such a journal isn't one that may be begun with
+pub long_not_within : (resumes : Bool) (journal : List ℕ) → resumes ≡ true → limit < length journal → MayHold resumes journal → ⊥
+long_not_within true journal same long within = omega arith
+long_not_within false journal same long none = true≢false (sym same)
+
+pub held_not_new : (resumes : Bool) (journal : List ℕ) (none : Bool) → none ≡ (length journal == 0) → none ≡ false → resumes ≡ false → MayHold resumes journal → ⊥
+held_not_new true journal none is h same within = true≢false same
+held_not_new false journal none is h same new = let some : 0 < length journal = some_held journal (sym is ∙ h) in let nothing : length journal ≡ 0 = ap length new in omega arith
+
+pub ruleset beginnings = (may_resume, too_long, may_be_new, holds_some, long_not_within, held_not_new)
 
 -- ---- what the journal holds then
 
@@ -67,7 +81,7 @@ pub journal_refused : (i : Premises) (journal : List ℕ) (resumes : Bool) (e : 
     → IsJournalFault i journal resumes (fault_of_journal e)
 journal_refused i journal resumes (BadLine number) may refused = (may, bad_line number, refused)
 journal_refused i journal resumes (Illegal index rule) may refused = (may, illegal index rule, refused)
-journal_refused i journal resumes NoRoom may refused = refl
+journal_refused i journal resumes NoRoom may refused = inr (refl, may)
 
 pub fault_refused : (i : Premises) (journal : List ℕ) (resumes : Bool) (e : ResumeError) (fault : ServeFault) → MayHold resumes journal → IsResumeRefused i journal e
     → fault ≡ fault_of_journal e → IsJournalFault i journal resumes fault
@@ -94,7 +108,7 @@ session_begun options journal resumes unread left i world reads same may resumab
 
 pub session_refused : {R : Type 0} (options : ParkOptions) (journal : List ℕ) (resumes : Bool) (remaining : R → Option (List ℕ)) (reader reader_after : Watched R) (i : Premises) (fault : ServeFault)
     → ReadsInputs options (remaining reader.device) (remaining reader_after.device) i → IsJournalFault i journal resumes fault → IsOpenFault options journal resumes remaining reader reader_after fault
-session_refused options journal resumes remaining reader reader_after i (Cli fault) reads refused = subst (IsAskFault options remaining reader reader_after false) (sym refused) tt
+session_refused options journal resumes remaining reader reader_after i (Cli fault) reads refused = inr (record { inputs = i; reads = reads; refused = refused })
 session_refused options journal resumes remaining reader reader_after i NotEmpty reads refused = record { inputs = i; reads = reads; refused = refused }
 session_refused options journal resumes remaining reader reader_after i InUse reads refused = refused
 session_refused options journal resumes remaining reader reader_after i (Journal e) reads refused = record { inputs = i; reads = reads; refused = refused }

@@ -36,8 +36,8 @@ advice_words InUse = (
 )
 advice_words (Journal refusal) = advice_words_of_journal refusal
 advice_words JournalFailed = (
-  codes "the journal can't be opened, or the system refused to read, cut or write it or to make it durable",
-  codes "look at what the system says of it",
+  codes "the journal can't be opened, or the system refused to read, cut or write it or to make it durable, or the thread of a run that writes it found no memory or wasn't started",
+  codes "look at what the system says of it; where it says nothing, give the program more memory or allow it more threads",
 )
 
 -- the line of the journal that a fault is about: its first line is no entry's, and a place beyond the numbers of 64 bits isn't told

@@ -1,6 +1,6 @@
 -- What `serve` begins with, and what it comes to. Histories stand oldest first.
--- Public clauses cite this, but for `HoldsSome` and `ReadsAccepted`, which serve private ones.
-use Rattle.std.specs.Prelude.{◌≡◌, ◌≢◌, ℕ, ◌<◌, Bool, true, false, List, [], ◌++◌, length, reverse, Option, Some, Result, Ok, Err, MatchResult}
+-- Public clauses cite this, but for `ReadsAccepted`, which serves a private one.
+use Rattle.std.specs.Prelude.{◌≡◌, ◌≢◌, ◌⊎◌, ℕ, ◌<◌, ◌≤◌, Bool, true, false, List, [], ◌++◌, length, reverse, Option, Some, Result, Ok, Err, MatchResult}
 use Rattle.nd_desk.specs.declared.event.Event.{Event}
 use Rattle.nd_desk.specs.declared.fault.SessionFault.{SessionFault}
 use Rattle.nd_desk.specs.Notes.{Seen}
@@ -16,10 +16,11 @@ use Rattle.nd_serve.specs.Sessions.{IsSessionCut, Serves, ServesPart, first_of}
 use Rattle.nd_serve.specs.SessionLaws.{IsSimulated}
 use Rattle.nd_crashes.specs.Crashes.{IsBegunWith, SurvivesCrashes}
 use Rattle.nd_cli.specs.Asked.{IsAskFault}
-use Rattle.nd_cli.specs.Inputs.{ReadsWhole, is_read_fault}
+use Rattle.nd_cli.specs.Inputs.{limit, ReadsWhole, is_read_fault}
 use Rattle.nd_cli.specs.declared.options.ParkOptions.{ParkOptions}
+use Rattle.nd_cli.specs.declared.fault.Place.{Place}
 use Rattle.nd_cli.specs.declared.fault.CliFault.{CliFault}
-use Rattle.nd_cli.specs.declared.fault.CliFault.TheVariants.{Read, Memory}
+use Rattle.nd_cli.specs.declared.fault.CliFault.TheVariants.{Read, Memory, TooLarge}
 use Rattle.nd_commands.specs.Opened.{HasInputs, ReadsInputs}
 use Rattle.nd_serve_command.specs.Faults.{fault_of}
 use Rattle.nd_serve_command.specs.declared.fault.ServeFault.{ServeFault}
@@ -28,14 +29,29 @@ use Rattle.nd_serve_command.specs.declared.opened.Opened.{Opened}
 
 -- ---- the opening
 
--- a journal that isn't resumed from holds nothing
+-- why a journal wasn't read: its reader refused and is marked, or memory ran out, which is told as that of every input
+abbrev pub IsJournalUnread : Bool → ServeFault → Type 0
+IsJournalUnread marked (Cli fault) = fault ≡ Memory
+IsJournalUnread marked JournalFailed = marked ≡ true
+IsJournalUnread marked _ = ⊥
+
+-- the answer is that the journal failed
+abbrev pub is_journal_failed : {A : Type 0} → Result A ServeFault → Bool
+is_journal_failed (Err JournalFailed) = true
+is_journal_failed _ = false
+
+-- a journal that is resumed from is within the limit of an input, and one that isn't holds nothing
 abbrev pub MayHold : Bool → List ℕ → Type 0
-MayHold true journal = Unit {0}
+MayHold true journal = length journal ≤ limit
 MayHold false journal = journal ≡ []
 
 -- .. and this one does hold something
 abbrev pub HoldsSome : Bool → List ℕ → Type 0
 HoldsSome resumes journal = (resumes ≡ false) × (0 < length journal)
+
+-- .. or this one, which is resumed from, is longer than the limit
+abbrev pub IsTooLong : Bool → List ℕ → Type 0
+IsTooLong resumes journal = (resumes ≡ true) × (limit < length journal)
 
 -- the bundle with this text and the park of the options make these inputs, and the journal tells this legal history
 pub record AcceptsSession (options : ParkOptions) (text journal : List ℕ) (resumes : Bool) (world : World) : Type 0 where
@@ -52,9 +68,15 @@ pub record BeginsSession (options : ParkOptions) (journal : List ℕ) (resumes :
 abbrev pub OpensSession : ParkOptions → List ℕ → Bool → Option (List ℕ) → Option (List ℕ) → Opened → Type 0
 OpensSession options journal resumes unread left opened = BeginsSession options journal resumes unread left opened.dispatch
 
--- Why the journal isn't begun with: it holds something, or it tells no legal history. Want of memory is no refusal of it.
+-- the journal isn't begun with by a fault that other commands have too: it is longer than the limit, which is told as of a history text, or
+-- memory ran out, which is told only of one that may be begun with
+abbrev pub IsUntaken : List ℕ → Bool → CliFault → Type 0
+IsUntaken journal resumes fault = ((fault ≡ TooLarge Place.History) × IsTooLong resumes journal) ⊎ ((fault ≡ Memory) × MayHold resumes journal)
+
+-- Why the journal isn't begun with: it holds something or is longer than the limit, or it tells no legal history. Want of memory is no refusal
+-- of it.
 abbrev pub IsJournalFault : Premises → List ℕ → Bool → ServeFault → Type 0
-IsJournalFault i journal resumes (Cli fault) = fault ≡ Memory
+IsJournalFault i journal resumes (Cli fault) = IsUntaken journal resumes fault
 IsJournalFault i journal resumes NotEmpty = HoldsSome resumes journal
 IsJournalFault i journal resumes InUse = ⊥
 IsJournalFault i journal resumes (Journal e) = MayHold resumes journal × (e ≢ NoRoom) × IsResumeRefused i journal e
@@ -69,7 +91,9 @@ pub record RefusesJournal (options : ParkOptions) (journal : List ℕ) (resumes 
 -- Why there is no session: as of `ask` the bundle or the park is refused, the reader failed and is marked, or memory ran out; or the journal
 -- is refused.
 abbrev pub IsOpenFault : {R : Type 0} → ParkOptions → List ℕ → Bool → (R → Option (List ℕ)) → Watched R → Watched R → ServeFault → Type 0
-IsOpenFault options journal resumes remaining reader reader_after (Cli fault) = IsAskFault options remaining reader reader_after false fault
+IsOpenFault options journal resumes remaining reader reader_after (Cli fault) =
+    IsAskFault options remaining reader reader_after false fault
+    ⊎ RefusesJournal options journal resumes (remaining reader.device) (remaining reader_after.device) (Cli fault)
 IsOpenFault options journal resumes remaining reader reader_after NotEmpty =
     RefusesJournal options journal resumes (remaining reader.device) (remaining reader_after.device) NotEmpty
 IsOpenFault options journal resumes remaining reader reader_after InUse = ⊥
@@ -89,12 +113,16 @@ IsDeviceFault Read = Unit {0}
 IsDeviceFault Memory = Unit {0}
 IsDeviceFault _ = ⊥
 
+-- the fault is one that other commands have too, and this is so of it
+abbrev pub IsCommon : (CliFault → Type 0) → ServeFault → Type 0
+IsCommon IsSo (Cli fault) = IsSo fault
+IsCommon IsSo NotEmpty = ⊥
+IsCommon IsSo InUse = ⊥
+IsCommon IsSo (Journal e) = ⊥
+IsCommon IsSo JournalFailed = ⊥
+
 abbrev pub IsNoRefusal : ServeFault → Type 0
-IsNoRefusal (Cli fault) = IsDeviceFault fault
-IsNoRefusal NotEmpty = ⊥
-IsNoRefusal InUse = ⊥
-IsNoRefusal (Journal e) = ⊥
-IsNoRefusal JournalFailed = ⊥
+IsNoRefusal fault = IsCommon IsDeviceFault fault
 
 -- the answer is a dispatch over these inputs with this history, unless the reader failed or memory ran out
 abbrev pub BeginsUnlessDevice : Result Opened ServeFault → World → Type 0

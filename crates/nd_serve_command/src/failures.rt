@@ -117,8 +117,8 @@ pub fn journal_advice(fault: &ServeFault) -> Advice
         },
         ServeFault::Journal(refusal) => of_journal(refusal),
         ServeFault::JournalFailed => Advice {
-            cause: "the journal can't be opened, or the system refused to read, cut or write it or to make it durable",
-            cure: "look at what the system says of it",
+            cause: "the journal can't be opened, or the system refused to read, cut or write it or to make it durable, or the thread of a run that writes it found no memory or wasn't started",
+            cure: "look at what the system says of it; where it says nothing, give the program more memory or allow it more threads",
         },
     }
 }

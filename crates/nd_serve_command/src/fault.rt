@@ -26,8 +26,9 @@ pub enum ServeFault {
     #[error("nix-dispatch: journal: {0}")]
     Journal(ResumeError),
     /// The journal can't be opened, or refused to be read, cut, appended to or made durable, for whatever
-    /// cause. Nothing of the turn that it ends is answered, and nothing of a run is begun behind it; the entries
-    /// that it refused may stand in it. Status 5.
+    /// cause; or the thread of a run that writes it found no memory or wasn't started. Nothing of the turn that it
+    /// ends is answered, and nothing of a run is begun behind it; the entries that it refused may stand in it.
+    /// Status 5.
     #[error("nix-dispatch: journal failed")]
     JournalFailed,
 }

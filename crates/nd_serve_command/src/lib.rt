@@ -9,7 +9,7 @@ pub mod fault;
 mod lines;
 pub mod opened;
 pub mod opening;
-mod reading;
+pub mod reading;
 pub mod session;
 
 pub use devices::Devices;
@@ -17,4 +17,5 @@ pub use failures::{JournalFailure, journal_advice};
 pub use fault::ServeFault;
 pub use opened::Opened;
 pub use opening::{open_session, take_journal};
+pub use reading::journal_bytes;
 pub use session::serve_engine;

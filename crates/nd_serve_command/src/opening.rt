@@ -1,16 +1,17 @@
 //! What a session begins with, and a run that is kept.
 
-ghost use Rattle.std.specs.Prelude.{◌≡◌, ◌==◌, [], false, length, IfOk, IfErr, OnOk, MatchBool};
+ghost use Rattle.std.specs.Prelude.{◌≡◌, ◌==◌, [], false, length, IfOk, IfErr, OnOk, OnErr};
 ghost use Rattle.nd_crashes.specs.Crashes.{IsBegunWith};
+ghost use Rattle.nd_history.specs.Premises.{Premises};
 ghost use Rattle.nd_journal.specs.WholeLines.{whole_lines};
 ghost use Rattle.nd_resume.specs.Resumes.{IsResumable};
 ghost use Rattle.nd_serve_command.specs.Sessions.{AnswersAcceptedSession, OpensSession, IsOpenFault, is_unread};
-ghost use Rattle.nd_serve_command.specs.Sessions.{HoldsSome, IsJournalFault, MayHold, TakesResumable};
+ghost use Rattle.nd_serve_command.specs.Sessions.{IsJournalFault, MayHold, TakesResumable};
 
 use crate::fault::{ServeFault, journal_fault};
 use crate::opened::Opened;
 use crate::reading::read_dispatch;
-use nd_cli::ParkOptions;
+use nd_cli::{CliFault, LIMIT, ParkOptions, Place};
 use nd_commands::close_dispatch;
 use nd_devices::Told;
 use nd_ledger::Dispatch;
@@ -24,8 +25,9 @@ use std::thread::Threads;
 /// that are gone on from, it is what a session of [`serve_engine`](crate::serve_engine) begins with.
 ///
 /// The first refusal in this order is answered: `Read`; `TooLarge` or `Drvs` for the bundle; `TooLarge` or
-/// `Builders` for the builders list; `TooLarge` or `Info` for the info text; `NotEmpty`, or else `BadLine`
-/// or `Illegal`, for the journal. `Memory` may come at any point. The reader is marked exactly at `Read`.
+/// `Builders` for the builders list; `TooLarge` or `Info` for the info text; `NotEmpty`, or else `TooLarge` as a
+/// history text, `BadLine` or `Illegal`, for the journal. `Memory` may come at any point. The reader is marked
+/// exactly at `Read`.
 #[tactic(auto, using(crate::proofs::Begun::session_refused))]
 pub fn open_session<R: Read>(
     rt: &(impl Threads + Sync),
@@ -56,9 +58,9 @@ pub fn open_session<R: Read>(
 /// Gives a dispatch without a history the one of the journal with these bytes, which has to be empty where it
 /// isn't to be resumed from. The journal itself isn't touched.
 ///
-/// Refuses with `NotEmpty` where the journal holds something and isn't to be resumed from, or else with `BadLine`
-/// or `Illegal`, as [`ResumeError`](nd_resume::ResumeError) says. `Memory` may come at any point. The dispatch is
-/// gone then.
+/// Refuses with `NotEmpty` where the journal holds something and isn't to be resumed from, and one that is to be
+/// with `TooLarge`, as a history text, where it has more than [`LIMIT`] bytes, or else with `BadLine` or `Illegal`,
+/// as [`ResumeError`](nd_resume::ResumeError) says. `Memory` may come at any point. The dispatch is gone then.
 pub fn take_journal(
     alloc: Global,
     dispatch: Dispatch,
@@ -74,9 +76,9 @@ pub fn take_journal(
     ensures refused { IfErr result (IsJournalFault dispatch.inputs journal.now resumes) }
     ensures exactly { TakesResumable dispatch.inputs journal.now resumes result }
 {
-    if !may_begin(journal, resumes) {
+    if let Err(fault) = look_at(journal, resumes) {
         close_dispatch(dispatch);
-        return Err(ServeFault::NotEmpty);
+        return Err(fault);
     }
     let mut dispatch = dispatch;
     match resume(alloc, &mut dispatch, journal) {
@@ -88,16 +90,24 @@ pub fn take_journal(
     }
 }
 
-/// Whether a session may begin with a journal that holds these bytes.
+/// Looks at whether a session may begin with a journal that holds these bytes.
+///
+/// `NotEmpty`: it isn't to be resumed from, and holds something. `TooLarge`: it is, and has more than [`LIMIT`]
+/// bytes.
 #[tactic(auto, using(crate::proofs::Begun::beginnings))]
-fn may_begin(journal: &[u8], resumes: bool) -> bool
-    ensures { MatchBool result (MayHold resumes journal.now) (HoldsSome resumes journal.now) }
+fn look_at(journal: &[u8], resumes: bool) -> Result<(), ServeFault>
+    ensures may { OnOk result (MayHold resumes journal.now) }
+    ensures refused { IfErr result (λ fault. (i : Premises) → IsJournalFault i journal.now resumes fault) }
+    ensures unfit { OnErr result (MayHold resumes journal.now → ⊥) }
 {
     if resumes {
-        return true;
+        if journal.len() > LIMIT {
+            return Err(ServeFault::Cli(CliFault::TooLarge(Place::History)));
+        }
+        return Ok(());
     }
     if journal.is_empty() {
-        return true;
+        return Ok(());
     }
-    false
+    Err(ServeFault::NotEmpty)
 }

@@ -1,14 +1,16 @@
-//! The dispatch over what a session is given.
+//! What a session is given: the dispatch over it, and the bytes of its journal.
 
-ghost use Rattle.std.specs.Prelude.{◌≡◌, [], false, IfOk, IfErr};
+ghost use Rattle.std.specs.Prelude.{◌≡◌, ◌||◌, [], false, IfOk, IfErr};
 ghost use Rattle.nd_cli.specs.Asked.{IsAskFault};
-ghost use Rattle.nd_cli.specs.Inputs.{is_read_failure};
+ghost use Rattle.nd_cli.specs.Inputs.{ReadsWhole, is_read_failure};
 ghost use Rattle.nd_commands.specs.Opened.{ReadsInputs};
-ghost use Rattle.nd_serve_command.specs.Sessions.{ReadsAccepted};
+ghost use Rattle.nd_serve_command.specs.Sessions.{IsJournalUnread, ReadsAccepted, is_journal_failed};
 
-use nd_cli::{CliFault, ParkOptions, read_input};
+use crate::fault::ServeFault;
+use nd_bytes::ByteString;
+use nd_cli::{CliFault, LIMIT, ParkOptions, read_input};
 use nd_commands::open_dispatch;
-use nd_devices::Told;
+use nd_devices::{TakeError, Told};
 use nd_ledger::Dispatch;
 use std::alloc::Global;
 use std::io::Read;
@@ -39,5 +41,22 @@ pub(crate) fn read_dispatch<R: Read>(
     match open_dispatch(rt, alloc, options, text.as_slice()) {
         Ok(dispatch) => Ok(dispatch),
         Err(fault) => Err(fault),
+    }
+}
+
+/// Reads a journal to its end, or to one byte past [`LIMIT`], so that its length says whether it is
+/// too large.
+///
+/// `JournalFailed`: the reader refused a read, and is then marked. `Memory`: there was no room for the bytes.
+/// Nothing but a refused read sets the mark.
+pub fn journal_bytes<R: Read>(alloc: Global, input: &mut Told<R>) -> Result<ByteString, ServeFault>
+    ensures read { IfOk result (λ bytes. ReadsWhole (R.remaining input.old.device) (R.remaining input.new.device) bytes) }
+    ensures fault { IfErr result (IsJournalUnread input.new.is_marked) }
+    ensures mark { input.new.is_marked ≡ (input.old.is_marked || is_journal_failed result) }
+{
+    match input.take_all(alloc, LIMIT) {
+        Ok(bytes) => Ok(ByteString::new(bytes)),
+        Err(TakeError::Fault) => Err(ServeFault::JournalFailed),
+        Err(TakeError::Memory) => Err(ServeFault::Cli(CliFault::Memory)),
     }
 }
