@@ -9,25 +9,26 @@ use crate::ending::{refusal, status_or_fault, write_end};
 use nd_cli::CliFault;
 use nd_devices::Told;
 use nd_ledger::Dispatch;
-use nd_workers::{RunFault, Worker, run};
+use nd_workers::running::run_with;
+use nd_workers::{RunFault, Seat, Transport};
 use std::io::Write;
 use std::mem;
 use std::sync::Wait;
 use std::thread::Threads;
 
-/// Runs a dispatch with these workers, one for each slot of the park, and writes the text of its history,
-/// and then where asked the report. Unless it ends with `Receipts`, nothing is leased or waits in the end.
-/// The status is 1 where a derivation failed or was cancelled, and else 0.
+/// Runs a dispatch with these workers, one for each slot of the park, whose transports are of one type, and writes
+/// the text of its history, and then where asked the report. Unless it ends with `Receipts`, nothing is leased or
+/// waits in the end. The status is 1 where a derivation failed or was cancelled, and else 0.
 ///
 /// `TooManySlots`: there are more than 1,024 workers, and nothing is written. `Write`: the writer
 /// refused, and is marked; a part of the text, from its beginning, is out. `Thread`, `Memory` and
 /// `Receipts`: the run ended with that fault, and what came back is written before. `Memory` also where
 /// there was none to begin with; then nothing is written.
 #[tactic(auto, using(crate::proofs::Endings::never_slots, crate::proofs::Endings::runs_to, crate::proofs::Endings::came_back))]
-pub fn run_engine<R: Threads + Wait + Sync, W: Write>(
+pub fn run_engine<T: Transport, R: Threads + Wait + Sync, W: Write>(
     rt: &R,
     dispatch: Dispatch,
-    workers: Vec<Worker>,
+    workers: Vec<Seat<T>>,
     report: bool,
     output: &mut Told<W>,
 ) -> Result<u8, CliFault>
@@ -39,7 +40,7 @@ pub fn run_engine<R: Threads + Wait + Sync, W: Write>(
 {
     // What comes back is left to the system: the process ends with the command, and to let go of a large dispatch
     // takes long.
-    match run(rt, dispatch, workers) {
+    match run_with(rt, dispatch, workers) {
         Ok(end) => {
             let answer = write_and_answer(&end.dispatch, end.fault, report, output);
             mem::forget(end);

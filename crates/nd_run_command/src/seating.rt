@@ -23,9 +23,9 @@ pub fn stand_ins(
     alloc: Global,
     dispatch: &Dispatch,
     rules: Vec<Rule>,
-) -> Result<Vec<Seat<Box<StandIn>>>, CliFault>
+) -> Result<Vec<Seat<StandIn>>, CliFault>
     ensures placed { IfOk result (λ seats. map (λ w. (w.machine, w.slot)) seats.items ≡ places_of dispatch.now.inputs) }
-    ensures ruled { IfOk result (λ seats. map (λ w. w.transport.value) seats.items ≡ map (stand_in_on rules.items) (places_of dispatch.now.inputs)) }
+    ensures ruled { IfOk result (λ seats. map (λ w. w.transport) seats.items ≡ map (stand_in_on rules.items) (places_of dispatch.now.inputs)) }
     ensures manned { IfOk result (λ seats. AreManned dispatch.now.inputs (map (λ w. (w.machine, w.slot)) seats.items)) }
     ensures refused { IfErr result (AreTooMany (places_of dispatch.now.inputs)) }
 {
@@ -44,9 +44,9 @@ fn seats(
     alloc: Global,
     places: Vec<(u32, u32)>,
     rules: Vec<Rule>,
-) -> Result<Vec<Seat<Box<StandIn>>>, AllocError>
+) -> Result<Vec<Seat<StandIn>>, AllocError>
     ensures placed { IfOk result (λ seats. map (λ w. (w.machine, w.slot)) seats.items ≡ places.items) }
-    ensures ruled { IfOk result (λ seats. map (λ w. w.transport.value) seats.items ≡ map (stand_in_on rules.items) places.items) }
+    ensures ruled { IfOk result (λ seats. map (λ w. w.transport) seats.items ≡ map (stand_in_on rules.items) places.items) }
 {
     let book = RuleBook::new(rules)?;
     seats_by(alloc, places, &book)
@@ -57,17 +57,16 @@ fn seats_by(
     alloc: Global,
     places: Vec<(u32, u32)>,
     book: &RuleBook,
-) -> Result<Vec<Seat<Box<StandIn>>>, AllocError>
+) -> Result<Vec<Seat<StandIn>>, AllocError>
     ensures placed { IfOk result (λ seats. map (λ w. (w.machine, w.slot)) seats.items ≡ places.items) }
-    ensures ruled { IfOk result (λ seats. map (λ w. w.transport.value) seats.items ≡ map (stand_in_on book.now) places.items) }
+    ensures ruled { IfOk result (λ seats. map (λ w. w.transport) seats.items ≡ map (stand_in_on book.now) places.items) }
 {
     let mut seats = Vec::new(alloc);
     for (machine, slot) in places {
-        let transport = Box::new(alloc, StandIn::new(alloc, machine, book.try_clone()?))?;
         let seat = Seat {
             machine,
             slot,
-            transport,
+            transport: StandIn::new(alloc, machine, book.try_clone()?),
         };
         seats.push(seat)?;
     }
