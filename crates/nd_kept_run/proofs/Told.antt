@@ -1,5 +1,5 @@
 -- The report of a journal's history.
-use Rattle.std.proofs.Common.{◌≡◌, ◌∙◌, ℕ, Bool, true, false, List, reverse, Option, Result, Ok, Err, IfErr, OnOk, OnErr, is_err, refl, sym, subst, arith, inl}
+use Rattle.std.proofs.Common.{◌≡◌, ◌∙◌, ℕ, Bool, true, false, List, reverse, Option, Result, Ok, Err, IfErr, OnOk, OnErr, is_err, refl, sym, ap, subst, arith, true≢false, inl, inr}
 use Rattle.std.specs.Io.KnownBytes.{Keeps}
 use Rattle.std.proofs.KnownBytes.{Appends-kept}
 use Rattle.nd_devices.specs.Watched.{Watched}
@@ -9,9 +9,11 @@ use Rattle.nd_history.specs.Premises.{Premises}
 use Rattle.nd_history.specs.Standing.{drvs_in}
 use Rattle.nd_ledger.specs.Worlds.{World}
 use Rattle.nd_report.specs.Reports.{Reports, ReportsPart}
+use Rattle.nd_cli.specs.Inputs.{is_write_fault}
 use Rattle.nd_cli.specs.declared.options.ParkOptions.{ParkOptions}
+use Rattle.nd_cli.specs.declared.fault.CliFault.{CliFault}
 use Rattle.nd_cli.specs.declared.fault.CliFault.TheVariants.{Derivation, Drvs, Builders, Info, Script, Stand, History, TooLarge, TooManySlots, Read, Write, Memory, Thread, Receipts}
-use Rattle.nd_serve_command.specs.Sessions.{BeginsSession, IsOpenFault, IsNoRefusal}
+use Rattle.nd_serve_command.specs.Sessions.{BeginsSession, IsOpenFault, IsNoRefusal, IsUntaken}
 use Rattle.nd_serve_command.specs.declared.fault.ServeFault.{ServeFault}
 use Rattle.nd_serve_command.specs.declared.fault.ServeFault.TheVariants.{Cli, NotEmpty, InUse, Journal, JournalFailed}
 use Rattle.nd_kept_run.specs.Reported.{IsReportFault, ReportsJournal, ReportsUnlessDevice, is_unwritten, IsNoRefusal as IsNoReportRefusal}
@@ -35,6 +37,12 @@ pub ruleset sending = (report_kept, report_unsent)
 
 -- ---- an input or the journal is refused
 
+untaken_unwritten : (journal : List ℕ) (fault : CliFault) → IsUntaken journal true fault → is_write_fault fault ≡ false
+untaken_unwritten journal fault refused = elim refused [
+  | inl long ↦ ap is_write_fault long.0
+  | inr short ↦ ap is_write_fault short.0
+]
+
 -- it is no writer's fault
 pub read_unmarked : {R : Type 0} (A : Type 0) (options : ParkOptions) (journal : List ℕ) (remaining : R → Option (List ℕ)) (reader reader_after : Watched R) (fault : ServeFault)
     → IsOpenFault options journal true remaining reader reader_after fault → is_unwritten {A = A} (Err fault) ≡ false
@@ -48,7 +56,10 @@ read_unmarked A options journal remaining reader reader_after (Cli (History e)) 
 read_unmarked A options journal remaining reader reader_after (Cli (TooLarge place)) h = refl
 read_unmarked A options journal remaining reader reader_after (Cli TooManySlots) h = refl
 read_unmarked A options journal remaining reader reader_after (Cli Read) h = refl
-read_unmarked A options journal remaining reader reader_after (Cli Write) h = cc
+read_unmarked A options journal remaining reader reader_after (Cli Write) h = elim h [
+  | inl marked ↦ absurd (true≢false (sym marked))
+  | inr refused ↦ untaken_unwritten journal Write refused.refused
+]
 read_unmarked A options journal remaining reader reader_after (Cli Memory) h = refl
 read_unmarked A options journal remaining reader reader_after (Cli Thread) h = refl
 read_unmarked A options journal remaining reader reader_after (Cli Receipts) h = refl

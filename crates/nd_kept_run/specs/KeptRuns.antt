@@ -1,6 +1,6 @@
--- A run with a journal, by what is written of it and by what its journal holds then. The contract of `run_kept_engine` cites `RunsKept` and
--- `IsKeptFault`, and with them all that stands before these two; what stands behind them serves the contracts of the functions that
--- `run_kept_engine` is made of.
+-- A run with a journal, by what is written of it and by what its journal holds then. The contract of `run_kept_engine` cites `RunsKeptTo`
+-- and `FailsKept`, and with them all that stands before these two; what stands behind them serves the contracts of the functions
+-- that `run_kept_engine` is made of.
 use Rattle.std.specs.Prelude.{◌≡◌, ◌⊎◌, ℕ, ◌<◌, Bool, false, List, [], Option, Some, None}
 use Rattle.nd_cli.specs.declared.fault.CliFault.TheVariants.{Derivation, Drvs, Builders, Info, Script, Stand, History, TooLarge, TooManySlots, Read, Write, Memory, Thread, Receipts}
 use Rattle.nd_devices.specs.Watched.{Watched}
@@ -41,6 +41,10 @@ pub record RunsKept (before : World) (report : Bool) (status : ℕ) (stored : Op
   pub writes : WritesEnd after report old new
   pub status_is : IsStatusOf after status
 
+-- .. to this writer
+abbrev pub RunsKeptTo : {W : Type 0} → World → Bool → Option Stored → (W → Option (List ℕ)) → Watched W → Watched W → ℕ → Type 0
+RunsKeptTo before report stored text old new status = RunsKept before report status stored (text old.device) (text new.device)
+
 -- the run ended with this fault, and all of what came back was written
 pub record EndsKeptFaulty (before : World) (fault : RunFault) (report : Bool) (stored : Option Stored) (old new : Option (List ℕ)) : Type 0 where
   pub after : World
@@ -80,6 +84,11 @@ IsKeptFault before workers report held stored text old new NotEmpty = ⊥
 IsKeptFault before workers report held stored text old new InUse = ⊥
 IsKeptFault before workers report held stored text old new (Journal e) = ⊥
 IsKeptFault before workers report held stored text old new JournalFailed = EndsKeptFaulty before NoJournal report stored (text old.device) (text new.device)
+
+-- .. with this journal, before it and behind it
+abbrev pub FailsKept : {J W : Type 0} → World → ℕ → Bool → (J → Option Stored) → J → J → (W → Option (List ℕ)) → Watched W → Watched W → ServeFault → Type 0
+FailsKept before workers report stored journal journal_after text old new fault =
+    IsKeptFault before workers report (stored journal) (stored journal_after) text old new fault
 
 -- why what came back has no status
 abbrev pub IsEndFault : World → Option RunFault → Bool → Option (List ℕ) → Option (List ℕ) → ServeFault → Type 0

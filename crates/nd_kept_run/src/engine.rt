@@ -4,7 +4,7 @@ ghost use Rattle.std.specs.Prelude.{◌≡◌, ◌==◌, ◌↔◌, None, false,
 ghost use Rattle.nd_cli.specs.declared.fault.CliFault.{CliFault};
 ghost use Rattle.nd_history.specs.Legal.{IsLegal};
 ghost use Rattle.nd_keeping.specs.Scribing.{HoldsDurably, journal_text};
-ghost use Rattle.nd_kept_run.specs.KeptRuns.{HoldsHistory, RunsKept, IsKeptFault, IsEndFault, IsToldOf};
+ghost use Rattle.nd_kept_run.specs.KeptRuns.{HoldsHistory, RunsKeptTo, IsKeptFault, FailsKept, IsEndFault, IsToldOf};
 ghost use Rattle.nd_run_command.specs.Ended.{IsStatusOf};
 ghost use Rattle.nd_run_command.specs.Ran.{EndsIn};
 ghost use Rattle.nd_workers.specs.Leaves.{IsFrontOf};
@@ -17,26 +17,27 @@ use nd_keeping::{Journal, Scribe};
 use nd_ledger::Dispatch;
 use nd_run_command::{exit_status, refusal, write_end};
 use nd_serve_command::{Opened, ServeFault};
-use nd_workers::{NotWritten, RunFault, Worker, Written, run_kept};
+use nd_workers::writing::run_kept_with;
+use nd_workers::{NotWritten, RunFault, Seat, Transport, Written};
 use std::io::Write;
 use std::mem;
 use std::sync::Wait;
 use std::thread::Threads;
 
-/// Runs a dispatch with these workers, one for each slot of the park, and keeps each entry in the journal before
-/// anything is begun behind it. Then writes the text of the whole history, the entries that the journal held
-/// first, and where asked the report. Unless it ends with `Receipts`, nothing is leased or waits in the end, and
-/// unless it ends with that or with `JournalFailed` the journal holds the whole history, durable. The status is 1
-/// where a derivation failed or was cancelled, and else 0.
+/// Runs a dispatch with these workers, one for each slot of the park, whose transports are of one type, and keeps
+/// each entry in the journal before anything is begun behind it. Then writes the text of the whole history, the
+/// entries that the journal held first, and where asked the report. Unless it ends with `Receipts`, nothing is
+/// leased or waits in the end, and unless it ends with that or with `JournalFailed` the journal holds the whole
+/// history, durable. The status is 1 where a derivation failed or was cancelled, and else 0.
 ///
 /// `TooManySlots`: there are more than 1,024 workers, and nothing is written. `Write`: the writer refused, and is
 /// marked; a part of the text, from its beginning, is out. `Thread`, `Memory`, `Receipts` and `JournalFailed`: the
 /// run ended with that fault, and what came back is written before. `Memory` also where there was none to begin
 /// with; then nothing is written.
-pub fn run_kept_engine<J: Journal + Send + Drop, R: Threads + Wait + Sync, W: Write>(
+pub fn run_kept_engine<T: Transport, J: Journal + Send + Drop, R: Threads + Wait + Sync, W: Write>(
     rt: &R,
     opened: Opened,
-    workers: Vec<Worker>,
+    workers: Vec<Seat<T>>,
     journal: J,
     report: bool,
     output: &mut Told<W>,
@@ -44,8 +45,8 @@ pub fn run_kept_engine<J: Journal + Send + Drop, R: Threads + Wait + Sync, W: Wr
     requires manned { AreManned opened.dispatch.inputs (map (λ w. (w.machine, w.slot)) workers.items) }
     requires held { HoldsDurably (J.stored journal) (journal_text (not (opened.kept == 0)) opened.dispatch.history) }
     requires writer { output.old.is_marked ≡ false }
-    ensures answer { IfOk result.answer (λ status. RunsKept opened.dispatch report status (J.stored result.journal) (W.contents output.old.device) (W.contents output.new.device)) }
-    ensures fault { IfErr result.answer (IsKeptFault opened.dispatch (vec_len workers) report (J.stored journal) (J.stored result.journal) W.contents output.old output.new) }
+    ensures answer { IfOk result.answer (RunsKeptTo opened.dispatch report (J.stored result.journal) W.contents output.old output.new) }
+    ensures fault { IfErr result.answer (FailsKept opened.dispatch (vec_len workers) report J.stored journal result.journal W.contents output.old output.new) }
     ensures mark { IsTrue output.new.is_marked ↔ (result.answer ≡ Err (ServeFault.Cli CliFault.Write)) }
 {
     let alloc = *workers.allocator();
@@ -64,10 +65,10 @@ pub fn run_kept_engine<J: Journal + Send + Drop, R: Threads + Wait + Sync, W: Wr
 }
 
 /// The same, with the scribe of the journal, which has the entries that it holds.
-fn run_written<J: Journal + Send + Drop, R: Threads + Wait + Sync, W: Write>(
+fn run_written<T: Transport, J: Journal + Send + Drop, R: Threads + Wait + Sync, W: Write>(
     rt: &R,
     dispatch: Dispatch,
-    workers: Vec<Worker>,
+    workers: Vec<Seat<T>>,
     scribe: Scribe<J>,
     report: bool,
     output: &mut Told<W>,
@@ -76,13 +77,13 @@ fn run_written<J: Journal + Send + Drop, R: Threads + Wait + Sync, W: Write>(
     requires handed { IsFrontOf scribe.handed.entries dispatch.history }
     requires durable { IsFrontOf scribe.kept.entries dispatch.history }
     requires writer { output.old.is_marked ≡ false }
-    ensures answer { IfOk result.answer (λ status. RunsKept dispatch report status (J.stored result.journal) (W.contents output.old.device) (W.contents output.new.device)) }
+    ensures answer { IfOk result.answer (RunsKeptTo dispatch report (J.stored result.journal) W.contents output.old output.new) }
     ensures fault { IfErr result.answer (IsKeptFault dispatch (vec_len workers) report scribe.stored (J.stored result.journal) W.contents output.old output.new) }
     ensures mark { IsTrue output.new.is_marked ↔ (result.answer ≡ Err (ServeFault.Cli CliFault.Write)) }
 {
     // What comes back is left to the system: the process ends with the command, and to let go of a large dispatch
     // takes long.
-    match run_kept(rt, dispatch, workers, scribe) {
+    match run_kept_with(rt, dispatch, workers, scribe) {
         Ok(written) => {
             let Written { run, scribe } = written;
             let answer = write_and_answer(&run.dispatch, run.fault, report, output);

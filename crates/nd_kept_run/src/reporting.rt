@@ -1,10 +1,9 @@
 //! The command `report`.
 
-ghost use Rattle.std.specs.Prelude.{◌≡◌, ◌||◌, false, is_err, reverse, IfOk, IfErr, OnOk, OnErr};
+ghost use Rattle.std.specs.Prelude.{◌≡◌, ◌||◌, false, is_err, IfOk, IfErr, OnOk, OnErr};
 ghost use Rattle.nd_cli.specs.declared.fault.CliFault.{CliFault};
-ghost use Rattle.nd_report.specs.Reports.{Reports, ReportsPart};
 ghost use Rattle.nd_serve_command.specs.Sessions.{is_unread};
-ghost use Rattle.nd_kept_run.specs.Reported.{AnswersAcceptedReport, IsReportFault, ReportsJournal, is_unwritten};
+ghost use Rattle.nd_kept_run.specs.Reported.{AnswersAcceptedReport, IsReportFault, ReportsJournal, ReportsPartTo, ReportsTo, is_unwritten};
 
 use nd_cli::{CliFault, ParkOptions};
 use nd_commands::close_dispatch;
@@ -20,11 +19,11 @@ use std::thread::Threads;
 /// the input and the park of the options. The status is 0.
 ///
 /// The first refusal in this order is answered, and nothing is written then: `Read`; `TooLarge` or `Drvs` for the
-/// bundle; `TooLarge` or `Builders` for the builders list; `TooLarge` or `Info` for the info text; `BadLine` or
-/// `Illegal` for the journal. `Memory` may come at any point before the report is written. `Write` leaves a part
-/// of it, from its beginning. The reader is marked exactly at `Read`, and the writer exactly at `Write`. Where a
-/// reader that is known to have a whole bundle left has one that is accepted, with the park and the journal,
-/// nothing but `Read`, `Write` and `Memory` comes.
+/// bundle; `TooLarge` or `Builders` for the builders list; `TooLarge` or `Info` for the info text; `TooLarge` as a
+/// history text, `BadLine` or `Illegal` for the journal. `Memory` may come at any point before the report is
+/// written. `Write` leaves a part of it, from its beginning. The reader is marked exactly at `Read`, and the writer
+/// exactly at `Write`. Where a reader that is known to have a whole bundle left has one that is accepted, with the
+/// park and the journal, nothing but `Read`, `Write` and `Memory` comes.
 pub fn report_engine<R: Read, W: Write>(
     rt: &(impl Threads + Sync),
     alloc: Global,
@@ -52,8 +51,8 @@ pub fn report_engine<R: Read, W: Write>(
 fn report_opened<W: Write>(opened: Opened, output: &mut Told<W>) -> Result<u8, ServeFault>
     requires { output.old.is_marked ≡ false }
     ensures status { IfOk result (λ status. status ≡ 0) }
-    ensures written { OnOk result (Reports opened.dispatch.inputs (reverse opened.dispatch.history) (W.contents output.old.device) (W.contents output.new.device)) }
-    ensures partly { OnErr result (ReportsPart opened.dispatch.inputs (reverse opened.dispatch.history) (W.contents output.old.device) (W.contents output.new.device)) }
+    ensures written { OnOk result (ReportsTo opened.dispatch W.contents output.old output.new) }
+    ensures partly { OnErr result (ReportsPartTo opened.dispatch W.contents output.old output.new) }
     ensures fault { IfErr result (λ fault. fault ≡ ServeFault.Cli CliFault.Write) }
     ensures mark { output.new.is_marked ≡ is_err result }
 {
@@ -75,8 +74,8 @@ fn report_opened<W: Write>(opened: Opened, output: &mut Told<W>) -> Result<u8, S
 /// `Write`: the writer refused, and is marked; a part of the report, from its beginning, may be out.
 #[tactic(auto, using(crate::proofs::Told::sending))]
 fn send_report<W: Write>(dispatch: &Dispatch, output: &mut Told<W>) -> Result<(), WriteError>
-    ensures written { OnOk result (Reports dispatch.now.inputs (reverse dispatch.now.history) (W.contents output.old.device) (W.contents output.new.device)) }
-    ensures partly { OnErr result (ReportsPart dispatch.now.inputs (reverse dispatch.now.history) (W.contents output.old.device) (W.contents output.new.device)) }
+    ensures written { OnOk result (ReportsTo dispatch.now W.contents output.old output.new) }
+    ensures partly { OnErr result (ReportsPartTo dispatch.now W.contents output.old output.new) }
     ensures mark { output.new.is_marked ≡ (output.old.is_marked || is_err result) }
 {
     match write_report(dispatch, output) {
