@@ -36,12 +36,9 @@ is_left() {
   esac
 }
 
-# Whether this is what it says then. Want of memory for the bytes of a journal is a read of it that was refused.
+# Whether this is what it says then.
 is_told() {
-  case $1,$(cat "$work/err") in
-    *,'nix-dispatch: out of memory' | report,'nix-dispatch: journal failed') ;;
-    *) return 1 ;;
-  esac
+  [ "$(cat "$work/err")" = 'nix-dispatch: out of memory' ]
 }
 
 sweep() {
@@ -57,7 +54,7 @@ sweep() {
     rm -f "$work/journal"
     REFUSE=$number LD_PRELOAD="$work/refuse.so" "$program" "$@" < "$input" > "$work/out" 2> "$work/err"
     status=$?
-    if [ "$status" -eq 5 ] && is_left "$1" && is_told "$1"; then
+    if [ "$status" -eq 5 ] && is_left "$1" && is_told; then
       refused=$((refused + 1))
     elif [ "$status" -eq "$wanted" ] && cmp -s "$work/out" "$work/ample"; then
       [ "$number" -gt $((last + 50)) ] && break

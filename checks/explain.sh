@@ -138,10 +138,16 @@ for command in serve run; do
   left_alone 'journal: BadLine 2' 3 "--journal, file $journal, line 2" "$command" --bundle "$folder/in" --journal "$journal" --resume
   printf 'nix-dispatch-history 2\nstarted 0\n' > "$journal"
   left_alone 'journal: Illegal 0 Live' 3 "--journal, file $journal, line 2" "$command" --bundle "$folder/in" --journal "$journal" --resume
+  head -c 67108865 /dev/zero > "$journal"
+  left_alone 'history: TooLarge' 3 "--journal, file $journal" "$command" --bundle "$folder/in" --journal "$journal" --resume
   refused 'journal failed' 5 '--journal, file /nowhere/journal' "$command" --bundle "$folder/in" --journal /nowhere/journal
 done
 
-# A journal that is looked at.
+# A journal that is looked at: one that is too long, if only since it has no end, and one that is none.
+left_alone 'history: TooLarge' 3 "--journal, file $journal" report --journal "$journal"
+left_alone 'history: TooLarge' 3 "--journal, file $journal" audit --journal "$journal"
+refused 'history: TooLarge' 3 '--journal, file /dev/zero' report --journal /dev/zero
+printf 'nix-dispatch-history 2\nstarted 0\n' > "$journal"
 left_alone 'journal: Illegal 0 Live' 3 "--journal, file $journal, line 2" report --journal "$journal"
 printf 'nix-dispatch-history 2\nbuilt\n' > "$journal"
 left_alone 'journal: BadLine 2' 3 "--journal, file $journal, line 2" report --journal "$journal"

@@ -10,7 +10,7 @@ use nd_keeping::NoJournal;
 use nd_ledger::Dispatch;
 use nd_run_command::{RunInputs, run_engine, run_inputs, stand_ins};
 use nd_serve_command::{Devices, Opened, open_session, serve_engine};
-use nd_workers::{Seat, StandIn, Transport, Worker};
+use nd_workers::{Seat, StandIn};
 use std::alloc::Global;
 use std::mem;
 use std::sync::Wait;
@@ -85,48 +85,17 @@ pub(crate) fn run<R: Threads + Wait + Sync>(
     }
 }
 
-/// A run by these stand-ins.
+/// A run by these stand-ins, who man the park.
 fn run_seated<R: Threads + Wait + Sync>(
     rt: &R,
     alloc: Global,
     dispatch: Dispatch,
-    seats: Vec<Seat<Box<StandIn>>>,
+    seats: Vec<Seat<StandIn>>,
 ) -> Option<Vec<u8>>
-    requires { AreManned dispatch.inputs (map (λ w. (w.machine, w.slot)) seats.items) }
-{
-    let mut workers = Vec::new(alloc);
-    for seat in seats {
-        let Seat {
-            machine,
-            slot,
-            transport,
-        } = seat;
-        let transport: Box<dyn Transport + Send> = transport;
-        let worker = Worker {
-            machine,
-            slot,
-            transport,
-        };
-        if workers.push(worker).is_err() {
-            mem::forget(workers);
-            mem::forget(dispatch);
-            return None;
-        }
-    }
-    run_workers(rt, alloc, dispatch, workers)
-}
-
-/// A run by these workers, who man the park.
-fn run_workers<R: Threads + Wait + Sync>(
-    rt: &R,
-    alloc: Global,
-    dispatch: Dispatch,
-    workers: Vec<Worker>,
-) -> Option<Vec<u8>>
-    requires manned { AreManned dispatch.inputs (map (λ w. (w.machine, w.slot)) workers.items) }
+    requires manned { AreManned dispatch.inputs (map (λ w. (w.machine, w.slot)) seats.items) }
 {
     let mut output = Told::new(Vec::new(alloc));
-    match run_engine(rt, dispatch, workers, true, &mut output) {
+    match run_engine(rt, dispatch, seats, true, &mut output) {
         Ok(_) => Some(output.into_inner()),
         Err(_) => None,
     }

@@ -1,12 +1,14 @@
 //! Reports of journals, and audits of them.
 
 use crate::opening::{Place, options};
+use nd_cli::LIMIT;
 use nd_commands::audit_engine;
 use nd_devices::Told;
 use nd_journal::history_of;
 use nd_kept_run::report_engine;
-use nd_serve_command::ServeFault;
+use nd_serve_command::{ServeFault, journal_bytes};
 use nd_test_fixtures::bundles::PLAIN_2;
+use nd_test_fixtures::devices::{CountedReader, EndlessReader};
 use nd_test_fixtures::printing::is_printed;
 use std::alloc::Global;
 use std::thread::Threads;
@@ -98,6 +100,38 @@ fn refused_journals(rt: HostRuntime) {
     assert!(rt; is_refused(alloc, other, "nix-dispatch: journal: BadLine 1"));
     let illegal = report(&rt, alloc, b"nix-dispatch-history 2\nstarted 0\n");
     assert!(rt; is_refused(alloc, illegal, "nix-dispatch: journal: Illegal 0 Live"));
+}
+
+/// A journal without an end is read to one byte past the limit, and refused for its size. One of as many bytes as the
+/// limit is looked at.
+#[test]
+fn endless_journal(rt: HostRuntime) {
+    let alloc = rt.alloc();
+    let mut endless = Told::new(EndlessReader::new(b"nix-dispatch-history 2\n", b'\n'));
+    let Ok(bytes) = journal_bytes(alloc, &mut endless) else {
+        return;
+    };
+    assert!(rt; bytes.len() == LIMIT + 1);
+    let refused = report(&rt, alloc, bytes.as_slice());
+    assert!(rt; is_refused(alloc, refused, "nix-dispatch: history: TooLarge"));
+    let (within, _) = bytes.as_slice().split_at(LIMIT.min(bytes.len()));
+    let other = report(&rt, alloc, within);
+    assert!(rt; is_refused(alloc, other, "nix-dispatch: journal: BadLine 2"));
+}
+
+/// A refused read is told as the journal's failure, with status 5, and marks the reader.
+#[test]
+fn unread_journal(rt: HostRuntime) {
+    let alloc = rt.alloc();
+    let mut input = Told::new(CountedReader::new(b"nix", 1, 2));
+    match journal_bytes(alloc, &mut input) {
+        Ok(_) => assert!(rt; false),
+        Err(fault) => {
+            assert!(rt; fault.status() == 5);
+            assert!(rt; is_printed(alloc, &fault, "nix-dispatch: journal failed"));
+        }
+    }
+    assert!(rt; input.marked());
 }
 
 /// An audit of a journal passes over a last line that isn't finished.

@@ -13,7 +13,7 @@ use nd_ledger::Dispatch;
 use nd_run_command::{RunInputs, run_inputs, stand_ins};
 use nd_script::Rule;
 use nd_serve_command::{Opened, ServeFault, take_journal};
-use nd_workers::{Seat, StandIn, Transport, Worker};
+use nd_workers::{Seat, StandIn};
 use std::alloc::Global;
 use std::mem;
 use std::sync::Wait;
@@ -102,50 +102,17 @@ fn run_seated<R: Threads + Wait + Sync>(
     rt: &R,
     alloc: Global,
     opened: Opened,
-    seats: Vec<Seat<Box<StandIn>>>,
+    seats: Vec<Seat<StandIn>>,
     journal: MemoryJournal,
 ) -> Option<Seen>
-    requires seated { AreManned opened.dispatch.inputs (map (λ w. (w.machine, w.slot)) seats.items) }
-    requires held { HoldsDurably (Some (record { bytes = journal.bytes.items; durable = journal.durable })) (journal_text (not (opened.kept == 0)) opened.dispatch.history) }
-{
-    let mut workers = Vec::new(alloc);
-    for seat in seats {
-        let Seat {
-            machine,
-            slot,
-            transport,
-        } = seat;
-        let transport: Box<dyn Transport + Send> = transport;
-        let worker = Worker {
-            machine,
-            slot,
-            transport,
-        };
-        if workers.push(worker).is_err() {
-            mem::forget(workers);
-            mem::forget(opened);
-            return None;
-        }
-    }
-    run_workers(rt, alloc, opened, workers, journal)
-}
-
-/// The same, by these workers.
-fn run_workers<R: Threads + Wait + Sync>(
-    rt: &R,
-    alloc: Global,
-    opened: Opened,
-    workers: Vec<Worker>,
-    journal: MemoryJournal,
-) -> Option<Seen>
-    requires manned { AreManned opened.dispatch.inputs (map (λ w. (w.machine, w.slot)) workers.items) }
+    requires manned { AreManned opened.dispatch.inputs (map (λ w. (w.machine, w.slot)) seats.items) }
     requires held { HoldsDurably (Some (record { bytes = journal.bytes.items; durable = journal.durable })) (journal_text (not (opened.kept == 0)) opened.dispatch.history) }
 {
     let mut output = Told::new(Vec::new(alloc));
     let KeptEnd { answer, journal } = run_kept_engine(
         rt,
         opened,
-        workers,
+        seats,
         journal,
         false,
         &mut output,

@@ -2,6 +2,7 @@
 //! and else a stand-in. A dispatch and its workers are left to the system where the command ends, since the process
 //! ends with it.
 
+ghost use Rattle.std.specs.Prelude.{◌≡◌, map, IfOk};
 ghost use Rattle.nd_workers.specs.Runs.{AreManned};
 
 use crate::beginning::{Begun, begin};
@@ -16,14 +17,17 @@ use nd_command_line::placed;
 use nd_explain::{Failure, Source};
 use nd_run_command::places;
 use nd_serve_command::Opened;
-use nd_workers::{Transport, Worker};
-use std::alloc::{AllocError, Global};
+use nd_workers::Seat;
+use std::alloc::Global;
 use std::fs::{File, OpenOptions};
 use std::io::BufReader;
 use std::mem;
 use std::rt::Files;
 use std::sync::Wait;
 use std::thread::Threads;
+
+/// An agent that is spoken to by two files.
+type FileAgent = Agent<BufReader<File>, File>;
 
 /// Runs what is given, with agents or with stand-ins, and writes the history, and where asked the report.
 pub(crate) fn run_given<
@@ -80,31 +84,48 @@ fn run_placed<'a, R: Files<File = File> + Print + AllocGlobal + Threads + Wait +
 ) -> Result<u8, Ending<'a>>
     requires { AreManned opened.dispatch.inputs places.items }
 {
-    let mut workers = Vec::new(alloc);
+    match agents_on(rt, alloc, folder, places) {
+        Ok(agents) => run_workers(rt, alloc, opened, agents, journal, report),
+        Err(failure) => {
+            mem::forget(opened);
+            mem::forget(journal);
+            Err(Ending::Common(failure))
+        }
+    }
+}
+
+/// An agent on each of these places, whose files are opened in their order. Where one can't be made, those that were
+/// made before it are left to the system.
+///
+/// `Read`: a file of theirs can't be opened. `Memory`.
+fn agents_on<'a, R: Files<File = File>>(
+    rt: &R,
+    alloc: Global,
+    folder: &'a str,
+    places: Vec<(u32, u32)>,
+) -> Result<Vec<Seat<FileAgent>>, Failure<'a>>
+    ensures { IfOk result (λ seats. map (λ w. (w.machine, w.slot)) seats.items ≡ places.items) }
+{
+    let mut seats = Vec::new(alloc);
     for (machine, slot) in places {
-        let agent = match agent_at(rt, alloc, folder, machine, slot) {
+        let transport = match agent_at(rt, alloc, folder, machine, slot) {
             Ok(agent) => agent,
             Err(failure) => {
-                mem::forget(workers);
-                mem::forget(opened);
-                mem::forget(journal);
-                return Err(Ending::Common(failure));
+                mem::forget(seats);
+                return Err(failure);
             }
         };
-        let transport: Box<dyn Transport + Send> = agent;
-        let worker = Worker {
+        let seat = Seat {
             machine,
             slot,
             transport,
         };
-        if workers.push(worker).is_err() {
-            mem::forget(workers);
-            mem::forget(opened);
-            mem::forget(journal);
-            return Err(Ending::Common(Failure::of(CliFault::Memory)));
+        if seats.push(seat).is_err() {
+            mem::forget(seats);
+            return Err(Failure::of(CliFault::Memory));
         }
     }
-    run_workers(rt, alloc, opened, workers, journal, report)
+    Ok(seats)
 }
 
 /// The agent of this machine's slot, which is called by its file `M.S.calls` and answers by `M.S.answers`.
@@ -117,7 +138,7 @@ fn agent_at<'a, R: Files<File = File>>(
     folder: &'a str,
     machine: u32,
     slot: u32,
-) -> Result<Box<Agent<BufReader<File>, File>>, Failure<'a>> {
+) -> Result<FileAgent, Failure<'a>> {
     let mut writing = OpenOptions::new();
     let _ = writing.write(true);
     let calls = agent_file(rt, alloc, folder, machine, slot, "calls", &writing)?;
@@ -130,23 +151,11 @@ fn agent_at<'a, R: Files<File = File>>(
             return Err(failure);
         }
     };
-    match boxed_agent(alloc, answers, calls) {
-        Ok(agent) => Ok(agent),
-        Err(_) => Err(Failure::of(CliFault::Memory)),
-    }
-}
-
-/// The agent that answers by the one file what it is called by the other.
-fn boxed_agent(
-    alloc: Global,
-    answers: File,
-    calls: File,
-) -> Result<Box<Agent<BufReader<File>, File>>, AllocError> {
     match BufReader::new(alloc, answers) {
-        Ok(answers) => Ok(Box::new(alloc, Agent::new(alloc, answers, calls))?),
+        Ok(answers) => Ok(Agent::new(alloc, answers, calls)),
         Err(_) => {
             drop(calls);
-            Err(AllocError)
+            Err(Failure::of(CliFault::Memory))
         }
     }
 }

@@ -5,7 +5,7 @@ ghost use Rattle.std.specs.Prelude.{◌≡◌, [], IfOk};
 use crate::endings::Ending;
 use crate::journal_files::{Found, Kept, find_journal, ready_journal};
 use clap::ArgMatches;
-use nd_command_line::read_inputs;
+use nd_command_line::{placed, read_inputs};
 use nd_explain::Failure;
 use nd_run_command::{RunInputs, run_inputs};
 use nd_script::Rule;
@@ -56,7 +56,7 @@ fn begin_kept<'a, R: Files<File = File> + Input + Threads + Sync>(
 ) -> Result<Begun<'a>, Ending<'a>> {
     let found = match find_journal(rt, alloc, Some(name)) {
         Ok(found) => found,
-        Err(failure) => return Err(Ending::Journal(failure)),
+        Err(ending) => return Err(ending),
     };
     let RunInputs { dispatch, rules } = match inputs(rt, alloc, options) {
         Ok(given) => given,
@@ -74,7 +74,7 @@ fn begin_kept<'a, R: Files<File = File> + Input + Threads + Sync>(
         Ok(opened) => go_on(rt, opened, rules, found),
         Err(fault) => {
             drop(rules);
-            let ending = refusal(alloc, fault, name, found.bytes.as_slice());
+            let ending = refusal(alloc, options, fault, name, found.bytes.as_slice());
             drop(found);
             Err(ending)
         }
@@ -94,18 +94,24 @@ fn go_on<'a, R: Files<File = File>>(
             rules,
             journal,
         }),
-        Err(failure) => {
+        Err(ending) => {
             mem::forget(opened);
             drop(rules);
-            Err(Ending::Journal(failure))
+            Err(ending)
         }
     }
 }
 
 /// What is known of a journal with this name and these bytes that isn't gone on from.
-fn refusal<'a>(alloc: Global, fault: ServeFault, name: &'a str, bytes: &[u8]) -> Ending<'a> {
+fn refusal<'a>(
+    alloc: Global,
+    options: &ArgMatches<'a>,
+    fault: ServeFault,
+    name: &'a str,
+    bytes: &[u8],
+) -> Ending<'a> {
     match fault {
-        ServeFault::Cli(fault) => Ending::Common(Failure::of(fault)),
+        ServeFault::Cli(fault) => Ending::Common(placed(options, fault)),
         fault => Ending::Journal(JournalFailure::of_bytes(alloc, fault, name, bytes)),
     }
 }

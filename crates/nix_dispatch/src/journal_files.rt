@@ -1,11 +1,15 @@
 //! The journal of a session or of a run in a file.
 
-use nd_explain::Heard;
+use crate::endings::Ending;
+use nd_bytes::ByteString;
+use nd_cli::CliFault;
+use nd_devices::Told;
+use nd_explain::{Failure, Heard, Source};
 use nd_keeping::Journal;
-use nd_serve_command::{JournalFailure, ServeFault};
+use nd_serve_command::{JournalFailure, ServeFault, journal_bytes};
 use std::alloc::Global;
 use std::fs::{self, File, OpenFile, OpenOptions};
-use std::io::{self, ErrorKind, Read, Write};
+use std::io::{self, ErrorKind, Write};
 use std::path::Path;
 use std::rt::Files;
 
@@ -30,8 +34,8 @@ pub(crate) struct Found<'a> {
     pub(crate) name: Option<&'a str>,
     /// The file of this name, where it is there. It is locked until the program ends.
     pub(crate) file: Option<File>,
-    /// The bytes that it holds.
-    pub(crate) bytes: Vec<u8>,
+    /// The bytes that it holds, to its end or to one byte past the limit of an input.
+    pub(crate) bytes: ByteString,
 }
 
 impl<'a, F: OpenFile + Drop> Kept<'a, F> {
@@ -98,44 +102,83 @@ impl<F: Write + OpenFile> Journal for Kept<'_, F> {
 
 /// Looks for the journal of this name, and reads what it holds. Without a name there is none, and it holds
 /// nothing, and so does one whose file isn't there.
+///
+/// `InUse`: another program has a lock on its file. `Memory`. `JournalFailed`: its file can't be opened, locked or
+/// read.
 pub(crate) fn find_journal<'a, R: Files<File = File>>(
     rt: &R,
     alloc: Global,
     name: Option<&'a str>,
-) -> Result<Found<'a>, JournalFailure<'a>> {
+) -> Result<Found<'a>, Ending<'a>> {
     let Some(name) = name else {
         return Ok(Found {
             name: None,
             file: None,
-            bytes: Vec::new(alloc),
+            bytes: ByteString::new(Vec::new(alloc)),
         });
     };
-    match read_journal(rt, alloc, name) {
-        Ok((file, bytes)) => Ok(Found {
+    match OpenOptions::new().read(true).append(true).open(rt, name) {
+        Ok(file) => locked(alloc, name, file),
+        Err(error) if error.kind() == ErrorKind::NotFound => Ok(Found {
             name: Some(name),
-            file,
+            file: None,
+            bytes: ByteString::new(Vec::new(alloc)),
+        }),
+        Err(error) => Err(failed(name, error)),
+    }
+}
+
+/// The journal of this name in this file, which is locked and read.
+fn locked<'a>(alloc: Global, name: &'a str, file: File) -> Result<Found<'a>, Ending<'a>> {
+    if let Err(error) = file.try_lock() {
+        drop(file);
+        return Err(taken(name, io::Error::from(error)));
+    }
+    match held(alloc, name, &file) {
+        Ok(bytes) => Ok(Found {
+            name: Some(name),
+            file: Some(file),
             bytes,
         }),
-        Err(error) => Err(failure_of(name, error)),
+        Err(ending) => {
+            drop(file);
+            Err(ending)
+        }
+    }
+}
+
+/// What the file of this name holds, to its end or to one byte past the limit of an input.
+fn held<'a>(alloc: Global, name: &'a str, file: &File) -> Result<ByteString, Ending<'a>> {
+    let mut input = Told::new(Heard::new(file));
+    let answer = journal_bytes(alloc, &mut input);
+    let heard = input.into_inner();
+    let refusal = heard.refusal();
+    drop(heard);
+    match answer {
+        Ok(bytes) => Ok(bytes),
+        Err(fault) => Err(unread(name, fault, refusal)),
     }
 }
 
 /// The journal that was found so, once it is ready to be appended to: its file is made where it isn't there, and
 /// else cut to this many bytes. What stays of it and that its folder has it are durable then.
+///
+/// `InUse`: another program has made the file meanwhile. `Memory`. `JournalFailed`: the file can't be made, cut or
+/// made durable.
 pub(crate) fn ready_journal<'a, R: Files<File = File>>(
     rt: &R,
     found: Found<'a>,
     length: usize,
-) -> Result<Kept<'a, File>, JournalFailure<'a>> {
+) -> Result<Kept<'a, File>, Ending<'a>> {
     let Found { name, file, bytes } = found;
     let held = bytes.len();
     drop(bytes);
     let mut journal = match begin_journal(rt, name, file) {
         Ok(journal) => journal,
-        Err(failure) => return Err(failure),
+        Err(ending) => return Err(ending),
     };
     if held > 0 && journal.cut(length).is_err() {
-        return Err(journal.into_failure());
+        return Err(Ending::Journal(journal.into_failure()));
     }
     Ok(journal)
 }
@@ -146,7 +189,7 @@ fn begin_journal<'a, R: Files<File = File>>(
     rt: &R,
     name: Option<&'a str>,
     file: Option<File>,
-) -> Result<Kept<'a, File>, JournalFailure<'a>> {
+) -> Result<Kept<'a, File>, Ending<'a>> {
     let Some(name) = name else {
         drop(file);
         return Ok(Kept::Nowhere);
@@ -157,7 +200,7 @@ fn begin_journal<'a, R: Files<File = File>>(
     };
     match answer {
         Ok(file) => in_folder(rt, name, file),
-        Err(error) => Err(failure_of(name, error)),
+        Err(error) => Err(taken(name, error)),
     }
 }
 
@@ -166,7 +209,7 @@ fn in_folder<'a, R: Files<File = File>>(
     rt: &R,
     name: &'a str,
     file: File,
-) -> Result<Kept<'a, File>, JournalFailure<'a>> {
+) -> Result<Kept<'a, File>, Ending<'a>> {
     match sync_folder(rt, name) {
         Ok(()) => Ok(Kept::InFile {
             name,
@@ -175,88 +218,61 @@ fn in_folder<'a, R: Files<File = File>>(
         }),
         Err(error) => {
             drop(file);
-            Err(failure_of(name, error))
+            Err(failed(name, error))
         }
     }
 }
 
-/// What is known of a file that isn't opened, locked, read or made: a lock that is another program's, and a file
-/// that was made since it was looked for, are told as being in use.
-fn failure_of(name: &str, error: io::Error) -> JournalFailure<'_> {
-    let fault = match error.kind() {
-        ErrorKind::WouldBlock | ErrorKind::AlreadyExists => ServeFault::InUse,
-        _ => ServeFault::JournalFailed,
-    };
-    JournalFailure::of_file(fault, name, Some(error))
-}
-
 /// What the journal of this name holds, which may be another program's: it isn't locked, and has to be there.
+///
+/// `Memory`. `JournalFailed`: its file can't be opened or read.
 pub(crate) fn read_aside<'a, R: Files<File = File>>(
     rt: &R,
     alloc: Global,
     name: &'a str,
-) -> Result<Vec<u8>, JournalFailure<'a>> {
-    let file = match fs::open(rt, name) {
-        Ok(file) => file,
-        Err(error) => return Err(JournalFailure::of_file(
-            ServeFault::JournalFailed,
-            name,
-            Some(error),
-        )),
-    };
-    match read_to_end(alloc, file) {
-        Ok(bytes) => Ok(bytes),
-        Err(error) => Err(JournalFailure::of_file(ServeFault::JournalFailed, name, Some(error))),
-    }
-}
-
-/// What this file holds.
-fn read_to_end(alloc: Global, file: File) -> io::Result<Vec<u8>> {
-    let mut file = file;
-    let mut bytes = Vec::new(alloc);
-    let answer = file.read_to_end(&mut bytes);
-    drop(file);
-    match answer {
-        Ok(_) => Ok(bytes),
-        Err(error) => {
-            drop(bytes);
-            Err(error)
-        }
-    }
-}
-
-/// Opens the file for appending, locks it and reads it whole, where it is there.
-fn read_journal<R: Files<File = File>>(
-    rt: &R,
-    alloc: Global,
-    name: &str,
-) -> io::Result<(Option<File>, Vec<u8>)> {
-    match OpenOptions::new().read(true).append(true).open(rt, name) {
-        Ok(file) => read_locked(alloc, file),
-        Err(error) if error.kind() == ErrorKind::NotFound => Ok((None, Vec::new(alloc))),
-        Err(error) => Err(error),
-    }
-}
-
-/// This file, locked, and what it holds.
-fn read_locked(alloc: Global, file: File) -> io::Result<(Option<File>, Vec<u8>)> {
-    let mut file = file;
-    let mut bytes = Vec::new(alloc);
-    match lock_and_read(&mut file, &mut bytes) {
-        Ok(()) => Ok((Some(file), bytes)),
-        Err(error) => {
-            drop(bytes);
+) -> Result<ByteString, Ending<'a>> {
+    match fs::open(rt, name) {
+        Ok(file) => {
+            let answer = held(alloc, name, &file);
             drop(file);
-            Err(error)
+            answer
         }
+        Err(error) => Err(failed(name, error)),
     }
 }
 
-/// Locks this file and reads it whole.
-fn lock_and_read(file: &mut File, bytes: &mut Vec<u8>) -> io::Result<()> {
-    file.try_lock()?;
-    file.read_to_end(bytes)?;
-    Ok(())
+/// How a command ends whose journal can't be locked or made: a lock that is another program's, and a file that was
+/// made since it was looked for, are told as being in use.
+fn taken(name: &str, error: io::Error) -> Ending<'_> {
+    match error.kind() {
+        ErrorKind::WouldBlock | ErrorKind::AlreadyExists => {
+            unread(name, ServeFault::InUse, Some(error))
+        }
+        _ => failed(name, error),
+    }
+}
+
+/// How a command ends to whose journal's file the system said this: want of memory is told as that of every input.
+fn failed(name: &str, error: io::Error) -> Ending<'_> {
+    let fault = match error.kind() {
+        ErrorKind::OutOfMemory => ServeFault::Cli(CliFault::Memory),
+        _ => ServeFault::JournalFailed,
+    };
+    unread(name, fault, Some(error))
+}
+
+/// How a command ends by this fault over the journal of this name, with what the system said of it.
+fn unread(name: &str, fault: ServeFault, system: Option<io::Error>) -> Ending<'_> {
+    match fault {
+        ServeFault::Cli(fault) => {
+            let source = Source::File {
+                option: "journal",
+                name,
+            };
+            Ending::Common(Failure::at(fault, source, system))
+        }
+        fault => Ending::Journal(JournalFailure::of_file(fault, name, system)),
+    }
 }
 
 /// Makes the file, which nobody else may have made meanwhile, and locks it.

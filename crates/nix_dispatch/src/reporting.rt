@@ -24,7 +24,7 @@ pub(crate) fn report<'a, R: Files<File = File> + Input + Print + AllocGlobal + T
     let name = options.get_str("journal").unwrap_or("");
     let journal = match read_aside(rt, alloc, name) {
         Ok(journal) => journal,
-        Err(failure) => return Err(Ending::Journal(failure)),
+        Err(ending) => return Err(ending),
     };
     let answer = report_bytes(rt, alloc, options, name, journal.as_slice());
     drop(journal);

@@ -12,7 +12,7 @@ use nd_explain::{Failure, Heard};
 use nd_kept_run::{KeptEnd, run_kept_engine};
 use nd_run_command::run_engine;
 use nd_serve_command::{Opened, ServeFault};
-use nd_workers::Worker;
+use nd_workers::{Seat, Transport};
 use std::alloc::Global;
 use std::fs::File;
 use std::io::{self, BufWriter, Write};
@@ -22,11 +22,11 @@ use std::thread::Threads;
 
 /// Runs what was opened by these workers, who man its park, with this journal, and writes the history to standard
 /// output, and where asked the report.
-pub(crate) fn run_workers<'a, R: Print + AllocGlobal + Threads + Wait + Sync>(
+pub(crate) fn run_workers<'a, T: Transport, R: Print + AllocGlobal + Threads + Wait + Sync>(
     rt: &R,
     alloc: Global,
     opened: Opened,
-    workers: Vec<Worker>,
+    workers: Vec<Seat<T>>,
     journal: Kept<'a, File>,
     report: bool,
 ) -> Result<u8, Ending<'a>>

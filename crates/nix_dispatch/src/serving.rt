@@ -24,7 +24,7 @@ pub(crate) fn serve<'a, R: Files<File = File> + Input + Print + AllocGlobal + Th
 ) -> Result<u8, Ending<'a>> {
     let found = match find_journal(rt, alloc, options.get_str("journal")) {
         Ok(found) => found,
-        Err(failure) => return Err(Ending::Journal(failure)),
+        Err(ending) => return Err(ending),
     };
     let opened = match open(rt, alloc, options, found.bytes.as_slice()) {
         Ok(opened) => opened,
@@ -35,9 +35,9 @@ pub(crate) fn serve<'a, R: Files<File = File> + Input + Print + AllocGlobal + Th
     };
     match ready_journal(rt, found, opened.kept) {
         Ok(journal) => hold(rt, alloc, opened, journal),
-        Err(failure) => {
+        Err(ending) => {
             mem::forget(opened);
-            Err(Ending::Journal(failure))
+            Err(ending)
         }
     }
 }

@@ -1,20 +1,12 @@
 //! The command `run`: a stand-in for each slot of the park. A dispatch and its workers are left to the system where
 //! the command ends, since the process ends with it.
 
-ghost use Rattle.std.specs.Prelude.{map};
-ghost use Rattle.nd_workers.specs.Runs.{AreManned};
-
 use crate::beginning::{Begun, begin};
 use crate::endings::Ending;
-use crate::journal_files::Kept;
 use crate::running::run_workers;
 use clap::ArgMatches;
-use nd_cli::CliFault;
 use nd_command_line::placed;
-use nd_explain::Failure;
 use nd_run_command::stand_ins;
-use nd_serve_command::Opened;
-use nd_workers::{Seat, StandIn, Transport, Worker};
 use std::alloc::Global;
 use std::fs::File;
 use std::mem;
@@ -37,7 +29,7 @@ pub(crate) fn run_stand_ins<
         Err(ending) => return Err(ending),
     };
     match stand_ins(alloc, &opened.dispatch, rules) {
-        Ok(seats) => run_seated(
+        Ok(seats) => run_workers(
             rt,
             alloc,
             opened,
@@ -51,38 +43,4 @@ pub(crate) fn run_stand_ins<
             Err(Ending::Common(placed(options, fault)))
         }
     }
-}
-
-/// A run by these stand-ins.
-fn run_seated<'a, R: Print + AllocGlobal + Threads + Wait + Sync>(
-    rt: &R,
-    alloc: Global,
-    opened: Opened,
-    seats: Vec<Seat<Box<StandIn>>>,
-    journal: Kept<'a, File>,
-    report: bool,
-) -> Result<u8, Ending<'a>>
-    requires { AreManned opened.dispatch.inputs (map (λ w. (w.machine, w.slot)) seats.items) }
-{
-    let mut workers = Vec::new(alloc);
-    for seat in seats {
-        let Seat {
-            machine,
-            slot,
-            transport,
-        } = seat;
-        let transport: Box<dyn Transport + Send> = transport;
-        let worker = Worker {
-            machine,
-            slot,
-            transport,
-        };
-        if workers.push(worker).is_err() {
-            mem::forget(workers);
-            mem::forget(opened);
-            mem::forget(journal);
-            return Err(Ending::Common(Failure::of(CliFault::Memory)));
-        }
-    }
-    run_workers(rt, alloc, opened, workers, journal, report)
 }
