@@ -1,4 +1,6 @@
-//! The bundles of the worked examples, and their sources.
+//! The bundles of the worked examples, their sources and derivations, and the parts of their lines.
+
+use std::alloc::{AllocError, Global};
 
 /// The sources.
 pub const S1: &str = "/nix/store/pppppppppppppppppppppppppppppppp-s1";
@@ -6,6 +8,58 @@ pub const S1: &str = "/nix/store/pppppppppppppppppppppppppppppppp-s1";
 pub const S2: &str = "/nix/store/qqqqqqqqqqqqqqqqqqqqqqqqqqqqqqqq-s2";
 
 pub const S3: &str = "/nix/store/rrrrrrrrrrrrrrrrrrrrrrrrrrrrrrrr-s3";
+
+/// The derivations.
+pub const DRVS: [&str; 5] = [
+    "/nix/store/00000000000000000000000000000000-n0.drv",
+    "/nix/store/11111111111111111111111111111111-n1.drv",
+    "/nix/store/22222222222222222222222222222222-n2.drv",
+    "/nix/store/33333333333333333333333333333333-n3.drv",
+    "/nix/store/44444444444444444444444444444444-n4.drv",
+];
+
+/// The path of the derivation `n0`.
+pub const N0: &[u8] = b"/nix/store/00000000000000000000000000000000-n0.drv";
+
+/// The text of `n0`, with no inputs, no sources and no environment.
+pub const N0_TEXT: &[u8] =
+    b"Derive([(\"out\",\"/nix/store/aaaaaaaaaaaaaaaaaaaaaaaaaaaaaaaa-n0\",\"\",\"\")],[],[],\"x86_64-linux\",\"/bin/sh\",[],[])";
+
+/// The line of `n0` with this text.
+pub const N0_LINE: &[u8] =
+    b"/nix/store/00000000000000000000000000000000-n0.drv Derive([(\"out\",\"/nix/store/aaaaaaaaaaaaaaaaaaaaaaaaaaaaaaaa-n0\",\"\",\"\")],[],[],\"x86_64-linux\",\"/bin/sh\",[],[])\n";
+
+/// The line of `n0` up to its inputs.
+pub const N0_ON: &[u8] =
+    b"/nix/store/00000000000000000000000000000000-n0.drv Derive([(\"out\",\"/nix/store/aaaaaaaaaaaaaaaaaaaaaaaaaaaaaaaa-n0\",\"\",\"\")],[";
+
+/// The line of `n1` up to its inputs.
+pub const N1_ON: &[u8] =
+    b"/nix/store/11111111111111111111111111111111-n1.drv Derive([(\"out\",\"/nix/store/bbbbbbbbbbbbbbbbbbbbbbbbbbbbbbbb-n1\",\"\",\"\")],[";
+
+/// The input on `n0`.
+pub const NEEDS_N0: &[u8] = b"(\"/nix/store/00000000000000000000000000000000-n0.drv\",[\"out\"])";
+
+/// The input on an output of `n0` that it hasn't.
+pub const NEEDS_DEV: &[u8] = b"(\"/nix/store/00000000000000000000000000000000-n0.drv\",[\"dev\"])";
+
+/// The input on `n0`, of which no output is named.
+pub const NEEDS_NONE: &[u8] = b"(\"/nix/store/00000000000000000000000000000000-n0.drv\",[])";
+
+/// The input on `n1`.
+pub const NEEDS_N1: &[u8] = b"(\"/nix/store/11111111111111111111111111111111-n1.drv\",[\"out\"])";
+
+/// What stands behind the inputs of a line.
+pub const END: &[u8] = b"],[],\"x86_64-linux\",\"/bin/sh\",[],[])\n";
+
+/// The parts, one behind the other.
+pub fn joined(alloc: Global, parts: &[&[u8]]) -> Result<Vec<u8>, AllocError> {
+    let mut bytes = Vec::new(alloc);
+    for part in parts {
+        bytes.extend_from_slice(part)?;
+    }
+    Ok(bytes)
+}
 
 /// One derivation without inputs.
 pub const PLAIN_1: &str =

@@ -1,7 +1,8 @@
 //! Readers and writers that fail.
 
-use crate::running::{Setup, Want, audits, builders, simulates};
+use crate::running::{Call, Grants, Want, answers_on};
 use nd_test_fixtures::bundles::PLAIN_1;
+use nd_test_fixtures::places::park;
 use std::alloc::Global;
 use std::thread::Threads;
 
@@ -18,56 +19,36 @@ const SIMULATED: &str = "\
     machine 1 up 1/1 ssh://m\n\
     drv 0 leased /nix/store/00000000000000000000000000000000-n0.drv\n";
 
-/// A history that chooses a slot for it.
-const HISTORY: &[u8] = b"nix-dispatch-history 1\nchosen 0 1 0\n";
+/// `sim` without a command.
+const SIM: Call<'static> = Call::Sim(b"");
 
-/// Whether `sim` answers so on these devices.
-fn sim_on<R: Threads + Sync>(
+/// What `audit` writes.
+const AUDITED: &str = "legal 1\n";
+
+/// `audit` of a history that chooses a slot for the derivation.
+const AUDIT: Call<'static> = Call::Audit(b"nix-dispatch-history 1\nchosen 0 1 0\n");
+
+/// Whether a command answers so on devices that grant so much.
+fn gives<R: Threads + Sync>(
     rt: &R,
     alloc: Global,
-    reads: usize,
-    writes: usize,
-    want: Want,
+    call: Call<'_>,
+    grants: Grants,
+    want: Want<'_>,
 ) -> bool {
-    let setup = Setup {
-        reads,
-        writes,
-        ..builders("m", 0)
-    };
-    simulates(rt, alloc, PLAIN_1.as_bytes(), &setup, "", want)
+    let place = park(PLAIN_1, "m", 0);
+    answers_on(rt, alloc, &place, PLAIN_1.as_bytes(), grants, call, want)
 }
 
-/// Whether `audit` answers so on these devices.
-fn audit_on<R: Threads + Sync>(
-    rt: &R,
-    alloc: Global,
-    reads: usize,
-    writes: usize,
-    want: Want,
-) -> bool {
-    let setup = Setup {
-        reads,
-        writes,
-        ..builders("m", 0)
-    };
-    audits(rt, alloc, PLAIN_1.as_bytes(), &setup, HISTORY, want)
-}
-
-/// Whether `sim` is cut short by each write that fails, as far as its text takes writes.
-fn is_sim_cut<R: Threads + Sync>(rt: &R, alloc: Global) -> bool {
+/// Whether a command is cut short by each write that fails, as far as its text takes writes.
+fn is_cut<R: Threads + Sync>(rt: &R, alloc: Global, call: Call<'_>, text: &str) -> bool {
     for writes in 0..100 {
-        if !sim_on(rt, alloc, usize::MAX, writes, Want::Cut(SIMULATED)) {
-            return sim_on(rt, alloc, usize::MAX, writes, Want::Written(SIMULATED, 0));
-        }
-    }
-    false
-}
-
-/// Whether `audit` is.
-fn is_audit_cut<R: Threads + Sync>(rt: &R, alloc: Global) -> bool {
-    for writes in 0..100 {
-        if !audit_on(rt, alloc, usize::MAX, writes, Want::Cut("legal 1\n")) {
-            return audit_on(rt, alloc, usize::MAX, writes, Want::Written("legal 1\n", 0));
+        let grants = Grants {
+            writes,
+            ..Grants::ALL
+        };
+        if !gives(rt, alloc, call, grants, Want::Cut(text)) {
+            return gives(rt, alloc, call, grants, Want::Written(text, 0));
         }
     }
     false
@@ -76,31 +57,29 @@ fn is_audit_cut<R: Threads + Sync>(rt: &R, alloc: Global) -> bool {
 #[test]
 fn failing_readers(rt: HostRuntime) {
     for reads in 0..3 {
-        assert!(rt; sim_on(&rt, rt.alloc(), reads, usize::MAX, Want::Unread));
-        assert!(rt; audit_on(&rt, rt.alloc(), reads, usize::MAX, Want::Unread));
+        let grants = Grants {
+            reads,
+            ..Grants::ALL
+        };
+        for call in [SIM, AUDIT] {
+            assert!(rt; gives(&rt, rt.alloc(), call, grants, Want::Unread));
+        }
     }
 }
 
 #[test]
 fn failing_writers(rt: HostRuntime) {
-    assert!(rt; is_sim_cut(&rt, rt.alloc()));
-    assert!(rt; is_audit_cut(&rt, rt.alloc()));
-}
-
-/// A builder and devices that never fail, but for a flush.
-fn unflushed() -> Setup<'static> {
-    Setup {
-        refuses_flush: true,
-        ..builders("m", 0)
-    }
+    assert!(rt; is_cut(&rt, rt.alloc(), SIM, SIMULATED));
+    assert!(rt; is_cut(&rt, rt.alloc(), AUDIT, AUDITED));
 }
 
 #[test]
 fn refused_flushes(rt: HostRuntime) {
-    let alloc = rt.alloc();
-    let bundle = PLAIN_1.as_bytes();
-    let simulated = Want::Held(SIMULATED);
-    assert!(rt; simulates(&rt, alloc, bundle, &unflushed(), "", simulated));
-    let audited = Want::Held("legal 1\n");
-    assert!(rt; audits(&rt, alloc, bundle, &unflushed(), HISTORY, audited));
+    let unflushed = Grants {
+        refuses_flush: true,
+        ..Grants::ALL
+    };
+    for (call, text) in [(SIM, SIMULATED), (AUDIT, AUDITED)] {
+        assert!(rt; gives(&rt, rt.alloc(), call, unflushed, Want::Held(text)));
+    }
 }

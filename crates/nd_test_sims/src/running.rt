@@ -1,29 +1,19 @@
 //! What `sim` and `audit` answer, for the tests beside this file.
 
-use nd_bytes::ByteString;
 use nd_cli::{CliFault, ParkOptions};
 use nd_commands::{audit_engine, sim_engine};
 use nd_devices::Told;
 use nd_test_fixtures::devices::{CountedReader, CountedWriter};
-use nd_test_fixtures::printing::is_printed;
-use std::alloc::{AllocError, Global};
+use nd_test_fixtures::examples::Example;
+use nd_test_fixtures::places::{Place, options};
+use nd_test_fixtures::printing::{Parts, is_printed};
+use nd_test_fixtures::reports::Report;
+use std::alloc::Global;
 use std::thread::Threads;
 
-/// What a command of an example is run with.
-#[derive(Clone, Copy, Debug)]
-pub struct Setup<'a> {
-    /// The builders list.
-    pub builders: &'a str,
-    /// The number of local jobs.
-    pub jobs: u16,
-    /// Whether the rest goes on after a failure.
-    pub keep_going: bool,
-    /// The further local systems.
-    pub extra: &'a str,
-    /// The local features.
-    pub features: &'a str,
-    /// The info text.
-    pub info: &'a str,
+/// What the devices of a command grant.
+#[derive(Clone, Copy)]
+pub struct Grants {
     /// How many reads of 100 bytes at most the input grants before it fails.
     pub reads: usize,
     /// How many writes of 7 bytes at most the output grants before it fails.
@@ -32,19 +22,22 @@ pub struct Setup<'a> {
     pub refuses_flush: bool,
 }
 
-/// These builders and this number of local jobs, and devices that never fail.
-pub(crate) fn builders(builders: &str, jobs: u16) -> Setup<'_> {
-    Setup {
-        builders,
-        jobs,
-        keep_going: false,
-        extra: "",
-        features: "",
-        info: "",
+impl Grants {
+    /// Devices that never fail.
+    pub const ALL: Grants = Grants {
         reads: usize::MAX,
         writes: usize::MAX,
         refuses_flush: false,
-    }
+    };
+}
+
+/// A command over a bundle, with the text that it is given beside it.
+#[derive(Clone, Copy)]
+pub enum Call<'a> {
+    /// `sim` with this script.
+    Sim(&'a [u8]),
+    /// `audit` of this history.
+    Audit(&'a [u8]),
 }
 
 /// What a command is to answer.
@@ -64,140 +57,88 @@ pub enum Want<'a> {
     Held(&'a str),
 }
 
-/// The options of the program.
-fn options(alloc: Global, setup: &Setup<'_>) -> Result<ParkOptions, AllocError> {
-    Ok(ParkOptions {
-        builders: ByteString::from_slice(alloc, setup.builders.as_bytes())?,
-        system: ByteString::from_slice(alloc, b"x86_64-linux")?,
-        extra: ByteString::from_slice(alloc, setup.extra.as_bytes())?,
-        features: ByteString::from_slice(alloc, setup.features.as_bytes())?,
-        jobs: setup.jobs,
-        keep_going: setup.keep_going,
-        check_paths: false,
-        info: ByteString::from_slice(alloc, setup.info.as_bytes())?,
-    })
+/// What a command answered, and its output behind it.
+#[derive(Drop)]
+struct Answered {
+    answer: Result<u8, CliFault>,
+    writer: CountedWriter,
 }
 
-/// Whether `sim` answers so for a bundle and a script. Want of memory is a no.
-pub(crate) fn simulates<R: Threads + Sync>(
-    rt: &R,
-    alloc: Global,
-    bundle: &[u8],
-    setup: &Setup<'_>,
-    script: &str,
-    want: Want<'_>,
-) -> bool {
-    let Ok(options) = options(alloc, setup) else {
-        return false;
-    };
-    let reader = CountedReader::new(bundle, 100, setup.reads);
-    let writer = CountedWriter::new(alloc, 7, setup.writes, setup.refuses_flush);
-    let answers = simulates_on(rt, alloc, &options, script, reader, writer, want);
-    drop(options);
-    answers
-}
-
-/// Whether `sim` answers so on these devices, which end here.
-fn simulates_on<R: Threads + Sync>(
+/// What a command answers on these devices.
+fn answer_of<R: Threads + Sync>(
     rt: &R,
     alloc: Global,
     options: &ParkOptions,
-    script: &str,
+    call: Call<'_>,
     reader: CountedReader<'_>,
     writer: CountedWriter,
-    want: Want<'_>,
-) -> bool {
+) -> Answered {
     let mut input = Told::new(reader);
     let mut output = Told::new(writer);
-    let answer = sim_engine(
+    let answer = match call {
+        Call::Sim(script) => sim_engine(rt, alloc, options, script, &mut input, &mut output),
+        Call::Audit(history) => audit_engine(rt, alloc, options, history, &mut input, &mut output),
+    };
+    drop(input);
+    Answered {
+        answer,
+        writer: output.into_inner(),
+    }
+}
+
+/// Whether a command at a place with this bundle answers so on devices that grant so much.
+pub(crate) fn answers_on<R: Threads + Sync>(
+    rt: &R,
+    alloc: Global,
+    place: &Place<'_>,
+    bundle: &[u8],
+    grants: Grants,
+    call: Call<'_>,
+    want: Want<'_>,
+) -> bool {
+    let options = options(alloc, place);
+    let reader = CountedReader::new(bundle, 100, grants.reads);
+    let writer = CountedWriter::new(alloc, 7, grants.writes, grants.refuses_flush);
+    let Answered { answer, writer } = answer_of(rt, alloc, &options, call, reader, writer);
+    drop(options);
+    let is_wanted = is_wanted(alloc, answer, writer.bytes(), writer.is_flushed(), want);
+    drop(writer);
+    is_wanted
+}
+
+/// Whether a command at a place answers so.
+pub(crate) fn answers<R: Threads + Sync>(
+    rt: &R,
+    alloc: Global,
+    place: &Place<'_>,
+    call: Call<'_>,
+    want: Want<'_>,
+) -> bool {
+    answers_on(
         rt,
         alloc,
-        options,
-        script.as_bytes(),
-        &mut input,
-        &mut output,
-    );
-    drop(input);
-    is_answer(alloc, answer, output, want)
+        place,
+        place.bundle.as_bytes(),
+        Grants::ALL,
+        call,
+        want,
+    )
 }
 
-/// Whether `audit` answers so for a bundle and a history text. Want of memory is a no.
-pub(crate) fn audits<R: Threads + Sync>(
-    rt: &R,
-    alloc: Global,
-    bundle: &[u8],
-    setup: &Setup<'_>,
-    history: &[u8],
-    want: Want<'_>,
-) -> bool {
-    let Ok(options) = options(alloc, setup) else {
-        return false;
-    };
-    let reader = CountedReader::new(bundle, 100, setup.reads);
-    let writer = CountedWriter::new(alloc, 7, setup.writes, setup.refuses_flush);
-    let answers = audits_on(rt, alloc, &options, history, reader, writer, want);
-    drop(options);
-    answers
-}
-
-/// Whether `audit` answers so on these devices, which end here.
-fn audits_on<R: Threads + Sync>(
-    rt: &R,
-    alloc: Global,
-    options: &ParkOptions,
-    history: &[u8],
-    reader: CountedReader<'_>,
-    writer: CountedWriter,
-    want: Want<'_>,
-) -> bool {
-    let mut input = Told::new(reader);
-    let mut output = Told::new(writer);
-    let answer = audit_engine(rt, alloc, options, history, &mut input, &mut output);
-    drop(input);
-    is_answer(alloc, answer, output, want)
-}
-
-/// A digest, gone on with by what `sim` writes and its status. Want of memory leaves the beginning of one.
+/// A digest, gone on with by what `sim` writes and its status.
 pub(crate) fn digest_after<R: Threads + Sync>(
     rt: &R,
     alloc: Global,
-    bundle: &str,
-    setup: &Setup<'_>,
+    place: &Place<'_>,
     script: &str,
     digest: u64,
 ) -> u64 {
-    let Ok(options) = options(alloc, setup) else {
-        return digest;
-    };
-    let reader = CountedReader::new(bundle.as_bytes(), usize::MAX, setup.reads);
-    let writer = CountedWriter::new(alloc, usize::MAX, setup.writes, setup.refuses_flush);
-    let after = digest_on(rt, alloc, &options, script, reader, writer, digest);
+    let options = options(alloc, place);
+    let reader = CountedReader::new(place.bundle.as_bytes(), usize::MAX, usize::MAX);
+    let writer = CountedWriter::new(alloc, usize::MAX, usize::MAX, false);
+    let call = Call::Sim(script.as_bytes());
+    let Answered { answer, writer } = answer_of(rt, alloc, &options, call, reader, writer);
     drop(options);
-    after
-}
-
-/// The same on these devices, which end here.
-fn digest_on<R: Threads + Sync>(
-    rt: &R,
-    alloc: Global,
-    options: &ParkOptions,
-    script: &str,
-    reader: CountedReader<'_>,
-    writer: CountedWriter,
-    digest: u64,
-) -> u64 {
-    let mut input = Told::new(reader);
-    let mut output = Told::new(writer);
-    let answer = sim_engine(
-        rt,
-        alloc,
-        options,
-        script.as_bytes(),
-        &mut input,
-        &mut output,
-    );
-    drop(input);
-    let writer = output.into_inner();
     let after = folded(digest, writer.bytes());
     drop(writer);
     match answer {
@@ -214,19 +155,6 @@ fn folded(digest: u64, text: &[u8]) -> u64 {
         after = (after ^ u64::from(*byte)).wrapping_mul(1_099_511_628_211);
     }
     after
-}
-
-/// Whether this is the wanted answer, with what was written.
-fn is_answer(
-    alloc: Global,
-    answer: Result<u8, CliFault>,
-    output: Told<CountedWriter>,
-    want: Want<'_>,
-) -> bool {
-    let writer = output.into_inner();
-    let is_wanted = is_wanted(alloc, answer, writer.bytes(), writer.is_flushed(), want);
-    drop(writer);
-    is_wanted
 }
 
 /// Whether this is the wanted answer, where this was written, and all of it passed on or not.
@@ -270,66 +198,69 @@ fn is_fault(alloc: Global, fault: &CliFault, status: u8, line: &str) -> bool {
     fault.status() == status && is_printed(alloc, fault, line)
 }
 
-/// Whether `sim` writes this text for a script, and ends with this status.
-pub(crate) fn says<R: Threads + Sync + AllocGlobal>(
+/// What `sim` makes of an example.
+#[derive(Clone, Copy)]
+pub struct Outcome<'a> {
+    /// What it writes before the report, in parts.
+    pub answers: &'a [&'a str],
+    /// What the report says of each machine.
+    pub machines: &'a [&'a str],
+    /// What it says of each derivation.
+    pub drvs: &'a [&'a str],
+    /// The status that it ends with.
+    pub status: u8,
+}
+
+/// Whether `sim` makes this of an example. Want of memory is a no.
+pub(crate) fn comes_to<R: Threads + Sync + AllocGlobal>(
     rt: &R,
-    bundle: &str,
-    setup: &Setup<'_>,
-    script: &str,
-    text: &str,
-    status: u8,
+    example: &Example<'_>,
+    outcome: &Outcome<'_>,
 ) -> bool {
-    let want = Want::Written(text, status);
-    simulates(rt, rt.alloc(), bundle.as_bytes(), setup, script, want)
+    let alloc = rt.alloc();
+    let script = Parts(example.script);
+    let Ok(script) = format!(in alloc; "{script}") else {
+        return false;
+    };
+    let answers_before = Parts(outcome.answers);
+    let report = Report {
+        machines: outcome.machines,
+        drvs: outcome.drvs,
+    };
+    let Ok(text) = format!(in alloc; "{answers_before}{report}") else {
+        return false;
+    };
+    let want = Want::Written(text.as_str(), outcome.status);
+    answers(
+        rt,
+        alloc,
+        &example.place,
+        Call::Sim(script.as_bytes()),
+        want,
+    )
 }
 
 /// Whether `sim` refuses an input with this line.
 pub(crate) fn refuses<R: Threads + Sync + AllocGlobal>(
     rt: &R,
-    bundle: &str,
-    setup: &Setup<'_>,
+    place: &Place<'_>,
     script: &str,
     line: &str,
 ) -> bool {
-    let want = Want::Refused(line);
-    simulates(rt, rt.alloc(), bundle.as_bytes(), setup, script, want)
+    let call = Call::Sim(script.as_bytes());
+    answers(rt, rt.alloc(), place, call, Want::Refused(line))
 }
 
-/// Whether `audit` writes this line for a history text, and ends with this status.
-pub(crate) fn says_of<R: Threads + Sync + AllocGlobal>(
+/// Whether `audit` answers so of a history's text, in parts. Want of memory is a no.
+pub(crate) fn audits<R: Threads + Sync + AllocGlobal>(
     rt: &R,
-    bundle: &str,
-    setup: &Setup<'_>,
-    history: &str,
-    line: &str,
-    status: u8,
+    place: &Place<'_>,
+    history: &[&str],
+    want: Want<'_>,
 ) -> bool {
-    let want = Want::Written(line, status);
-    audits(
-        rt,
-        rt.alloc(),
-        bundle.as_bytes(),
-        setup,
-        history.as_bytes(),
-        want,
-    )
-}
-
-/// Whether `audit` refuses an input with this line.
-pub(crate) fn refuses_history<R: Threads + Sync + AllocGlobal>(
-    rt: &R,
-    bundle: &str,
-    setup: &Setup<'_>,
-    history: &str,
-    line: &str,
-) -> bool {
-    let want = Want::Refused(line);
-    audits(
-        rt,
-        rt.alloc(),
-        bundle.as_bytes(),
-        setup,
-        history.as_bytes(),
-        want,
-    )
+    let history = Parts(history);
+    match format!(in rt.alloc(); "{history}") {
+        Ok(text) => answers(rt, rt.alloc(), place, Call::Audit(text.as_bytes()), want),
+        Err(_) => false,
+    }
 }

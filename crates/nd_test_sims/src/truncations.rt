@@ -1,25 +1,28 @@
 //! Inputs that are cut off.
 
-use crate::running::{Want, audits, builders, simulates};
+use crate::running::{Call, Grants, Want, answers_on};
 use nd_test_fixtures::bundles::CHAIN;
+use nd_test_fixtures::histories::{STORED, VERSION_1};
+use nd_test_fixtures::places::park;
 use std::alloc::Global;
 use std::thread::Threads;
 
-/// The text of a history without entries.
-const EMPTY: &[u8] = b"nix-dispatch-history 1\n";
+/// Whether a command over this bundle answers so.
+fn gives<R: Threads + Sync>(
+    rt: &R,
+    alloc: Global,
+    bundle: &[u8],
+    call: Call<'_>,
+    want: Want<'_>,
+) -> bool {
+    let place = park("", "m", 0);
+    answers_on(rt, alloc, &place, bundle, Grants::ALL, call, want)
+}
 
-/// The text of the stored run's history.
-const STORED: &[u8] = b"\
-    nix-dispatch-history 1\n\
-    chosen 0 1 0\n\
-    started 0 /nix/store/pppppppppppppppppppppppppppppppp-s1\n\
-    built 0 o\n\
-    chosen 1 1 0\n\
-    started 1\n\
-    built 1 o\n\
-    chosen 2 1 0\n\
-    started 2\n\
-    built 2 o\n";
+/// `audit` of a history without entries.
+fn of_no_entries() -> Call<'static> {
+    Call::Audit(VERSION_1.as_bytes())
+}
 
 /// The place of the line behind these, from 0.
 fn lines_before(text: &[u8]) -> usize {
@@ -42,9 +45,8 @@ fn is_bad_bundle<R: Threads + Sync>(rt: &R, alloc: Global, bundle: &[u8], place:
 
 /// Whether `sim` and `audit` refuse this bundle with this line.
 fn is_refused<R: Threads + Sync>(rt: &R, alloc: Global, bundle: &[u8], line: &str) -> bool {
-    let park = builders("m", 0);
-    simulates(rt, alloc, bundle, &park, "", Want::Refused(line))
-        && audits(rt, alloc, bundle, &park, EMPTY, Want::Refused(line))
+    gives(rt, alloc, bundle, Call::Sim(b""), Want::Refused(line))
+        && gives(rt, alloc, bundle, of_no_entries(), Want::Refused(line))
 }
 
 /// Whether the front of the bundle is accepted where it ends with a line, or lacks only its newline,
@@ -52,7 +54,7 @@ fn is_refused<R: Threads + Sync>(rt: &R, alloc: Global, bundle: &[u8], line: &st
 fn is_cut_bundle<R: Threads + Sync>(rt: &R, alloc: Global, front: &[u8], next: u8) -> bool {
     if front.is_empty() || front.ends_with(b"\n") || next == b'\n' {
         let legal = Want::Written("legal 0\n", 0);
-        return audits(rt, alloc, front, &builders("m", 0), EMPTY, legal);
+        return gives(rt, alloc, front, of_no_entries(), legal);
     }
     is_bad_bundle(rt, alloc, front, lines_before(front))
 }
@@ -99,20 +101,14 @@ fn is_cut_history<R: Threads + Sync>(rt: &R, alloc: Global, front: &[u8]) -> boo
 
 /// Whether `audit` answers so for the stored run's bundle and a history.
 fn is_audited<R: Threads + Sync>(rt: &R, alloc: Global, history: &[u8], want: Want) -> bool {
-    audits(
-        rt,
-        alloc,
-        CHAIN.as_bytes(),
-        &builders("m", 0),
-        history,
-        want,
-    )
+    gives(rt, alloc, CHAIN.as_bytes(), Call::Audit(history), want)
 }
 
 /// Whether it is so of each front of the stored run's history.
 fn are_cut_histories<R: Threads + Sync>(rt: &R, alloc: Global) -> bool {
-    for length in 0..STORED.len() {
-        if !is_cut_history(rt, alloc, &STORED[..length]) {
+    let history = STORED.as_bytes();
+    for length in 0..history.len() {
+        if !is_cut_history(rt, alloc, &history[..length]) {
             return false;
         }
     }

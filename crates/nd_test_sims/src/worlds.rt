@@ -2,7 +2,8 @@
 //! the plain rules, which keep nothing but the history; `checks/worlds.py` prints the table anew.
 
 use crate::drawing::{Scribe, draw_builders, draw_bundle, draw_info, draw_script};
-use crate::running::{builders, digest_after};
+use crate::running::digest_after;
+use nd_test_fixtures::places::{NOWHERE, Place};
 use std::alloc::Global;
 use std::thread::Threads;
 
@@ -71,19 +72,17 @@ fn after_texts<R: Threads + Sync>(
     };
     let keep_going = scribe.below(8) > 0;
     let (extra, features) = local_words(&mut scribe);
-    let mut setup = builders(texts.park.text(), jobs);
-    setup.keep_going = keep_going;
-    setup.extra = extra;
-    setup.features = features;
-    setup.info = texts.info.text();
-    digest_after(
-        rt,
-        alloc,
-        texts.bundle.text(),
-        &setup,
-        texts.script.text(),
-        digest,
-    )
+    let place = Place {
+        bundle: texts.bundle.text(),
+        builders: texts.park.text(),
+        jobs,
+        keep_going,
+        extra,
+        features,
+        info: texts.info.text(),
+        ..NOWHERE
+    };
+    digest_after(rt, alloc, &place, texts.script.text(), digest)
 }
 
 /// The texts of a world.
