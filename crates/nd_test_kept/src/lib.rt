@@ -2,10 +2,6 @@
 #![tactic(auto)]
 
 #[cfg(test)]
-mod journals;
-#[cfg(test)]
-mod opening;
-#[cfg(test)]
 mod refusals;
 #[cfg(test)]
 mod reports;

@@ -1,15 +1,15 @@
 //! Runs whose journal refuses each of its calls in turn, and which are gone on from.
 
-use crate::opening::Place;
 use crate::running::{Seen, run_in};
 use nd_serve_command::ServeFault;
 use nd_test_fixtures::bundles::PLAIN_2;
+use nd_test_fixtures::places::{NOWHERE, Place};
 
 /// Two derivations on one slot.
 const PLACE: Place<'static> = Place {
     bundle: PLAIN_2,
-    builders: "",
     jobs: 1,
+    ..NOWHERE
 };
 
 /// The journal of a whole run.

@@ -1,6 +1,5 @@
 //! Reports of journals, and audits of them.
 
-use crate::opening::{Place, options};
 use nd_cli::LIMIT;
 use nd_commands::audit_engine;
 use nd_devices::Told;
@@ -9,7 +8,9 @@ use nd_kept_run::report_engine;
 use nd_serve_command::{ServeFault, journal_bytes};
 use nd_test_fixtures::bundles::PLAIN_2;
 use nd_test_fixtures::devices::{CountedReader, EndlessReader};
+use nd_test_fixtures::places::{NOWHERE, Place, options};
 use nd_test_fixtures::printing::is_printed;
+use nd_test_fixtures::reports::Report;
 use std::alloc::Global;
 use std::thread::Threads;
 
@@ -17,20 +18,24 @@ use std::thread::Threads;
 const PLACE: Place<'static> = Place {
     bundle: PLAIN_2,
     builders: "m - - 2",
-    jobs: 0,
+    ..NOWHERE
 };
 
 /// The report behind one start.
-const ONE_STARTED: &[u8] =
-    b"total 2\nwaiting 1\nleased 1\nbuilt 0\nfailed 0\ncancelled 0\nmachine 0 up 0/0 local\nmachine 1 up 1/2 ssh://m\ndrv 0 leased /nix/store/00000000000000000000000000000000-n0.drv\ndrv 1 waiting /nix/store/11111111111111111111111111111111-n1.drv\n";
+const ONE_STARTED: Report<'static> = Report {
+    machines: &["up 0/0 local", "up 1/2 ssh://m"],
+    drvs: &["leased", "waiting"],
+};
 
 /// The report of no entries.
-const NONE_YET: &[u8] =
-    b"total 2\nwaiting 2\nleased 0\nbuilt 0\nfailed 0\ncancelled 0\nmachine 0 up 0/0 local\nmachine 1 up 0/2 ssh://m\ndrv 0 waiting /nix/store/00000000000000000000000000000000-n0.drv\ndrv 1 waiting /nix/store/11111111111111111111111111111111-n1.drv\n";
+const NONE_YET: Report<'static> = Report {
+    machines: &["up 0/0 local", "up 0/2 ssh://m"],
+    drvs: &["waiting", "waiting"],
+};
 
 /// What `report` writes of a journal with these bytes.
 fn report<R: Threads + Sync>(rt: &R, alloc: Global, journal: &[u8]) -> Result<Vec<u8>, ServeFault> {
-    let options = options(alloc, PLACE);
+    let options = options(alloc, &PLACE);
     let mut input = Told::new(PLACE.bundle.as_bytes());
     let mut output = Told::new(Vec::new(alloc));
     let answer = report_engine(rt, alloc, &options, journal, &mut input, &mut output);
@@ -41,11 +46,11 @@ fn report<R: Threads + Sync>(rt: &R, alloc: Global, journal: &[u8]) -> Result<Ve
     }
 }
 
-/// Whether this is the report.
-fn is_report(answer: Result<Vec<u8>, ServeFault>, wanted: &[u8]) -> bool {
-    match answer {
-        Ok(text) => text.as_slice() == wanted,
-        Err(_) => false,
+/// Whether this is the report. Want of memory is a no.
+fn is_report(alloc: Global, answer: Result<Vec<u8>, ServeFault>, wanted: &Report<'_>) -> bool {
+    match (answer, format!(in alloc; "{wanted}")) {
+        (Ok(text), Ok(wanted)) => text.as_slice() == wanted.as_bytes(),
+        _ => false,
     }
 }
 
@@ -57,49 +62,49 @@ fn is_refused(alloc: Global, answer: Result<Vec<u8>, ServeFault>, line: &str) ->
     }
 }
 
-/// What `audit` writes of the history that a journal with these bytes tells.
-fn audit<R: Threads + Sync>(rt: &R, alloc: Global, journal: &[u8]) -> Option<Vec<u8>> {
-    let options = options(alloc, PLACE);
+/// Whether `audit` writes this line of the history that a journal with these bytes tells.
+fn audits<R: Threads + Sync>(rt: &R, alloc: Global, journal: &[u8], verdict: &str) -> bool {
+    let options = options(alloc, &PLACE);
     let mut input = Told::new(PLACE.bundle.as_bytes());
     let mut output = Told::new(Vec::new(alloc));
     let history = history_of(journal);
     let answer = audit_engine(rt, alloc, &options, history, &mut input, &mut output);
     drop(options);
-    match answer {
-        Ok(_) => Some(output.into_inner()),
-        Err(_) => None,
-    }
-}
-
-/// Whether this was written.
-fn is_verdict(answer: Option<Vec<u8>>, wanted: &[u8]) -> bool {
-    match answer {
-        Some(text) => text.as_slice() == wanted,
-        None => false,
-    }
+    answer.is_ok() && output.into_inner().as_slice() == verdict.as_bytes()
 }
 
 /// A journal whose last line isn't finished is reported up to that line, and one without a line has no entries.
 #[test]
 fn reports_of_whole_lines(rt: HostRuntime) {
-    let alloc = rt.alloc();
-    let torn = b"nix-dispatch-history 2\nchosen 0 1 0\nstarted 0\nbuilt 0";
-    let answer = report(&rt, alloc, torn);
-    assert!(rt; is_report(answer, ONE_STARTED));
-    let begun = report(&rt, alloc, b"nix-disp");
-    assert!(rt; is_report(begun, NONE_YET));
-    let empty = report(&rt, alloc, b"");
-    assert!(rt; is_report(empty, NONE_YET));
+    for (journal, wanted) in [
+        (
+            "nix-dispatch-history 2\nchosen 0 1 0\nstarted 0\nbuilt 0",
+            ONE_STARTED,
+        ),
+        ("nix-disp", NONE_YET),
+        ("", NONE_YET),
+    ] {
+        let answer = report(&rt, rt.alloc(), journal.as_bytes());
+        assert!(rt; is_report(rt.alloc(), answer, &wanted));
+    }
 }
 
 /// A line that is none, and an entry that isn't allowed.
 #[test]
 fn refused_journals(rt: HostRuntime) {
-    let alloc = rt.alloc();
-    let other = report(&rt, alloc, b"nix-dispatch-history 1\n");
-    assert!(rt; is_refused(alloc, other, "nix-dispatch: journal: BadLine 1"));
-    let illegal = report(&rt, alloc, b"nix-dispatch-history 2\nstarted 0\n");
-    assert!(rt; is_refused(alloc, illegal, "nix-dispatch: journal: Illegal 0 Live"));
+    for (journal, line) in [
+        (
+            "nix-dispatch-history 1\n",
+            "nix-dispatch: journal: BadLine 1",
+        ),
+        (
+            "nix-dispatch-history 2\nstarted 0\n",
+            "nix-dispatch: journal: Illegal 0 Live",
+        ),
+    ] {
+        let answer = report(&rt, rt.alloc(), journal.as_bytes());
+        assert!(rt; is_refused(rt.alloc(), answer, line));
+    }
 }
 
 /// A journal without an end is read to one byte past the limit, and refused for its size. One of as many bytes as the
@@ -137,11 +142,11 @@ fn unread_journal(rt: HostRuntime) {
 /// An audit of a journal passes over a last line that isn't finished.
 #[test]
 fn audits_of_whole_lines(rt: HostRuntime) {
-    let alloc = rt.alloc();
-    let torn = audit(&rt, alloc, b"nix-dispatch-history 2\nchosen 0 1 0\nstart");
-    assert!(rt; is_verdict(torn, b"legal 1\n"));
-    let begun = audit(&rt, alloc, b"nix");
-    assert!(rt; is_verdict(begun, b"legal 0\n"));
-    let illegal = audit(&rt, alloc, b"nix-dispatch-history 2\nstarted 0\nst");
-    assert!(rt; is_verdict(illegal, b"illegal 0 Live\n"));
+    for (journal, verdict) in [
+        ("nix-dispatch-history 2\nchosen 0 1 0\nstart", "legal 1\n"),
+        ("nix", "legal 0\n"),
+        ("nix-dispatch-history 2\nstarted 0\nst", "illegal 0 Live\n"),
+    ] {
+        assert!(rt; audits(&rt, rt.alloc(), journal.as_bytes(), verdict));
+    }
 }

@@ -4,8 +4,6 @@ ghost use Rattle.std.specs.Prelude.{◌≡◌, ◌==◌, Some, [], not, map};
 ghost use Rattle.nd_keeping.specs.Scribing.{HoldsDurably, journal_text};
 ghost use Rattle.nd_workers.specs.Runs.{AreManned};
 
-use crate::journals::MemoryJournal;
-use crate::opening::{Place, options};
 use nd_devices::Told;
 use nd_journal::whole_lines;
 use nd_kept_run::{KeptEnd, run_kept_engine};
@@ -13,6 +11,8 @@ use nd_ledger::Dispatch;
 use nd_run_command::{RunInputs, run_inputs, stand_ins};
 use nd_script::Rule;
 use nd_serve_command::{Opened, ServeFault, take_journal};
+use nd_test_fixtures::journals::MemoryJournal;
+use nd_test_fixtures::places::{Place, options};
 use nd_transports::StandIn;
 use nd_workers::Seat;
 use std::alloc::Global;
@@ -41,7 +41,7 @@ pub(crate) fn run_in<R: Threads + Wait + Sync>(
     resumes: bool,
     grants: usize,
 ) -> Option<Seen> {
-    let options = options(alloc, place);
+    let options = options(alloc, &place);
     let mut input = Told::new(place.bundle.as_bytes());
     let given = run_inputs(rt, alloc, &options, b"", &mut input);
     drop(options);
