@@ -138,7 +138,7 @@ for command in serve run; do
   left_alone 'journal: BadLine 2' 3 "--journal, file $journal, line 2" "$command" --bundle "$folder/in" --journal "$journal" --resume
   printf 'nix-dispatch-history 2\nstarted 0\n' > "$journal"
   left_alone 'journal: Illegal 0 Live' 3 "--journal, file $journal, line 2" "$command" --bundle "$folder/in" --journal "$journal" --resume
-  head -c 67108865 /dev/zero > "$journal"
+  truncate -s 1073741825 "$journal"
   left_alone 'history: TooLarge' 3 "--journal, file $journal" "$command" --bundle "$folder/in" --journal "$journal" --resume
   refused 'journal failed' 5 '--journal, file /nowhere/journal' "$command" --bundle "$folder/in" --journal /nowhere/journal
 done

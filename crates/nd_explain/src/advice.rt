@@ -72,7 +72,7 @@ pub fn advice_on(fault: &CliFault) -> Advice
             cure: "lower --jobs or the jobs of builders",
         },
         CliFault::TooLarge(_) => Advice {
-            cause: "the input has more than 67,108,864 bytes",
+            cause: "the input has more than 67,108,864 bytes, or a journal more than 1,073,741,824",
             cure: "make the input smaller; a bundle may be divided",
         },
         CliFault::Read => Advice {

@@ -14,20 +14,19 @@ use Rattle.nd_crashes.specs.Crashes.{IsBegunWith}
 use Rattle.nd_crashes.proofs.Begun.{journals_begin}
 use Rattle.nd_serve_command.specs.Faults.{fault_of_journal}
 use Rattle.nd_cli.specs.declared.options.ParkOptions.{ParkOptions}
-use Rattle.nd_cli.specs.Inputs.{limit}
 use Rattle.nd_cli.specs.declared.fault.Place.{Place}
 use Rattle.nd_cli.specs.declared.fault.CliFault.TheVariants.{TooLarge}
 use Rattle.nd_commands.specs.Opened.{HasInputs, ReadsInputs}
 use Rattle.nd_devices.specs.Watched.{Watched}
-use Rattle.nd_serve_command.specs.Sessions.{MayHold, HoldsSome, IsUntaken, IsJournalFault, BeginsSession, IsOpenFault}
+use Rattle.nd_serve_command.specs.Sessions.{journal_limit, MayHold, HoldsSome, IsUntaken, IsJournalFault, BeginsSession, IsOpenFault}
 use Rattle.nd_serve_command.specs.declared.fault.ServeFault.{ServeFault}
 use Rattle.nd_serve_command.specs.declared.fault.ServeFault.TheVariants.{Cli, NotEmpty, InUse, Journal, JournalFailed}
 
-pub may_resume : (resumes : Bool) (journal : List ℕ) → resumes ≡ true → length journal ≤ limit → MayHold resumes journal
+pub may_resume : (resumes : Bool) (journal : List ℕ) → resumes ≡ true → length journal ≤ journal_limit → MayHold resumes journal
 may_resume true journal same within = within
 may_resume false journal same within = absurd (true≢false (sym same))
 
-pub too_long : (resumes : Bool) (journal : List ℕ) → resumes ≡ true → limit < length journal → IsUntaken journal resumes (TooLarge Place.History)
+pub too_long : (resumes : Bool) (journal : List ℕ) → resumes ≡ true → journal_limit < length journal → IsUntaken journal resumes (TooLarge Place.History)
 too_long resumes journal same long = inl (refl, (same, long))
 
 pub may_be_new : (resumes : Bool) (journal : List ℕ) (none : Bool) → none ≡ (length journal == 0) → none ≡ true → resumes ≡ false → MayHold resumes journal
@@ -44,7 +43,7 @@ pub holds_some : (resumes : Bool) (journal : List ℕ) (none : Bool) → none �
 holds_some resumes journal none is h same = (same, some_held journal (sym is ∙ h))
 
 -- .. and such a journal isn't one that may be begun with
-pub long_not_within : (resumes : Bool) (journal : List ℕ) → resumes ≡ true → limit < length journal → MayHold resumes journal → ⊥
+pub long_not_within : (resumes : Bool) (journal : List ℕ) → resumes ≡ true → journal_limit < length journal → MayHold resumes journal → ⊥
 long_not_within true journal same long within = omega arith
 long_not_within false journal same long none = true≢false (sym same)
 

@@ -1,6 +1,6 @@
 -- What `serve` begins with, and what it comes to. Histories stand oldest first.
 -- Public clauses cite this, but for `ReadsAccepted`, which serves a private one.
-use Rattle.std.specs.Prelude.{◌≡◌, ◌≢◌, ◌⊎◌, ℕ, ◌<◌, ◌≤◌, Bool, true, false, List, [], ◌++◌, length, reverse, Option, Some, Result, Ok, Err, MatchResult}
+use Rattle.std.specs.Prelude.{◌≡◌, ◌≢◌, ◌⊎◌, ℕ, ◌+◌, ◌<◌, ◌≤◌, Bool, true, false, List, [], ◌++◌, length, reverse, Option, Some, Result, Ok, Err, MatchResult}
 use Rattle.nd_desk.specs.declared.event.Event.{Event}
 use Rattle.nd_desk.specs.declared.fault.SessionFault.{SessionFault}
 use Rattle.nd_desk.specs.Notes.{Seen}
@@ -16,7 +16,8 @@ use Rattle.nd_serve.specs.Sessions.{IsSessionCut, Serves, ServesPart, first_of}
 use Rattle.nd_serve.specs.SessionLaws.{IsSimulated}
 use Rattle.nd_crashes.specs.Crashes.{IsBegunWith, SurvivesCrashes}
 use Rattle.nd_cli.specs.Asked.{IsAskFault}
-use Rattle.nd_cli.specs.Inputs.{limit, ReadsWhole, is_read_fault}
+use Rattle.std.specs.Io.KnownBytes.{Consumes, IsAtEnd}
+use Rattle.nd_cli.specs.Inputs.{ReadsWhole, is_read_fault}
 use Rattle.nd_cli.specs.declared.options.ParkOptions.{ParkOptions}
 use Rattle.nd_cli.specs.declared.fault.Place.{Place}
 use Rattle.nd_cli.specs.declared.fault.CliFault.{CliFault}
@@ -29,6 +30,16 @@ use Rattle.nd_serve_command.specs.declared.opened.Opened.{Opened}
 
 -- ---- the opening
 
+-- the most bytes that a journal may have which is gone on from or looked at
+abbrev pub journal_limit : ℕ
+journal_limit = 1073741824
+
+-- a journal's bytes were read: all of them where they are within the limit, and else one byte too many
+pub record ReadsJournal (old new : Option (List ℕ)) (bytes : List ℕ) : Type 0 where
+  pub read : Consumes old new bytes
+  pub most : length bytes ≤ journal_limit + 1
+  pub whole : length bytes ≤ journal_limit → IsAtEnd new
+
 -- why a journal wasn't read: its reader refused and is marked, or memory ran out, which is told as that of every input
 abbrev pub IsJournalUnread : Bool → ServeFault → Type 0
 IsJournalUnread marked (Cli fault) = fault ≡ Memory
@@ -40,9 +51,9 @@ abbrev pub is_journal_failed : {A : Type 0} → Result A ServeFault → Bool
 is_journal_failed (Err JournalFailed) = true
 is_journal_failed _ = false
 
--- a journal that is resumed from is within the limit of an input, and one that isn't holds nothing
+-- a journal that is resumed from is within the limit, and one that isn't holds nothing
 abbrev pub MayHold : Bool → List ℕ → Type 0
-MayHold true journal = length journal ≤ limit
+MayHold true journal = length journal ≤ journal_limit
 MayHold false journal = journal ≡ []
 
 -- .. and this one does hold something
@@ -51,7 +62,7 @@ HoldsSome resumes journal = (resumes ≡ false) × (0 < length journal)
 
 -- .. or this one, which is resumed from, is longer than the limit
 abbrev pub IsTooLong : Bool → List ℕ → Type 0
-IsTooLong resumes journal = (resumes ≡ true) × (limit < length journal)
+IsTooLong resumes journal = (resumes ≡ true) × (journal_limit < length journal)
 
 -- the bundle with this text and the park of the options make these inputs, and the journal tells this legal history
 pub record AcceptsSession (options : ParkOptions) (text journal : List ℕ) (resumes : Bool) (world : World) : Type 0 where

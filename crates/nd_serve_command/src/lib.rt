@@ -17,5 +17,5 @@ pub use failures::{JournalFailure, journal_advice};
 pub use fault::ServeFault;
 pub use opened::Opened;
 pub use opening::{open_session, take_journal};
-pub use reading::journal_bytes;
+pub use reading::{JOURNAL_LIMIT, journal_bytes};
 pub use session::serve_engine;

@@ -10,8 +10,8 @@ ghost use Rattle.nd_serve_command.specs.Sessions.{IsJournalFault, MayHold, Takes
 
 use crate::fault::{ServeFault, journal_fault};
 use crate::opened::Opened;
-use crate::reading::read_dispatch;
-use nd_cli::{CliFault, LIMIT, ParkOptions, Place};
+use crate::reading::{JOURNAL_LIMIT, read_dispatch};
+use nd_cli::{CliFault, ParkOptions, Place};
 use nd_commands::close_dispatch;
 use nd_devices::Told;
 use nd_ledger::Dispatch;
@@ -59,7 +59,7 @@ pub fn open_session<R: Read>(
 /// isn't to be resumed from. The journal itself isn't touched.
 ///
 /// Refuses with `NotEmpty` where the journal holds something and isn't to be resumed from, and one that is to be
-/// with `TooLarge`, as a history text, where it has more than [`LIMIT`] bytes, or else with `BadLine` or `Illegal`,
+/// with `TooLarge`, as a history text, where it has more than [`JOURNAL_LIMIT`] bytes, or else with `BadLine` or `Illegal`,
 /// as [`ResumeError`](nd_resume::ResumeError) says. `Memory` may come at any point. The dispatch is gone then.
 pub fn take_journal(
     alloc: Global,
@@ -92,7 +92,7 @@ pub fn take_journal(
 
 /// Looks at whether a session may begin with a journal that holds these bytes.
 ///
-/// `NotEmpty`: it isn't to be resumed from, and holds something. `TooLarge`: it is, and has more than [`LIMIT`]
+/// `NotEmpty`: it isn't to be resumed from, and holds something. `TooLarge`: it is, and has more than [`JOURNAL_LIMIT`]
 /// bytes.
 #[tactic(auto, using(crate::proofs::Begun::beginnings))]
 fn look_at(journal: &[u8], resumes: bool) -> Result<(), ServeFault>
@@ -101,7 +101,7 @@ fn look_at(journal: &[u8], resumes: bool) -> Result<(), ServeFault>
     ensures unfit { OnErr result (MayHold resumes journal.now → ⊥) }
 {
     if resumes {
-        if journal.len() > LIMIT {
+        if journal.len() > JOURNAL_LIMIT {
             return Err(ServeFault::Cli(CliFault::TooLarge(Place::History)));
         }
         return Ok(());

@@ -2,13 +2,13 @@
 
 ghost use Rattle.std.specs.Prelude.{◌≡◌, ◌||◌, [], false, IfOk, IfErr};
 ghost use Rattle.nd_cli.specs.Asked.{IsAskFault};
-ghost use Rattle.nd_cli.specs.Inputs.{ReadsWhole, is_read_failure};
+ghost use Rattle.nd_cli.specs.Inputs.{is_read_failure};
 ghost use Rattle.nd_commands.specs.Opened.{ReadsInputs};
-ghost use Rattle.nd_serve_command.specs.Sessions.{IsJournalUnread, ReadsAccepted, is_journal_failed};
+ghost use Rattle.nd_serve_command.specs.Sessions.{IsJournalUnread, ReadsAccepted, ReadsJournal, is_journal_failed};
 
 use crate::fault::ServeFault;
 use nd_bytes::ByteString;
-use nd_cli::{CliFault, LIMIT, ParkOptions, read_input};
+use nd_cli::{CliFault, ParkOptions, read_input};
 use nd_commands::open_dispatch;
 use nd_devices::{TakeError, Told};
 use nd_ledger::Dispatch;
@@ -44,17 +44,20 @@ pub(crate) fn read_dispatch<R: Read>(
     }
 }
 
-/// Reads a journal to its end, or to one byte past [`LIMIT`], so that its length says whether it is
+/// The most bytes that a journal may have which is gone on from or looked at.
+pub const JOURNAL_LIMIT: usize = 1_073_741_824;
+
+/// Reads a journal to its end, or to one byte past [`JOURNAL_LIMIT`], so that its length says whether it is
 /// too large.
 ///
 /// `JournalFailed`: the reader refused a read, and is then marked. `Memory`: there was no room for the bytes.
 /// Nothing but a refused read sets the mark.
 pub fn journal_bytes<R: Read>(alloc: Global, input: &mut Told<R>) -> Result<ByteString, ServeFault>
-    ensures read { IfOk result (λ bytes. ReadsWhole (R.remaining input.old.device) (R.remaining input.new.device) bytes) }
+    ensures read { IfOk result (λ bytes. ReadsJournal (R.remaining input.old.device) (R.remaining input.new.device) bytes) }
     ensures fault { IfErr result (IsJournalUnread input.new.is_marked) }
     ensures mark { input.new.is_marked ≡ (input.old.is_marked || is_journal_failed result) }
 {
-    match input.take_all(alloc, LIMIT) {
+    match input.take_all(alloc, JOURNAL_LIMIT) {
         Ok(bytes) => Ok(ByteString::new(bytes)),
         Err(TakeError::Fault) => Err(ServeFault::JournalFailed),
         Err(TakeError::Memory) => Err(ServeFault::Cli(CliFault::Memory)),

@@ -1,13 +1,12 @@
 //! Reports of journals, and audits of them.
 
-use nd_cli::LIMIT;
 use nd_commands::audit_engine;
 use nd_devices::Told;
 use nd_journal::history_of;
 use nd_kept_run::report_engine;
 use nd_serve_command::{ServeFault, journal_bytes};
 use nd_test_fixtures::bundles::PLAIN_2;
-use nd_test_fixtures::devices::{CountedReader, EndlessReader};
+use nd_test_fixtures::devices::CountedReader;
 use nd_test_fixtures::places::{NOWHERE, Place, options};
 use nd_test_fixtures::printing::is_printed;
 use nd_test_fixtures::reports::Report;
@@ -105,23 +104,6 @@ fn refused_journals(rt: HostRuntime) {
         let answer = report(&rt, rt.alloc(), journal.as_bytes());
         assert!(rt; is_refused(rt.alloc(), answer, line));
     }
-}
-
-/// A journal without an end is read to one byte past the limit, and refused for its size. One of as many bytes as the
-/// limit is looked at.
-#[test]
-fn endless_journal(rt: HostRuntime) {
-    let alloc = rt.alloc();
-    let mut endless = Told::new(EndlessReader::new(b"nix-dispatch-history 2\n", b'\n'));
-    let Ok(bytes) = journal_bytes(alloc, &mut endless) else {
-        return;
-    };
-    assert!(rt; bytes.len() == LIMIT + 1);
-    let refused = report(&rt, alloc, bytes.as_slice());
-    assert!(rt; is_refused(alloc, refused, "nix-dispatch: history: TooLarge"));
-    let (within, _) = bytes.as_slice().split_at(LIMIT.min(bytes.len()));
-    let other = report(&rt, alloc, within);
-    assert!(rt; is_refused(alloc, other, "nix-dispatch: journal: BadLine 2"));
 }
 
 /// A refused read is told as the journal's failure, with status 5, and marks the reader.

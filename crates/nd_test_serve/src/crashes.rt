@@ -3,7 +3,6 @@
 use crate::holding::{End, Held, Place, hold, opening, park};
 use crate::journals::Grants;
 use crate::texts::{first_answers, later_lines, plain_bundle, ready_count, starts_and_ends};
-use nd_cli::LIMIT;
 use nd_history::Rule;
 use nd_resume::ResumeError;
 use nd_test_fixtures::bundles::PLAIN_2;
@@ -191,15 +190,4 @@ fn refusals_of_journals(rt: HostRuntime) {
     }
     assert!(rt; opening(&rt, rt.alloc(), place, b"nix", false) == End::NotEmpty);
     assert!(rt; opening(&rt, rt.alloc(), place, b"", false) == End::Status(0));
-}
-
-/// A journal of a byte more than an input may have. It isn't one that a session begins with as a new one either.
-#[test]
-fn long_journal(rt: HostRuntime) {
-    let place = park(PLAIN_2, "m", 0);
-    let Ok(journal) = vec![in rt.alloc(); b'x'; LIMIT + 1] else {
-        return;
-    };
-    assert!(rt; opening(&rt, rt.alloc(), place, journal.as_slice(), true) == End::TooLarge);
-    assert!(rt; opening(&rt, rt.alloc(), place, journal.as_slice(), false) == End::NotEmpty);
 }

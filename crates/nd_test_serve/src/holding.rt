@@ -50,8 +50,6 @@ pub enum End {
     Refused(ResumeError),
     /// The journal holds something, and isn't to be gone on from.
     NotEmpty,
-    /// The journal is longer than a history text may be.
-    TooLarge,
     /// The journal failed.
     JournalFailed,
     /// The input failed.
@@ -78,7 +76,6 @@ fn end_by(fault: ServeFault) -> End {
     match fault {
         ServeFault::Cli(CliFault::Read) => End::InputFailed,
         ServeFault::Cli(CliFault::Write) => End::OutputFailed,
-        ServeFault::Cli(CliFault::TooLarge(nd_cli::Place::History)) => End::TooLarge,
         ServeFault::Cli(_) => End::Other,
         ServeFault::NotEmpty => End::NotEmpty,
         ServeFault::InUse => End::Other,
