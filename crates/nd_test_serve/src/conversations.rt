@@ -1,15 +1,15 @@
 //! Conversations of the worked examples.
 
-use crate::holding::{End, Place, hold, park, simulate};
-use crate::journals::Grants;
+use crate::holding::{End, hold, simulate};
+use crate::outputs::Grants;
 use crate::texts::{
     before_report, first_answers, first_lines, newline_count, ready_count, without_ready,
 };
-use nd_test_fixtures::bundles::{
-    CHAIN, DIAMOND, FLIGHT, LATER, PLAIN_1, PLAIN_2, PLAIN_3, PREFER_2, SHARED, SOURCE_1,
-    STRUCTURED,
-};
-use std::alloc::Global;
+use nd_test_fixtures::bundles::{CHAIN, FLIGHT, STRUCTURED};
+use nd_test_fixtures::examples::{self, Example, TWO_SLOTS};
+use nd_test_fixtures::places::{Place, park};
+use nd_test_fixtures::printing::Parts;
+use std::alloc::{AllocError, Global};
 use std::thread::Threads;
 
 /// Whether the session with these lines answers so and ends with this status. Want of memory is a no.
@@ -31,12 +31,11 @@ fn answers<R: Threads + Sync>(
 /// and so do lines that ask for nothing.
 #[test]
 fn diamond(rt: HostRuntime) {
-    let place = park(DIAMOND, "m - - 2", 0);
     assert!(rt;
         answers(
             &rt,
             rt.alloc(),
-            place,
+            TWO_SLOTS,
             "job 0\nbuilt 0\njob 3\nstart 0\nsomething else\nbuilt 0\nstart 1\n\nreport\nstop\njob 9",
             "\
         chosen 0 1 0\n\
@@ -103,9 +102,23 @@ fn jobs_of_leases(rt: HostRuntime) {
     );
 }
 
-/// Whether a session with these lines, and with one more that asks for the report, answers what `sim` writes and
-/// ends with its status.
-fn simulates<R: Threads + Sync>(rt: &R, alloc: Global, place: Place<'_>, script: &str) -> bool {
+/// A script in parts as whole lines: the last one may have no newline there.
+fn whole_lines(alloc: Global, script: &[&str]) -> Result<String, AllocError> {
+    let parts = Parts(script);
+    let mut lines = format!(in alloc; "{parts}")?;
+    if !lines.as_str().is_empty() && !lines.as_str().ends_with('\n') {
+        lines.push('\n')?;
+    }
+    Ok(lines)
+}
+
+/// Whether a session with the lines of an example, and with one more that asks for the report, answers what
+/// `sim` writes and ends with its status.
+fn simulates<R: Threads + Sync>(rt: &R, alloc: Global, example: &Example<'_>) -> bool {
+    let place = example.place;
+    let Ok(script) = whole_lines(alloc, example.script) else {
+        return false;
+    };
     let Ok(lines) = format!(in alloc; "{script}report\n") else {
         return false;
     };
@@ -166,111 +179,53 @@ fn is_answer_to<R: Threads + Sync>(
 /// The worked examples of choices, down machines and drains.
 #[test]
 fn examples_of_choices(rt: HostRuntime) {
-    let examples = [
-        (park(PLAIN_2, "m", 0), "ask 1\n"),
-        (park(PLAIN_2, "m", 2), "ask 1\n"),
-        (park(PREFER_2, "m", 1), "ask 1\n"),
-        (park(PLAIN_2, "m aarch64-linux", 0), ""),
-        (park(PLAIN_1, "m;n", 0), "down 0\ndown 0\n"),
-        (park(PLAIN_1, "m;n", 0), "down 0\nstop\ndown 0\nstop\n"),
-        (
-            park(PLAIN_3, "m;n", 0),
-            "drain 1\nstart 0\nbuilt 0\nenable 1\ndown 2\nenable 1\nstart 2\nbuilt 2\n",
-        ),
-        (park(PLAIN_2, "", 1), "drain 0\n"),
-        (park("", "m", 0), ""),
-        (park(LATER, "m", 0), ""),
-        (
-            Place {
-                features: "kvm",
-                ..park(STRUCTURED, "m - - 1 1 kvm", 1)
-            },
-            "",
-        ),
-        (park(STRUCTURED, "m", 1), "ask 0\nfail 0 3\n"),
-    ];
-    for (place, script) in examples {
-        assert!(rt; simulates(&rt, rt.alloc(), place, script));
+    let failing = Example {
+        place: park(STRUCTURED, "m", 1),
+        script: &["ask 0\nfail 0 3\n"],
+    };
+    for example in [
+        examples::WAITING,
+        examples::DECLINING,
+        examples::PREFERRING,
+        examples::NO_BUILDER,
+        examples::DOWN,
+        examples::STOPPING,
+        examples::DRAINING,
+        examples::DRAINING_LOCAL,
+        examples::EMPTY,
+        examples::TURNED,
+        examples::STRUCTURED_ATTRIBUTES,
+        failing,
+    ] {
+        assert!(rt; simulates(&rt, rt.alloc(), &example));
     }
 }
 
 /// The worked examples of graphs: what comes too early or twice, and what a failure leaves.
 #[test]
 fn examples_of_graphs(rt: HostRuntime) {
-    let failing = "start 0\nbuilt 0\nstart 1\nstart 2\nfail 1 1\nbuilt 2\nstart 4\nbuilt 4\n";
-    let diamond = park(DIAMOND, "m - - 2", 0);
-    let examples = [
-        (
-            diamond,
-            "\
-            built 0\n\
-            start 3\n\
-            start 0\n\
-            start 0\n\
-            built 0\n\
-            start 1\n\
-            start 2\n\
-            built 1\n\
-            built 2\n\
-            start 3\n\
-            built 3\n\
-            start 4\n\
-            built 4\n",
-        ),
-        (
-            Place {
-                keep_going: true,
-                ..diamond
-            },
-            failing,
-        ),
-        (diamond, failing),
-        (
-            park(CHAIN, "m", 1),
-            "start 0\nbuilt 0\nstart 1\nbuilt 1\nstart 2\nbuilt 2\n",
-        ),
-    ];
-    for (place, script) in examples {
-        assert!(rt; simulates(&rt, rt.alloc(), place, script));
+    let chain = Example {
+        place: park(CHAIN, "m", 1),
+        script: &["start 0\nbuilt 0\nstart 1\nbuilt 1\nstart 2\nbuilt 2\n"],
+    };
+    for example in [
+        examples::BUILDING,
+        examples::KEEPING_GOING,
+        examples::FAILING,
+        chain,
+    ] {
+        assert!(rt; simulates(&rt, rt.alloc(), &example));
     }
 }
 
 /// The worked examples of copies and references. `startwith` is a command of a session too.
 #[test]
 fn examples_of_copies(rt: HostRuntime) {
-    let examples = [
-        (
-            park(FLIGHT, "m - - 2", 0),
-            "\
-            startwith 1 /nix/store/rrrrrrrrrrrrrrrrrrrrrrrrrrrrrrrr-s3\n\
-            startwith 0 /nix/store/pppppppppppppppppppppppppppppppp-s1 /nix/store/qqqqqqqqqqqqqqqqqqqqqqqqqqqqqqqq-s2\n\
-            startwith 1 /nix/store/pppppppppppppppppppppppppppppppp-s1 /nix/store/qqqqqqqqqqqqqqqqqqqqqqqqqqqqqqqq-s2 /nix/store/rrrrrrrrrrrrrrrrrrrrrrrrrrrrrrrr-s3\n\
-            startwith 1 /nix/store/pppppppppppppppppppppppppppppppp-s1 /nix/store/rrrrrrrrrrrrrrrrrrrrrrrrrrrrrrrr-s3\n\
-            start 1\n\
-            built 0 o /nix/store/rrrrrrrrrrrrrrrrrrrrrrrrrrrrrrrr-s3\n\
-            down 0\n\
-            fail 0 3\n\
-            fail 0 3\n",
-        ),
-        (
-            park(SHARED, "m - - 3", 0),
-            "\
-            start 0\n\
-            start 1\n\
-            built 0 o /nix/store/pppppppppppppppppppppppppppppppp-s1\n\
-            built 1 o /nix/store/qqqqqqqqqqqqqqqqqqqqqqqqqqqqqqqq-s2\n\
-            startwith 2 /nix/store/qqqqqqqqqqqqqqqqqqqqqqqqqqqqqqqq-s2\n\
-            start 2\n",
-        ),
-        (
-            Place {
-                info: "/nix/store/pppppppppppppppppppppppppppppppp-s1 /nix/store/qqqqqqqqqqqqqqqqqqqqqqqqqqqqqqqq-s2",
-                ..park(SOURCE_1, "m", 0)
-            },
-            "built 0\nstart 0\n",
-        ),
-    ];
-    for (place, script) in examples {
-        assert!(rt; simulates(&rt, rt.alloc(), place, script));
+    for example in [
+        examples::ENDING_BADLY,
+        examples::SHARING,
+        examples::REFERRING,
+    ] {
+        assert!(rt; simulates(&rt, rt.alloc(), &example));
     }
 }

@@ -1,13 +1,56 @@
 //! Crashes of a session, and sessions that go on from what they left.
 
-use crate::holding::{End, Held, Place, hold, opening, park};
-use crate::journals::Grants;
-use crate::texts::{first_answers, later_lines, plain_bundle, ready_count, starts_and_ends};
+use crate::holding::{End, Held, hold, opening};
+use crate::outputs::Grants;
+use crate::texts::{
+    first_answers, later_lines, newline_count, plain_bundle, ready_count, starts_and_ends,
+};
 use nd_history::Rule;
 use nd_resume::ResumeError;
 use nd_test_fixtures::bundles::PLAIN_2;
+use nd_test_fixtures::places::{Place, park};
 use std::alloc::Global;
 use std::thread::Threads;
+
+/// A session over derivations without inputs, each of which is started and built.
+#[derive(Drop)]
+struct Session {
+    /// The bundle.
+    bundle: String,
+    /// The lines of the session.
+    lines: Vec<u8>,
+    /// What becomes of it where nothing stops it.
+    whole: Held,
+}
+
+impl Session {
+    /// What is answered where nothing stops it.
+    fn text(&self) -> &[u8] {
+        self.whole.text.as_slice()
+    }
+}
+
+/// Derivations without inputs, on four slots.
+fn plain_place(bundle: &str) -> Place<'_> {
+    park(bundle, "m - - 2;n - - 1", 1)
+}
+
+/// The session over so many derivations, where it answers each line and its opening and ends with status 0.
+fn session_of<R: Threads + Sync>(rt: &R, alloc: Global, drvs: u32) -> Option<Session> {
+    let bundle = plain_bundle(alloc, drvs).ok()?;
+    let lines = starts_and_ends(alloc, drvs).ok()?;
+    let place = plain_place(bundle.as_str());
+    let whole = hold(rt, alloc, place, b"", Grants::ALL, lines.as_slice())?;
+    let answers = newline_count(lines.as_slice()).saturating_add(1);
+    if whole.end != End::Status(0) || ready_count(whole.text.as_slice()) != answers {
+        return None;
+    }
+    Some(Session {
+        bundle,
+        lines,
+        whole,
+    })
+}
 
 /// How a session is stopped.
 #[derive(Clone, Copy)]
@@ -24,14 +67,9 @@ struct Stop<'a> {
 
 /// Whether a session is stopped so, and what its journal keeps is gone on from to the same journal as one that
 /// isn't stopped.
-fn goes_on<R: Threads + Sync>(
-    rt: &R,
-    alloc: Global,
-    place: Place<'_>,
-    lines: &[u8],
-    whole: &Held,
-    stop: Stop<'_>,
-) -> bool {
+fn goes_on<R: Threads + Sync>(rt: &R, alloc: Global, session: &Session, stop: Stop<'_>) -> bool {
+    let place = plain_place(session.bundle.as_str());
+    let lines = session.lines.as_slice();
     let Some(stopped) = hold(rt, alloc, place, b"", stop.grants, lines) else {
         return false;
     };
@@ -44,34 +82,21 @@ fn goes_on<R: Threads + Sync>(
     let later = later_lines(lines, answered);
     match hold(rt, alloc, place, left, Grants::ALL, later) {
         Some(resumed) => {
-            resumed.end == whole.end && resumed.journal.bytes() == whole.journal.bytes()
+            resumed.end == session.whole.end
+                && resumed.journal.bytes.as_slice() == session.whole.journal.bytes.as_slice()
         }
         None => false,
     }
-}
-
-/// Derivations without inputs, on four slots.
-fn plain_place(bundle: &str) -> Place<'_> {
-    park(bundle, "m - - 2;n - - 1", 1)
 }
 
 /// A crash at each append and each sync of a session of forty commands, which leaves nothing, a part or all of
 /// what wasn't synced.
 #[test]
 fn crash_at_each_call(rt: HostRuntime) {
-    let Ok(bundle) = plain_bundle(rt.alloc(), 20) else {
-        return;
-    };
-    let Ok(lines) = starts_and_ends(rt.alloc(), 20) else {
-        return;
-    };
-    let place = plain_place(bundle.as_str());
-    let Some(whole) = hold(&rt, rt.alloc(), place, b"", Grants::ALL, lines.as_slice()) else {
+    let Some(session) = session_of(&rt, rt.alloc(), 20) else {
         assert!(rt; false);
         return;
     };
-    assert!(rt; whole.end == End::Status(0));
-    assert!(rt; ready_count(whole.text.as_slice()) == 41);
     // The opening and each command are an append and a sync, and then an answer.
     for calls in 0..82 {
         for quarters in [0, 1, 2, 4] {
@@ -81,41 +106,46 @@ fn crash_at_each_call(rt: HostRuntime) {
                     ..Grants::ALL
                 },
                 end: End::JournalFailed,
-                out: first_answers(whole.text.as_slice(), calls / 2),
+                out: first_answers(session.text(), calls / 2),
                 quarters,
             };
-            assert!(rt; goes_on(&rt, rt.alloc(), place, lines.as_slice(), &whole, stop));
+            assert!(rt; goes_on(&rt, rt.alloc(), &session, stop));
         }
     }
+}
+
+/// Whether a session whose output grants so much ends by that with this out of its answers, and is gone on from.
+fn goes_on_after_output<R: Threads + Sync>(
+    rt: &R,
+    alloc: Global,
+    session: &Session,
+    grants: Grants,
+    out: &[u8],
+) -> bool {
+    let stop = Stop {
+        grants,
+        end: End::OutputFailed,
+        out,
+        quarters: 0,
+    };
+    goes_on(rt, alloc, session, stop)
 }
 
 /// An output that refuses at each byte of the answers: each byte before it is out, and what was told is kept.
 #[test]
 fn output_refused_at_each_byte(rt: HostRuntime) {
-    let Ok(bundle) = plain_bundle(rt.alloc(), 6) else {
-        return;
-    };
-    let Ok(lines) = starts_and_ends(rt.alloc(), 6) else {
-        return;
-    };
-    let place = plain_place(bundle.as_str());
-    let Some(whole) = hold(&rt, rt.alloc(), place, b"", Grants::ALL, lines.as_slice()) else {
+    let Some(session) = session_of(&rt, rt.alloc(), 6) else {
         assert!(rt; false);
         return;
     };
-    assert!(rt; ready_count(whole.text.as_slice()) == 13);
-    for bytes in 0..whole.text.len() {
-        let (out, _) = whole.text.as_slice().split_at(bytes);
-        let stop = Stop {
-            grants: Grants {
-                bytes,
-                ..Grants::ALL
-            },
-            end: End::OutputFailed,
-            out,
-            quarters: 0,
+    let text = session.text();
+    for bytes in 0..text.len() {
+        let grants = Grants {
+            bytes,
+            ..Grants::ALL
         };
-        assert!(rt; goes_on(&rt, rt.alloc(), place, lines.as_slice(), &whole, stop));
+        let (out, _) = text.split_at(bytes);
+        assert!(rt; goes_on_after_output(&rt, rt.alloc(), &session, grants, out));
     }
 }
 
@@ -123,29 +153,17 @@ fn output_refused_at_each_byte(rt: HostRuntime) {
 /// session ends.
 #[test]
 fn each_flush_refused(rt: HostRuntime) {
-    let Ok(bundle) = plain_bundle(rt.alloc(), 6) else {
-        return;
-    };
-    let Ok(lines) = starts_and_ends(rt.alloc(), 6) else {
-        return;
-    };
-    let place = plain_place(bundle.as_str());
-    let Some(whole) = hold(&rt, rt.alloc(), place, b"", Grants::ALL, lines.as_slice()) else {
+    let Some(session) = session_of(&rt, rt.alloc(), 6) else {
         assert!(rt; false);
         return;
     };
-    assert!(rt; ready_count(whole.text.as_slice()) == 13);
     for flushes in 0..13 {
-        let stop = Stop {
-            grants: Grants {
-                flushes,
-                ..Grants::ALL
-            },
-            end: End::OutputFailed,
-            out: first_answers(whole.text.as_slice(), flushes),
-            quarters: 0,
+        let grants = Grants {
+            flushes,
+            ..Grants::ALL
         };
-        assert!(rt; goes_on(&rt, rt.alloc(), place, lines.as_slice(), &whole, stop));
+        let out = first_answers(session.text(), flushes);
+        assert!(rt; goes_on_after_output(&rt, rt.alloc(), &session, grants, out));
     }
 }
 

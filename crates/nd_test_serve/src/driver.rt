@@ -1,10 +1,11 @@
 //! A driver of a session: what it hears, and what it asks for next.
 
-use crate::journals::{Grants, MemoryJournal, MemoryOutput};
+use crate::outputs::{Grants, MemoryOutput};
 use crate::texts::{leased_in, ready_count};
 use nd_bytes::ByteString;
 use nd_desk::{Desk, DeskFault};
 use nd_serve_command::Devices;
+use nd_test_fixtures::journals::MemoryJournal;
 use std::alloc::{AllocError, Global};
 
 /// A command of a driver.

@@ -1,9 +1,11 @@
 //! The conversation of a driver, as the two in examples/serve hold it.
 
 use crate::driver::Driver;
-use crate::holding::{Begun, End, Held, Place, begin, end_of, held_to, hold, park};
-use crate::journals::{Grants, MemoryJournal};
+use crate::holding::{Begun, End, Held, begin, end_of, held_to, hold};
+use crate::outputs::Grants;
 use nd_test_fixtures::bundles::DIAMOND;
+use nd_test_fixtures::journals::MemoryJournal;
+use nd_test_fixtures::places::{Place, park};
 use std::alloc::Global;
 use std::thread::Threads;
 
@@ -148,7 +150,7 @@ fn has_nothing_left<R: Threads + Sync>(
             is_built(&held)
                 && held.text.starts_with(b"ready\n")
                 && opening == 6
-                && held.journal.bytes() == journal
+                && held.journal.bytes.as_slice() == journal
         }
         None => false,
     }
@@ -165,7 +167,7 @@ fn whole_conversation(rt: HostRuntime) {
     assert!(rt; !driven.early && driven.most == 2 && is_built(&driven.held));
     assert!(rt; driven.held.text.starts_with(ANSWERS.as_bytes()));
     assert!(rt; driven.held.text.len() == ANSWERS.len().saturating_add(REPORT.len()));
-    assert!(rt; driven.held.journal.bytes() == JOURNAL.as_bytes());
+    assert!(rt; driven.held.journal.bytes.as_slice() == JOURNAL.as_bytes());
     assert!(rt; has_nothing_left(&rt, rt.alloc(), two_machines(), JOURNAL.as_bytes()));
 }
 
@@ -182,12 +184,18 @@ fn is_driven_on<R: Threads + Sync>(
     if first.early || first.held.end != End::Status(0) {
         return false;
     }
-    let Some(second) = drive(rt, alloc, place, first.held.journal.bytes(), usize::MAX) else {
+    let Some(second) = drive(
+        rt,
+        alloc,
+        place,
+        first.held.journal.bytes.as_slice(),
+        usize::MAX,
+    ) else {
         return false;
     };
     !second.early
         && is_built(&second.held)
-        && has_nothing_left(rt, alloc, place, second.held.journal.bytes())
+        && has_nothing_left(rt, alloc, place, second.held.journal.bytes.as_slice())
 }
 
 /// A driver that ends anywhere, and one that goes on from its journal.

@@ -1,45 +1,16 @@
 //! A session over memory.
 
-use crate::journals::{Grants, MemoryJournal, MemoryOutput};
-use nd_bytes::ByteString;
-use nd_cli::{CliFault, ParkOptions};
+use crate::outputs::{Grants, MemoryOutput};
+use nd_cli::CliFault;
 use nd_commands::sim_engine;
 use nd_desk::Desk;
 use nd_devices::Told;
 use nd_resume::ResumeError;
 use nd_serve_command::{Devices, Opened, ServeFault, open_session, serve_engine};
+use nd_test_fixtures::journals::MemoryJournal;
+use nd_test_fixtures::places::{Place, options};
 use std::alloc::{AllocError, Global};
 use std::thread::Threads;
-
-/// What a session is over.
-#[derive(Clone, Copy)]
-pub struct Place<'a> {
-    /// The bundle.
-    pub bundle: &'a str,
-    /// The builders list.
-    pub builders: &'a str,
-    /// The number of local jobs.
-    pub jobs: u16,
-    /// Whether the rest goes on after a failure.
-    pub keep_going: bool,
-    /// The local features.
-    pub features: &'a str,
-    /// The info text.
-    pub info: &'a str,
-}
-
-/// A bundle with these builders and this number of local jobs. There are no local features and no info text, and
-/// nothing goes on after a failure.
-pub(crate) fn park<'a>(bundle: &'a str, builders: &'a str, jobs: u16) -> Place<'a> {
-    Place {
-        bundle,
-        builders,
-        jobs,
-        keep_going: false,
-        features: "",
-        info: "",
-    }
-}
 
 /// How a session ended.
 #[derive(Clone, Copy, Debug, PartialEq, Eq)]
@@ -93,28 +64,6 @@ pub struct Simulated {
     pub status: u8,
 }
 
-/// A text as an option has it: an empty one where there is no memory for it.
-fn given(alloc: Global, text: &str) -> ByteString {
-    match ByteString::from_slice(alloc, text.as_bytes()) {
-        Ok(given) => given,
-        Err(AllocError) => ByteString::new(Vec::new(alloc)),
-    }
-}
-
-/// The options of the program.
-fn options(alloc: Global, place: Place<'_>) -> ParkOptions {
-    ParkOptions {
-        builders: given(alloc, place.builders),
-        system: given(alloc, "x86_64-linux"),
-        extra: given(alloc, ""),
-        features: given(alloc, place.features),
-        jobs: place.jobs,
-        keep_going: place.keep_going,
-        check_paths: false,
-        info: given(alloc, place.info),
-    }
-}
-
 /// The session that is opened with these bytes of a journal.
 fn opened<R: Threads + Sync>(
     rt: &R,
@@ -123,7 +72,7 @@ fn opened<R: Threads + Sync>(
     journal: &[u8],
     resumes: bool,
 ) -> Result<Opened, End> {
-    let options = options(alloc, place);
+    let options = options(alloc, &place);
     let mut input = Told::new(place.bundle.as_bytes());
     let opened = open_session(rt, alloc, &options, journal, resumes, &mut input);
     drop(options);
@@ -231,7 +180,7 @@ pub(crate) fn simulate<R: Threads + Sync>(
     place: Place<'_>,
     script: &[u8],
 ) -> Option<Simulated> {
-    let options = options(alloc, place);
+    let options = options(alloc, &place);
     let mut input = Told::new(place.bundle.as_bytes());
     let mut output = Told::new(Vec::new(alloc));
     let answer = sim_engine(rt, alloc, &options, script, &mut input, &mut output);

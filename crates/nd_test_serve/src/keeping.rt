@@ -4,9 +4,9 @@ ghost use Rattle.std.specs.Prelude.{◌≡◌, []};
 ghost use Rattle.std.specs.Bool.{OnTrue};
 ghost use Rattle.nd_history.specs.Sameness.{BeginsWith};
 
-use crate::journals::MemoryJournal;
 use nd_history::{Entry, Why};
 use nd_keeping::Scribe;
+use nd_test_fixtures::journals::MemoryJournal;
 use std::alloc::Global;
 
 /// The text of three entries in a journal.
@@ -70,7 +70,7 @@ fn comes_to(alloc: Global, grants: usize, kept: usize, durable: &[u8]) -> bool {
     let Some(entries) = entries(alloc) else {
         return false;
     };
-    let journal = MemoryJournal::empty(alloc, grants);
+    let journal = MemoryJournal::holding(Vec::new(alloc), grants);
     let mut scribe = match Scribe::new(alloc, journal, false, &[]) {
         Ok(scribe) => scribe,
         Err(_) => return false,

@@ -13,10 +13,10 @@ mod driving;
 #[cfg(test)]
 mod holding;
 #[cfg(test)]
-mod journals;
-#[cfg(test)]
 mod keeping;
 #[cfg(test)]
 mod lines;
+#[cfg(test)]
+mod outputs;
 #[cfg(test)]
 mod texts;

@@ -1,16 +1,11 @@
 //! Lines that ask for nothing, and sessions that end within a line.
 
-use crate::holding::{End, Held, Place, hold, park};
-use crate::journals::Grants;
+use crate::holding::{End, Held, hold};
+use crate::outputs::Grants;
 use crate::texts::{first_answers, newline_count, ready_count};
-use nd_test_fixtures::bundles::DIAMOND;
+use nd_test_fixtures::examples::TWO_SLOTS;
 use std::alloc::Global;
 use std::thread::Threads;
-
-/// A graph with inputs, on two slots.
-fn two_slots() -> Place<'static> {
-    park(DIAMOND, "m - - 2", 0)
-}
 
 /// Whether this line is answered as one that asks for nothing, and the one behind it as ever.
 fn is_passed_over<R: Threads + Sync>(rt: &R, alloc: Global, line: &[u8]) -> bool {
@@ -21,7 +16,7 @@ fn is_passed_over<R: Threads + Sync>(rt: &R, alloc: Global, line: &[u8]) -> bool
         return false;
     }
     let wanted = b"chosen 0 1 0\nready\nrefused BadLine\nready\nstarted 0\nready\n".as_slice();
-    match hold(rt, alloc, two_slots(), b"", Grants::ALL, lines.as_slice()) {
+    match hold(rt, alloc, TWO_SLOTS, b"", Grants::ALL, lines.as_slice()) {
         Some(held) => held.end == End::Status(0) && held.text.as_slice() == wanted,
         None => false,
     }
@@ -70,7 +65,7 @@ fn ends_within<R: Threads + Sync>(
     status: u8,
 ) -> bool {
     let (cut, _) = lines.split_at(end.min(lines.len()));
-    let Some(held) = hold(rt, alloc, two_slots(), b"", Grants::ALL, cut) else {
+    let Some(held) = hold(rt, alloc, TWO_SLOTS, b"", Grants::ALL, cut) else {
         return false;
     };
     let turns = newline_count(cut).saturating_add(1);
@@ -93,11 +88,11 @@ fn ends_as_a_line<R: Threads + Sync>(rt: &R, alloc: Global, cut: &[u8], held: &H
     if lines.push(b'\n').is_err() {
         return false;
     }
-    match hold(rt, alloc, two_slots(), b"", Grants::ALL, lines.as_slice()) {
+    match hold(rt, alloc, TWO_SLOTS, b"", Grants::ALL, lines.as_slice()) {
         Some(other) => {
             other.end == held.end
                 && other.text.as_slice() == held.text.as_slice()
-                && other.journal.bytes() == held.journal.bytes()
+                && other.journal.bytes.as_slice() == held.journal.bytes.as_slice()
         }
         None => false,
     }
@@ -107,7 +102,7 @@ fn ends_as_a_line<R: Threads + Sync>(rt: &R, alloc: Global, cut: &[u8], held: &H
 #[test]
 fn end_at_each_byte(rt: HostRuntime) {
     let lines = b"start 0\nbuilt 0\njob 1\nstart 2\nask 3\nfail 2 1\n".as_slice();
-    let Some(whole) = hold(&rt, rt.alloc(), two_slots(), b"", Grants::ALL, lines) else {
+    let Some(whole) = hold(&rt, rt.alloc(), TWO_SLOTS, b"", Grants::ALL, lines) else {
         assert!(rt; false);
         return;
     };
