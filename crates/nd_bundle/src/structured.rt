@@ -9,7 +9,7 @@ ghost use Rattle.nd_bundle.specs.Wishes.{Says};
 
 use crate::refusal::LineError;
 use nd_bytes::{ByteString, Items};
-use nd_eligible::FeatureSet;
+use nd_machines::FeatureSet;
 use serde_json::Value;
 use std::alloc::Global;
 

@@ -2,10 +2,10 @@
 //! lists, the cutting of a text at a byte, and decimal numbers.
 #![tactic(auto)]
 
-pub mod byte_string;
-pub mod cutting;
-pub mod decimals;
-pub mod items;
+mod byte_string;
+mod cutting;
+mod decimals;
+mod items;
 
 pub use byte_string::ByteString;
 pub use cutting::cut;

@@ -2,13 +2,13 @@
 //! options, the reading of an input, the park that is described, and faults.
 #![tactic(auto)]
 
-pub mod ask;
+mod ask;
 mod asks;
-pub mod fault;
-pub mod input;
-pub mod options;
-pub mod park;
-pub mod path;
+mod fault;
+mod input;
+mod options;
+mod park;
+mod path;
 
 pub use ask::ask_engine;
 pub use fault::{CliFault, DerivationError, HistoryTextError, Place};

@@ -1,11 +1,11 @@
 //! References between store paths, and the closures that they make.
 #![tactic(auto)]
 
-pub mod closures;
-pub mod info_error;
-pub mod info_text;
-pub mod output_refs;
-pub mod ref_table;
+mod closures;
+mod info_error;
+mod info_text;
+mod output_refs;
+mod ref_table;
 
 pub use closures::{reach, sorted};
 pub use info_error::InfoError;

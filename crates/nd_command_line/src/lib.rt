@@ -2,7 +2,7 @@
 //! fault over what was given.
 #![tactic(auto)]
 
-pub mod bundles;
+mod bundles;
 mod failing;
 mod inputs;
 mod words;

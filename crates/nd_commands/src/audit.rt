@@ -13,7 +13,7 @@ use crate::reading::read_audit_inputs;
 use crate::verdict::{write_illegal, write_legal};
 use nd_cli::{CliFault, Park, ParkOptions};
 use nd_devices::{Fault, Told};
-use nd_ledger::{Entry, Rule};
+use nd_history::{Entry, Rule};
 use nd_report::{AuditError, audit};
 use std::alloc::Global;
 use std::io::{Read, Write};

@@ -6,8 +6,8 @@ ghost use Rattle.nd_cli.specs.Inputs.{OkUnlessMemory};
 ghost use Rattle.nd_commands.specs.Audited.{HasHistory, IsHistoryFault};
 
 use nd_cli::{CliFault, HistoryTextError, LIMIT, Place};
-use nd_ledger::Entry;
-use nd_report::{HistoryError, read_history};
+use nd_history::Entry;
+use nd_history_text::{HistoryError, read_history};
 use std::alloc::Global;
 
 /// The entries of a history text.

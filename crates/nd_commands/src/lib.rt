@@ -2,12 +2,12 @@
 //! writer.
 #![tactic(auto)]
 
-pub mod audit;
+mod audit;
 mod history;
 mod opening;
 mod reading;
 mod script;
-pub mod sim;
+mod sim;
 mod simulation;
 mod verdict;
 

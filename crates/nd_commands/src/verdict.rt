@@ -9,7 +9,7 @@ ghost use Rattle.nd_commands.specs.Audited.{legal_line, illegal_line, refusal_wo
 
 use itoa::Buffer;
 use nd_devices::{Fault, Told};
-use nd_ledger::Rule;
+use nd_history::Rule;
 use std::io::Write;
 
 /// Writes that a history of so many entries is legal, and has the writer pass on what it holds back.

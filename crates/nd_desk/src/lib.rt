@@ -2,10 +2,10 @@
 //! each in one list, so that a contract can say what came before what.
 #![tactic(auto)]
 
-pub mod desk;
-pub mod event;
-pub mod fault;
-pub mod handing;
+mod desk;
+mod event;
+mod fault;
+mod handing;
 
 pub use desk::Desk;
 pub use event::Event;

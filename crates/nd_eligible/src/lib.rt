@@ -2,15 +2,14 @@
 //! machine, and the test of the one against the other.
 #![tactic(auto)]
 
-pub mod classes;
-pub mod eligibility;
-pub mod feature_words;
-pub mod local;
-pub mod need;
+mod classes;
+mod eligibility;
+mod feature_words;
+mod local;
+mod need;
 
 pub use classes::{Classes, eligible_places};
 pub use eligibility::{eligible, local_ok};
 pub use feature_words::words;
 pub use local::Local;
-pub use nd_machines::FeatureSet;
 pub use need::Need;

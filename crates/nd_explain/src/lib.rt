@@ -2,13 +2,13 @@
 //! the rule wants.
 #![tactic(auto)]
 
-pub mod advice;
-pub mod excerpts;
-pub mod failures;
-pub mod hearing;
-pub mod parts;
-pub mod pieces;
-pub mod sources;
+mod advice;
+mod excerpts;
+mod failures;
+mod hearing;
+mod parts;
+mod pieces;
+mod sources;
 
 pub use advice::{Advice, advice_on};
 pub use excerpts::excerpt;

@@ -2,11 +2,11 @@
 //! in which every node stands after its inputs.
 #![tactic(auto)]
 
-pub mod fault;
-pub mod graph;
-pub mod number;
-pub mod order;
-pub mod places;
+mod fault;
+mod graph;
+mod number;
+mod order;
+mod places;
 
 pub use fault::OrderError;
 pub use graph::{Graph, Input, NODE_LIMIT};

@@ -2,12 +2,12 @@
 #![tactic(auto)]
 
 pub mod auditing;
-pub mod book;
+mod book;
 pub mod deciding;
-pub mod entry;
-pub mod inputs;
+mod entry;
+mod inputs;
 pub mod laws;
-pub mod rule;
+mod rule;
 mod sameness;
 pub mod stepping;
 mod tables;

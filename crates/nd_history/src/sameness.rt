@@ -6,9 +6,9 @@ ghost use Rattle.nd_history.specs.Sameness.{IsSameNode, BeginsWith};
 use crate::entry::{Entry, Why};
 use nd_bytes::ByteString;
 use nd_closure::Refs;
-use nd_eligible::{FeatureSet, Local, Need};
+use nd_eligible::{Local, Need};
+use nd_machines::{FeatureSet, Machine};
 use nd_graph::{Graph, Input};
-use nd_machines::Machine;
 use nd_path::{PathSet, StorePath};
 
 /// Values of which it can be told whether they are the same.

@@ -2,11 +2,11 @@
 //! read back from their lines.
 #![tactic(auto)]
 
-pub mod cutting;
-pub mod journal;
+mod cutting;
+mod journal;
 pub mod laws;
-pub mod looking;
-pub mod telling;
+mod looking;
+mod telling;
 
 pub use cutting::whole_lines;
 pub use journal::{Journal, JournalError, first_line, read_journal};

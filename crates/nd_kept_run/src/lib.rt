@@ -1,9 +1,9 @@
 //! Runs with a journal: the run and what is written of it, and the report of the history that a journal tells.
 #![tactic(auto)]
 
-pub mod engine;
-pub mod kept_end;
-pub mod reporting;
+mod engine;
+mod kept_end;
+mod reporting;
 
 pub use engine::run_kept_engine;
 pub use kept_end::KeptEnd;

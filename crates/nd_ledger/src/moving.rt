@@ -10,12 +10,10 @@ ghost use Rattle.nd_provision.specs.Stored.{AreStored, IsSameStored};
 
 use crate::refusal::Refusal;
 use nd_closure::Refs;
-use nd_history::book::Book;
-use nd_history::inputs::Inputs;
+use nd_history::{Book, Inputs};
 use nd_leases::Ticket;
 use nd_path::PathSet;
-use nd_provision::copying::{Additions, PathsError};
-use nd_provision::stores::Stores;
+use nd_provision::{Additions, PathsError, Stores};
 use std::alloc::Global;
 
 /// Whether the ticket is a live lease's.

@@ -5,7 +5,7 @@ ghost use Rattle.nd_ledger.specs.declared.refusal.Refusal.TheVariants.{Memory};
 ghost use Rattle.nd_ledger.specs.declared.refusal.AdmitError.TheVariants.{Memory as NoMemory};
 ghost use Rattle.nd_ledger.specs.Admitting.{admit_error_for};
 
-use nd_history::rule::Rule;
+use nd_history::Rule;
 use std::alloc::AllocError;
 use std::error::Error;
 use std::fmt;

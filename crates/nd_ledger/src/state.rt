@@ -6,8 +6,7 @@ ghost use Rattle.nd_history.specs.Marks.{board_after, CanFollow};
 ghost use Rattle.nd_pump.specs.Turned.{machine_of as leased_on, touched};
 
 use nd_failure::Board;
-use nd_history::book::Book;
-use nd_history::entry::Entry;
+use nd_history::{Book, Entry};
 use nd_pump::Turns;
 use std::alloc::AllocError;
 

@@ -2,12 +2,12 @@
 //! names them.
 #![tactic(auto)]
 
-pub mod builders;
-pub mod feature_set;
+mod builders;
+mod feature_set;
 mod fields;
 pub mod laws;
-pub mod machine;
-pub mod machine_error;
+mod machine;
+mod machine_error;
 mod reading;
 
 pub use builders::parse_builders;

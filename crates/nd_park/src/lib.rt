@@ -1,7 +1,7 @@
 //! The command `park`: a line for each slot of a park.
 #![tactic(auto)]
 
-pub mod engine;
+mod engine;
 mod slot_lines;
 
 pub use engine::park_engine;

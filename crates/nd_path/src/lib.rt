@@ -1,11 +1,11 @@
 //! Store paths: their texts, sets of them, Nix's base 32, and the paths of texts.
 #![tactic(auto)]
 
-pub mod encoding;
-pub mod path_error;
-pub mod path_set;
-pub mod store_path;
-pub mod texts;
+mod encoding;
+mod path_error;
+mod path_set;
+mod store_path;
+mod texts;
 
 pub use encoding::{base32, fold};
 pub use path_error::PathError;

@@ -2,11 +2,11 @@
 #![tactic(auto)]
 
 mod checks;
-pub mod copying;
+mod copying;
 mod near;
 mod needs;
 mod numbering;
-pub mod stores;
+mod stores;
 
 pub use copying::{Additions, PathsError};
 pub use stores::Stores;

@@ -15,7 +15,7 @@ use crate::numbering::{number_build, number_given, numbers_at_hand};
 use nd_bytes::Items;
 use nd_closure::{RefTable, Refs, reach};
 use nd_graph::Graph;
-use nd_history::inputs::Inputs;
+use nd_history::Inputs;
 use nd_path::{PathSet, StorePath};
 use nd_path_numbers::{Holdings, PathNumbers, copy_rows, match_unheld, reach_unheld};
 use std::alloc::{AllocError, Global};

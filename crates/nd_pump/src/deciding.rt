@@ -9,9 +9,7 @@ ghost use Rattle.nd_pump.specs.Vacancies.{AreVacant};
 
 use crate::few::Few;
 use crate::vacancies::Vacancies;
-use nd_history::book::Book;
-use nd_history::deciding::{builder_loads, builder_ups};
-use nd_history::inputs::Inputs;
+use nd_history::{Book, Inputs, deciding::builder_loads, deciding::builder_ups};
 use nd_hook::{Decision, Reply, decide_among, decide_in, reply_in};
 use nd_kinds::Kind;
 

@@ -11,10 +11,7 @@ ghost use Rattle.nd_pump.specs.Taking.{IsTaken};
 
 use crate::turns::Turns;
 use nd_failure::Board;
-use nd_history::book::Book;
-use nd_history::entry::Entry;
-use nd_history::inputs::Inputs;
-use nd_history::stepping::step_for;
+use nd_history::{Book, Entry, Inputs, stepping::step_for};
 
 /// The step of derivation `drv`, whose turn it is. Where it isn't ready, or is to wait, there is none,
 /// and its turn is over.

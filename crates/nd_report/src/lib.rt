@@ -1,5 +1,4 @@
-//! The audit of a history, and the report of how a dispatch stands. The readers and writers of history
-//! texts, which are those of `nd_history_text`, are handed on.
+//! The audit of a history, and the report of how a dispatch stands.
 #![tactic(auto)]
 
 mod audit_error;
@@ -8,5 +7,4 @@ mod report_writing;
 
 pub use audit_error::AuditError;
 pub use auditing::audit;
-pub use nd_history_text::{HistoryError, kinds, laws, read_history, write_history, write_lines};
 pub use report_writing::write_report;

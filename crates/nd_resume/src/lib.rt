@@ -3,8 +3,8 @@
 #![tactic(auto)]
 
 pub mod laws;
-pub mod resume_error;
-pub mod resuming;
+mod resume_error;
+mod resuming;
 
 pub use resume_error::ResumeError;
 pub use resuming::resume;

@@ -2,10 +2,10 @@
 //! writes of a run with them on threads.
 #![tactic(auto)]
 
-pub mod ending;
-pub mod engine;
-pub mod given;
-pub mod seating;
+mod ending;
+mod engine;
+mod given;
+mod seating;
 
 pub use ending::{exit_status, refusal, write_end};
 pub use engine::run_engine;

@@ -2,15 +2,15 @@
 //! stand-ins of a run answer: one line for each rule.
 #![tactic(auto)]
 
-pub mod command;
+mod command;
 mod line_error;
 mod lines;
 mod reading;
-pub mod rule;
-pub mod script_error;
-pub mod script_text;
+mod rule;
+mod script_error;
+mod script_text;
 mod stand_lines;
-pub mod stand_text;
+mod stand_text;
 mod topic;
 mod verb;
 mod words;

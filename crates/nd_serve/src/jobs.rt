@@ -10,7 +10,8 @@ ghost use Rattle.nd_serve.specs.Turns.{job_words};
 
 use nd_devices::{Fault, Page, Told, WriteError};
 use nd_history_text::rows::{Word, put_row};
-use nd_ledger::{Dispatch, Job, Refusal, Ticket};
+use nd_leases::Ticket;
+use nd_ledger::{Dispatch, Job, Refusal};
 use nd_sim::{live_ticket, write_refused};
 use std::alloc::{AllocError, Global};
 use std::io;

@@ -6,8 +6,8 @@ mod asking;
 mod jobs;
 pub mod laws;
 mod preparing;
-pub mod request;
-pub mod session;
+mod request;
+mod session;
 
 pub use asking::read_request;
 pub use request::Request;

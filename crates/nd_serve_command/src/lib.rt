@@ -3,14 +3,14 @@
 //! by are those of runs too.
 #![tactic(auto)]
 
-pub mod devices;
-pub mod failures;
-pub mod fault;
+mod devices;
+mod failures;
+mod fault;
 mod lines;
-pub mod opened;
-pub mod opening;
-pub mod reading;
-pub mod session;
+mod opened;
+mod opening;
+mod reading;
+mod session;
 
 pub use devices::Devices;
 pub use failures::{JournalFailure, journal_advice};

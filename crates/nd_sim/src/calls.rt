@@ -9,7 +9,8 @@ ghost use Rattle.nd_sim.specs.Outcomes.{IsAnswer, IsRefusal};
 use crate::answer::Answer;
 use crate::leases::{lacking, live_ticket, no_reports};
 use nd_closure::Refs;
-use nd_ledger::{Dispatch, Refusal, Why};
+use nd_history::Why;
+use nd_ledger::{Dispatch, Refusal};
 use nd_path::PathSet;
 use std::alloc::{AllocError, Global};
 

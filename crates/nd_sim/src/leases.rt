@@ -8,7 +8,8 @@ ghost use Rattle.nd_ledger.specs.Refusals.{IsLive};
 ghost use Rattle.nd_sim.specs.Answers.{HasNoLease, no_references};
 
 use nd_closure::Refs;
-use nd_ledger::{Dispatch, Refusal, Ticket};
+use nd_leases::Ticket;
+use nd_ledger::{Dispatch, Refusal};
 use nd_path::PathSet;
 use std::alloc::{AllocError, Global};
 

@@ -1,14 +1,14 @@
 //! Simulations: the commands of a script as calls on a dispatch, and the text that is written of them.
 #![tactic(auto)]
 
-pub mod answer;
+mod answer;
 mod calls;
-pub mod commands;
-pub mod fault;
+mod commands;
+mod fault;
 pub mod laws;
 mod leases;
 mod lines;
-pub mod turns;
+mod turns;
 
 pub use answer::Answer;
 pub use commands::obey;

@@ -1,7 +1,7 @@
 //! The lines of entries. A store path is told by its name alone, since no two paths of the examples have
 //! the same one.
 
-use nd_ledger::{Entry, Why};
+use nd_history::{Entry, Why};
 use nd_path::PathSet;
 use std::alloc::{AllocError, Global};
 

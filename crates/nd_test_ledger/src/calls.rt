@@ -3,7 +3,9 @@
 //! The ticket is that of the derivation's live lease. The sources are named `s1`, `s2` and `s3`.
 
 use nd_bytes::decimal;
-use nd_ledger::{Dispatch, Refs, Refusal, Ticket};
+use nd_closure::Refs;
+use nd_leases::Ticket;
+use nd_ledger::{Dispatch, Refusal};
 use nd_path::{PathSet, StorePath};
 use nd_test_fixtures::bundles::{S1, S2, S3};
 use std::alloc::{AllocError, Global};

@@ -1,7 +1,8 @@
 //! What a lease's start wants, copies of a dispatch, and a local machine that is drained.
 
 use crate::calls::make;
-use nd_ledger::{Dispatch, Ticket};
+use nd_leases::Ticket;
+use nd_ledger::Dispatch;
 use nd_path::PathSet;
 use nd_test_fixtures::bundles::{FLIGHT, PLAIN_2, S1, S2, S3};
 use nd_test_fixtures::parks::{Park, builders_alone, close, dispatch_of};

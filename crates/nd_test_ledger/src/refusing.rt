@@ -2,7 +2,8 @@
 //! memory too: `checks/allocations.sh` refuses their allocations in turn.
 
 use crate::calls::make;
-use nd_ledger::{Dispatch, Refusal, Why};
+use nd_history::Why;
+use nd_ledger::{Dispatch, Refusal};
 use nd_test_fixtures::bundles::FLIGHT;
 use nd_test_fixtures::entries::told;
 use nd_test_fixtures::parks::{Unmade, builders_alone, close, dispatch_of};

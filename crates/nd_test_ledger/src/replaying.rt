@@ -1,8 +1,10 @@
 //! Dispatches with the history of a text, and their reports.
 
 use nd_devices::Told;
-use nd_ledger::{Dispatch, Entry};
-use nd_report::{read_history, write_report};
+use nd_history::Entry;
+use nd_ledger::Dispatch;
+use nd_history_text::read_history;
+use nd_report::write_report;
 use nd_test_fixtures::parks::{Park, close, dispatch_of};
 use std::alloc::Global;
 

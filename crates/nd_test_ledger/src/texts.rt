@@ -1,8 +1,8 @@
 //! Texts of histories, by the worked examples.
 
 use nd_devices::Told;
-use nd_ledger::Entry;
-use nd_report::{HistoryError, read_history, write_history, write_lines};
+use nd_history::Entry;
+use nd_history_text::{HistoryError, read_history, write_history, write_lines};
 use std::alloc::Global;
 
 /// The text of the stored run's history.
