@@ -1,13 +1,32 @@
 -- How one more entry goes into a book, and the board and the turns follow it. The histories of these definitions stand newest first.
 -- No public clause cites this: it serves private ones.
-use Rattle.std.specs.Prelude.{◌≡◌, ◌+◌, ◌<◌, ◌≤◌, [], ◌∷◌, ◌++◌, length, reverse, IfSome}
+use Rattle.std.specs.Prelude.{◌≡◌, ◌+◌, ◌<◌, ◌≤◌, ℕ, Bool, List, [], ◌∷◌, ◌++◌, false, length, reverse, IfSome}
+use Rattle.nd_machines.specs.Builders.{Builder}
+use Rattle.nd_eligible.specs.Settings.{Settings}
+use Rattle.nd_graph.specs.Graphs.{Nodes, rows_of}
+use Rattle.nd_failure.specs.Progress.{untouched}
+use Rattle.nd_kinds.specs.Kinds.{AreKinds}
 use Rattle.nd_history.specs.declared.entry.Entry.{Entry}
 use Rattle.nd_history.specs.Books.{Recorded}
 use Rattle.nd_history.specs.History.{live}
 use Rattle.nd_history.specs.Marks.{board_after}
-use Rattle.nd_pump.specs.Turned.{HasTurned, IsWhole, touched}
+use Rattle.nd_pump.specs.Turned.{AreListed, HasTurned, IsWhole, is_parked, touched}
 use Rattle.nd_pump.specs.Listing.{IsNewsWithin}
+use Rattle.nd_pump.specs.Vacancies.{AreAllVacant}
 use Rattle.nd_ledger.specs.declared.state.State.{State}
+
+-- nothing has happened yet: no entry, with room for one, and a board and turns of these nodes and machines, of which no kind is passed over
+pub record IsFresh (graph : Nodes) (machines : List Builder) (local : Settings) (keep_going : Bool) (s : State) : Type 0 where
+  pub entries : s.book.entries ≡ []
+  pub room : 1 ≤ s.book.room
+  pub drvs : s.book.drvs ≡ length (rows_of graph)
+  pub park : s.book.machines ≡ length machines + 1
+  pub board : s.board ≡ untouched (rows_of graph) keep_going
+  pub whole : IsWhole s.turns
+  pub kinds : AreKinds machines local graph.needs s.turns.kinds
+  pub listed : AreListed s.board s.turns.queue
+  pub parked : (n : ℕ) → is_parked s.turns n ≡ false
+  pub vacant : AreAllVacant (length machines) s.turns.vacant
 
 -- the book is as it was, with as much room or more
 pub record IsRoomier (old new : Recorded) : Type 0 where

@@ -29,7 +29,8 @@ use nd_closure::{RefTable, Refs};
 use nd_eligible::Local;
 use nd_failure::{Board, Counts, Status};
 use nd_graph::Graph;
-use nd_history::{Book, Entry, Inputs, Parts, Rule, Why, auditing::check_ready, auditing::is_in_range, auditing::judge_ready_choice, auditing::judge_ready_no_builder};
+use nd_history::auditing::{check_ready, is_in_range, judge_ready_choice, judge_ready_no_builder};
+use nd_history::{Book, Entry, Inputs, Parts, Rule, Why};
 use nd_hook::Reply;
 use nd_leases::Ticket;
 use nd_machines::Machine;
@@ -86,26 +87,14 @@ impl Dispatch {
             info,
             keep_going,
         };
-        let builders = parts.machines.len();
-        let Ok(book) = Book::new(alloc, parts.graph.len(), builders + 1) else {
+        let machines = parts.machines.as_slice();
+        let Ok(stores) = Stores::new(alloc, &parts.graph, machines.len(), &parts.info) else {
             return Err(parts);
         };
-        let Ok(board) = Board::new(alloc, &parts.graph, keep_going) else {
+        let Ok(state) = State::new(alloc, &parts.graph, machines, &parts.local, keep_going) else {
             return Err(parts);
         };
-        let Ok(stores) = Stores::new(alloc, &parts.graph, builders, &parts.info) else {
-            return Err(parts);
-        };
-        let Ok(turns) = Turns::new(
-            alloc,
-            parts.machines.as_slice(),
-            &parts.local,
-            parts.graph.needs(),
-            &board,
-        ) else {
-            return Err(parts);
-        };
-        learn_jobs(parts.machines.as_slice(), &parts.local);
+        learn_jobs(machines, &parts.local);
         Ok(Dispatch {
             inputs: Inputs {
                 graph: parts.graph,
@@ -114,7 +103,7 @@ impl Dispatch {
                 info: parts.info,
                 keep_going,
             },
-            state: State { book, board, turns },
+            state,
             stores,
         })
     }

@@ -1,14 +1,18 @@
 //! The entries so far, with what follows them entry by entry.
 
-ghost use Rattle.std.specs.Prelude.{◌≡◌, ◌<◌, reverse, OnOk, OnErr};
+ghost use Rattle.std.specs.Prelude.{◌≡◌, ◌<◌, reverse, IfOk, OnOk, OnErr};
+ghost use Rattle.nd_graph.specs.Graphs.{IsSound};
 ghost use Rattle.nd_history.specs.Books.{CanRecord, MayRecord};
 ghost use Rattle.nd_history.specs.Marks.{board_after, CanFollow};
 ghost use Rattle.nd_pump.specs.Turned.{machine_of as leased_on, touched};
 
+use nd_eligible::Local;
 use nd_failure::Board;
+use nd_graph::Graph;
 use nd_history::{Book, Entry};
+use nd_machines::Machine;
 use nd_pump::Turns;
-use std::alloc::AllocError;
+use std::alloc::{AllocError, Global};
 
 /// The entries so far, and the board and the turns, which follow them.
 #[derive(Drop)]
@@ -57,7 +61,25 @@ fn follow(board: &mut Board, entry: &Entry)
 }
 
 impl State {
-    ghost use Rattle.nd_ledger.specs.States.{CanTurn, IsEntered, IsRoomier, IsStepRecorded};
+    ghost use Rattle.nd_ledger.specs.States.{CanTurn, IsEntered, IsFresh, IsRoomier, IsStepRecorded};
+
+    /// The empty history over this graph and these machines.
+    pub(crate) fn new(
+        alloc: Global,
+        graph: &Graph,
+        machines: &[Machine],
+        local: &Local,
+        keep_going: bool,
+    ) -> Result<State, AllocError>
+        ensures fresh { IfOk result (IsFresh graph.now machines.now local.now keep_going) }
+        ensures sound { IsSound graph.now }
+    {
+        let drvs = graph.len();
+        let board = Board::new(alloc, graph, keep_going)?;
+        let turns = Turns::new(alloc, machines, local, graph.needs(), &board)?;
+        let book = Book::new(alloc, drvs, machines.len() + 1)?;
+        Ok(State { book, board, turns })
+    }
 
     /// Records an entry, and the board and the turns follow it. It takes no memory.
     pub(crate) fn enter(&mut self, entry: Entry)
