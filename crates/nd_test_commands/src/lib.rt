@@ -4,22 +4,4 @@
 #![tactic(auto)]
 
 #[cfg(test)]
-mod asking;
-#[cfg(test)]
-mod bundles;
-#[cfg(test)]
-mod devices;
-#[cfg(test)]
-mod examples;
-#[cfg(test)]
-mod giving;
-#[cfg(test)]
-mod inputs;
-#[cfg(test)]
-mod parks;
-#[cfg(test)]
-mod paths;
-#[cfg(test)]
-mod scripts;
-#[cfg(test)]
-mod stands;
+mod tests;

@@ -52,6 +52,13 @@ pub const NEEDS_N1: &[u8] = b"(\"/nix/store/11111111111111111111111111111111-n1.
 /// What stands behind the inputs of a line.
 pub const END: &[u8] = b"],[],\"x86_64-linux\",\"/bin/sh\",[],[])\n";
 
+/// The line of `n0`, up to the text of its structured attributes.
+pub const JSON: &[u8] =
+    b"/nix/store/00000000000000000000000000000000-n0.drv Derive([(\"out\",\"/nix/store/aaaaaaaaaaaaaaaaaaaaaaaaaaaaaaaa-n0\",\"\",\"\")],[],[],\"x86_64-linux\",\"/bin/sh\",[],[(\"__json\",\"";
+
+/// What stands behind that text.
+pub const JSON_END: &[u8] = b"\")])\n";
+
 /// The parts, one behind the other.
 pub fn joined(alloc: Global, parts: &[&[u8]]) -> Result<Vec<u8>, AllocError> {
     let mut bytes = Vec::new(alloc);

@@ -3,20 +3,4 @@
 #![tactic(auto)]
 
 #[cfg(test)]
-mod boards;
-#[cfg(test)]
-mod bundles;
-#[cfg(test)]
-mod closures;
-#[cfg(test)]
-mod explaining;
-#[cfg(test)]
-mod holdings;
-#[cfg(test)]
-mod lines;
-#[cfg(test)]
-mod long_bundles;
-#[cfg(test)]
-mod reading;
-#[cfg(test)]
-mod shapes;
+mod tests;

@@ -3,16 +3,4 @@
 #![tactic(auto)]
 
 #[cfg(test)]
-mod calls;
-#[cfg(test)]
-mod copies;
-#[cfg(test)]
-mod devices;
-#[cfg(test)]
-mod refusing;
-#[cfg(test)]
-mod replaying;
-#[cfg(test)]
-mod reports;
-#[cfg(test)]
-mod texts;
+mod tests;

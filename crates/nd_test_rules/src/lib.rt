@@ -3,16 +3,4 @@
 #![tactic(auto)]
 
 #[cfg(test)]
-mod builders_lists;
-#[cfg(test)]
-mod choices;
-#[cfg(test)]
-mod derivation_texts;
-#[cfg(test)]
-mod eligibility;
-#[cfg(test)]
-mod replies;
-#[cfg(test)]
-mod store_paths;
-#[cfg(test)]
-mod values;
+mod tests;

@@ -3,14 +3,4 @@
 #![tactic(auto)]
 
 #[cfg(test)]
-mod agents;
-#[cfg(test)]
-mod meeting;
-#[cfg(test)]
-mod parks;
-#[cfg(test)]
-mod punishing;
-#[cfg(test)]
-mod runs;
-#[cfg(test)]
-mod stand_ins;
+mod tests;

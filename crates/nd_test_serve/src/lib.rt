@@ -3,20 +3,4 @@
 #![tactic(auto)]
 
 #[cfg(test)]
-mod conversations;
-#[cfg(test)]
-mod crashes;
-#[cfg(test)]
-mod driver;
-#[cfg(test)]
-mod driving;
-#[cfg(test)]
-mod holding;
-#[cfg(test)]
-mod keeping;
-#[cfg(test)]
-mod lines;
-#[cfg(test)]
-mod outputs;
-#[cfg(test)]
-mod texts;
+mod tests;

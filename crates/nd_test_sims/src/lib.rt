@@ -3,18 +3,4 @@
 #![tactic(auto)]
 
 #[cfg(test)]
-mod audits;
-#[cfg(test)]
-mod devices;
-#[cfg(test)]
-mod drawing;
-#[cfg(test)]
-mod refusals;
-#[cfg(test)]
-mod running;
-#[cfg(test)]
-mod simulations;
-#[cfg(test)]
-mod truncations;
-#[cfg(test)]
-mod worlds;
+mod tests;

@@ -1,0 +1,10 @@
+//! The tests, by what they are about, and what they share.
+
+mod asking;
+mod devices;
+mod examples;
+mod giving;
+mod inputs;
+mod parks;
+mod scripts;
+mod stands;

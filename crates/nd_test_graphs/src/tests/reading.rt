@@ -1,0 +1,74 @@
+//! Reading bundles with both readers.
+
+use nd_bundle::{GraphError, plain, read_bundle};
+use nd_graph::Graph;
+use nd_test_fixtures::bundles::joined;
+use std::alloc::Global;
+use std::thread::Threads;
+
+/// Whether both readers, which check paths or don't, refuse a text for this reason, or take it where
+/// there is none.
+pub(crate) fn both_answer<R: Threads + Sync>(
+    rt: &R,
+    alloc: Global,
+    text: &[u8],
+    check: bool,
+    want: Option<GraphError>,
+) -> bool {
+    plain::read_bundle(alloc, text, check).err() == want
+        && read_bundle(rt, alloc, text, check).err() == want
+}
+
+/// Whether they do so of these parts, and check no paths. Want of memory is a no.
+pub(crate) fn answer<R: Threads + Sync>(
+    rt: &R,
+    alloc: Global,
+    parts: &[&[u8]],
+    want: Option<GraphError>,
+) -> bool {
+    match joined(alloc, parts) {
+        Ok(text) => both_answer(rt, alloc, text.as_slice(), false, want),
+        Err(_) => false,
+    }
+}
+
+/// The number of nodes of an answer, or none where the text is refused.
+pub(crate) fn size_of(read: Result<Graph, GraphError>) -> Option<usize> {
+    match read {
+        Ok(graph) => Some(graph.len()),
+        Err(_) => None,
+    }
+}
+
+/// Whether both readers, which check paths or don't, find this many nodes in a text.
+pub(crate) fn both_find<R: Threads + Sync>(
+    rt: &R,
+    alloc: Global,
+    text: &[u8],
+    check: bool,
+    nodes: usize,
+) -> bool {
+    size_of(plain::read_bundle(alloc, text, check)) == Some(nodes)
+        && size_of(read_bundle(rt, alloc, text, check)) == Some(nodes)
+}
+
+/// Whether they do so in these parts, and check no paths. Want of memory is a no.
+pub(crate) fn find<R: Threads + Sync>(
+    rt: &R,
+    alloc: Global,
+    parts: &[&[u8]],
+    nodes: usize,
+) -> bool {
+    match joined(alloc, parts) {
+        Ok(text) => both_find(rt, alloc, text.as_slice(), false, nodes),
+        Err(_) => false,
+    }
+}
+
+/// The graph of these parts, or none where they are refused or memory is wanting.
+pub(crate) fn graph_of(alloc: Global, parts: &[&[u8]]) -> Option<Graph> {
+    match joined(alloc, parts) {
+        Ok(text) => plain::read_bundle(alloc, text.as_slice(), false).ok(),
+        Err(_) => None,
+    }
+}

@@ -1,0 +1,9 @@
+//! The tests, by what they are about, and what they share.
+
+mod calls;
+mod copies;
+mod devices;
+mod refusing;
+mod replaying;
+mod reports;
+mod texts;

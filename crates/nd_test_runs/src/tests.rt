@@ -1,0 +1,8 @@
+//! The tests, by what they are about, and what they share.
+
+mod agents;
+mod meeting;
+mod parks;
+mod punishing;
+mod runs;
+mod stand_ins;

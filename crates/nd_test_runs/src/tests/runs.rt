@@ -1,0 +1,525 @@
+//! The worked examples of runs.
+
+use crate::tests::parks::{close_refused, close_run, dispatch, ran, stand_at, stand_in, stands};
+use nd_closure::Refs;
+use nd_ledger::Dispatch;
+use nd_path::{PathSet, StorePath};
+use nd_receipts::Receipt;
+use nd_run_desk::abandon;
+use nd_script::Rule;
+use nd_test_fixtures::bundles::{CHAIN, PLAIN_1, PLAIN_2, S3};
+use nd_test_fixtures::entries::told;
+use nd_test_fixtures::parks::close;
+use nd_transports::{StandIn, Transport};
+use nd_workers::{NotRun, Ran, RunEnd, RunError, Seat, Worker, run};
+use std::alloc::Global;
+use std::sync::Wait;
+use std::test::Fail;
+use std::thread::Threads;
+
+/// Whether these are the history's lines.
+pub(crate) fn has_lines(alloc: Global, dispatch: &Dispatch, lines: &str) -> bool {
+    match told(alloc, dispatch.history()) {
+        Ok(found) => found.as_slice() == lines.as_bytes(),
+        Err(_) => false,
+    }
+}
+
+/// Whether these are the numbers of the entries and of the calls of a worker's receipts.
+fn has_receipts(receipts: &[Receipt], numbers: &[(usize, u8)]) -> bool {
+    if receipts.len() != numbers.len() {
+        return false;
+    }
+    for place in 0..receipts.len() {
+        if receipts[place].index != numbers[place].0 || receipts[place].calls != numbers[place].1 {
+            return false;
+        }
+    }
+    true
+}
+
+/// What the stand-ins of an example do beside connecting, copying and building.
+#[derive(Clone, Copy)]
+enum Stand {
+    /// Nothing else.
+    Plain,
+    /// Each connect on this machine is refused.
+    NoConnect(u32),
+    /// Each copy on this machine is refused.
+    NoCopy(u32),
+    /// The transport is lost in the build of derivation 0.
+    Lose,
+    /// Derivation 0 reports so many empty lists.
+    Lists(u8),
+    /// Derivation 0 reports a source of no node.
+    Stranger,
+    /// So many calls pass.
+    Fuse(u32),
+}
+
+/// The set of a source of no node.
+fn stranger(alloc: Global) -> Option<PathSet> {
+    let path = StorePath::parse(alloc, S3.as_bytes()).ok()?;
+    let mut paths = Vec::new(alloc);
+    paths.push(path).ok()?;
+    PathSet::from_vec(paths).ok()
+}
+
+/// So many empty lists of references.
+fn empty_lists(alloc: Global, lists: u8) -> Option<Refs> {
+    let mut sets = Vec::new(alloc);
+    for _ in 0..lists {
+        sets.push(PathSet::new(alloc)).ok()?;
+    }
+    Some(Refs::new(sets))
+}
+
+/// The list of a source of no node.
+fn strange_lists(alloc: Global) -> Option<Refs> {
+    let mut sets = Vec::new(alloc);
+    sets.push(stranger(alloc)?).ok()?;
+    Some(Refs::new(sets))
+}
+
+/// The rule of a stand-in.
+fn rule_of(alloc: Global, stand: Stand) -> Option<Rule> {
+    match stand {
+        Stand::Plain | Stand::Fuse(_) => Some(Rule::NoConnect(9)),
+        Stand::NoConnect(machine) => Some(Rule::NoConnect(machine)),
+        Stand::NoCopy(machine) => Some(Rule::NoCopy(machine)),
+        Stand::Lose => Some(Rule::Lose(0)),
+        Stand::Lists(lists) => Some(Rule::Built(0, empty_lists(alloc, lists)?)),
+        Stand::Stranger => Some(Rule::Built(0, strange_lists(alloc)?)),
+    }
+}
+
+/// Puts a worker on this place, whose stand-in does so.
+fn push_worker(
+    alloc: Global,
+    seats: &mut Vec<Seat<StandIn>>,
+    place: (u32, u32),
+    stand: Stand,
+) -> Option<()> {
+    let passes = match stand {
+        Stand::Fuse(passes) => Some(passes),
+        _ => None,
+    };
+    let rule = rule_of(alloc, stand)?;
+    seats
+        .push(stand_at(alloc, place.0, place.1, rule, passes)?)
+        .ok()
+}
+
+/// Workers on these places, whose stand-ins do so; fewer where memory is wanting.
+fn workers(alloc: Global, places: &[(u32, u32)], stand: Stand) -> Vec<Seat<StandIn>> {
+    let mut seats = Vec::new(alloc);
+    for place in places {
+        push_worker(alloc, &mut seats, *place, stand);
+    }
+    seats
+}
+
+/// The one place of a park with one slot.
+const ONE: &[(u32, u32)] = &[(1, 0)];
+
+/// The places of two machines with a slot each.
+const TWO: &[(u32, u32)] = &[(1, 0), (2, 0)];
+
+/// Whether a run ended without a fault and with these lines.
+fn is_end(alloc: Global, end: Ran<StandIn>, lines: &str) -> bool {
+    let right = end.fault.is_none() && has_lines(alloc, &end.dispatch, lines);
+    close_run(end);
+    right
+}
+
+/// Whether a run of this dispatch ends without a fault and with these lines.
+fn gives<R: Threads + Wait + Sync>(
+    rt: &R,
+    alloc: Global,
+    opened: Option<Dispatch>,
+    places: &[(u32, u32)],
+    stand: Stand,
+    lines: &str,
+) -> bool {
+    let Some(opened) = opened else {
+        return false;
+    };
+    match ran(rt, opened, workers(alloc, places, stand)) {
+        Ok(end) => is_end(alloc, end, lines),
+        Err(refused) => {
+            close_refused(refused);
+            false
+        }
+    }
+}
+
+/// Whether these are the receipts of the two workers of a run.
+fn are_receipts(receipts: &[Vec<Receipt>], first: &[(usize, u8)], second: &[(usize, u8)]) -> bool {
+    match (receipts.get(0), receipts.get(1)) {
+        (Some(one), Some(two)) => {
+            has_receipts(one.as_slice(), first) && has_receipts(two.as_slice(), second)
+        }
+        _ => false,
+    }
+}
+
+/// Whether these are the receipts of the two workers of a run over a plain node.
+fn gives_receipts<R: Threads + Wait + Sync>(
+    rt: &R,
+    alloc: Global,
+    stand: Stand,
+    first: &[(usize, u8)],
+    second: &[(usize, u8)],
+) -> bool {
+    let Some(opened) = dispatch(alloc, PLAIN_1, "m;n") else {
+        return false;
+    };
+    match ran(rt, opened, workers(alloc, TWO, stand)) {
+        Ok(end) => {
+            let right = are_receipts(end.receipts.as_slice(), first, second);
+            close_run(end);
+            right
+        }
+        Err(refused) => {
+            close_refused(refused);
+            false
+        }
+    }
+}
+
+/// The history of the stored run.
+const STORED: &str =
+    "chosen 0 1 0\nstarted 0 s1\nbuilt 0 o\nchosen 1 1 0\nstarted 1\nbuilt 1 o\nchosen 2 1 0\nstarted 2\nbuilt 2 o\n";
+
+/// Whether a run ended with the stored run's history, and with the receipts that belong to it.
+fn is_stored(alloc: Global, end: RunEnd) -> bool {
+    let Ran {
+        dispatch,
+        workers: _,
+        receipts,
+        evidence: _,
+        fault,
+    } = end;
+    let told = has_lines(alloc, &dispatch, STORED);
+    close(dispatch);
+    let noted = match receipts.get(0) {
+        Some(receipts) => has_receipts(
+            receipts.as_slice(),
+            &[(1, 2), (2, 1), (4, 2), (5, 1), (7, 2), (8, 1)],
+        ),
+        None => false,
+    };
+    told && noted && fault.is_none()
+}
+
+/// Whether the stored run by this worker gives its history, and the receipts that belong to it.
+fn gives_stored<R: Threads + Wait + Sync>(rt: &R, alloc: Global, workers: Vec<Worker>) -> bool {
+    let Some(opened) = dispatch(alloc, CHAIN, "m") else {
+        return false;
+    };
+    match run(rt, opened, workers) {
+        Ok(end) => is_stored(alloc, end),
+        Err(refused) => {
+            close(refused.dispatch);
+            false
+        }
+    }
+}
+
+#[test]
+fn stored_run(rt: HostRuntime) -> Result<(), Fail> {
+    let alloc = rt.alloc();
+    let stand = stand_in(alloc, 1, Vec::new(alloc))?;
+    let transport: Box<dyn Transport + Send> = Box::new(alloc, stand)?;
+    let worker = Seat {
+        machine: 1,
+        slot: 0,
+        transport,
+    };
+    let workers = vec![in alloc; worker]?;
+    assert!(rt; gives_stored(&rt, alloc, workers));
+    Ok(())
+}
+
+#[test]
+fn refused_connect(rt: HostRuntime) {
+    let alloc = rt.alloc();
+    let lines = "chosen 0 1 0\ndown 0\nchosen 0 2 0\nstarted 0\nbuilt 0 o\n";
+    let plain = dispatch(alloc, PLAIN_1, "m;n");
+    assert!(rt; gives(&rt, alloc, plain, TWO, Stand::NoConnect(1), lines));
+    let plain = dispatch(alloc, PLAIN_1, "m;n");
+    assert!(rt; gives(&rt, alloc, plain, TWO, Stand::NoCopy(1), lines));
+    assert!(rt;
+        gives_receipts(
+            &rt,
+            alloc,
+            Stand::NoConnect(1),
+            &[(1, 1)],
+            &[(3, 2), (4, 1)]
+        )
+    );
+    assert!(rt; gives_receipts(&rt, alloc, Stand::NoCopy(1), &[(1, 2)], &[(3, 2), (4, 1)]));
+}
+
+#[test]
+fn lost_build(rt: HostRuntime) {
+    let alloc = rt.alloc();
+    let lines = "chosen 0 1 0\nstarted 0\nfailed 0 lost\n";
+    let plain = dispatch(alloc, PLAIN_1, "m");
+    assert!(rt; gives(&rt, alloc, plain, ONE, Stand::Lose, lines));
+    let lines = "chosen 0 1 0\nstarted 0\nfailed 0 references\n";
+    let plain = dispatch(alloc, PLAIN_1, "m");
+    assert!(rt; gives(&rt, alloc, plain, ONE, Stand::Stranger, lines));
+}
+
+#[test]
+fn empty_run(rt: HostRuntime) {
+    let alloc = rt.alloc();
+    let empty = dispatch(alloc, "", "m");
+    assert!(rt; gives(&rt, alloc, empty, ONE, Stand::Plain, ""));
+    let plain = dispatch(alloc, PLAIN_1, "");
+    assert!(rt; gives(&rt, alloc, plain, &[], Stand::Plain, "nobuilder 0\n"));
+}
+
+/// Whether a refused run hands back so many workers and a dispatch without entries, and this cause.
+fn is_refused(alloc: Global, refused: NotRun<StandIn>, count: usize, why: RunError) -> bool {
+    let right = refused.why == why
+        && refused.workers.len() == count
+        && has_lines(alloc, &refused.dispatch, "");
+    close_refused(refused);
+    right
+}
+
+/// Whether a run is refused so, and hands back the dispatch and so many workers.
+fn refuses<R: Threads + Wait + Sync>(
+    rt: &R,
+    alloc: Global,
+    builders: &str,
+    seats: Vec<Seat<StandIn>>,
+    why: RunError,
+) -> bool {
+    let Some(opened) = dispatch(alloc, PLAIN_1, builders) else {
+        return false;
+    };
+    let count = seats.len();
+    match ran(rt, opened, seats) {
+        Ok(end) => {
+            close_run(end);
+            false
+        }
+        Err(refused) => is_refused(alloc, refused, count, why),
+    }
+}
+
+#[test]
+fn refused_run(rt: HostRuntime) {
+    let alloc = rt.alloc();
+    let none = workers(alloc, &[], Stand::Plain);
+    assert!(rt; refuses(&rt, alloc, "m", none, RunError::Slots));
+    let twice = workers(alloc, &[(1, 0), (1, 0)], Stand::Plain);
+    assert!(rt; refuses(&rt, alloc, "m", twice, RunError::Slots));
+    let many = stands(alloc, 1025);
+    assert!(rt; refuses(&rt, alloc, "m - - 1025", many, RunError::TooManySlots));
+}
+
+/// Whether two calls of `abandon` leave these lines after a pump.
+fn abandons(alloc: Global, mut opened: Dispatch, lines: &str) -> bool {
+    let pumped = opened.pump().is_ok();
+    abandon(&mut opened, ONE);
+    let once = has_lines(alloc, &opened, lines);
+    abandon(&mut opened, ONE);
+    let twice = has_lines(alloc, &opened, lines);
+    close(opened);
+    pumped && once && twice
+}
+
+#[test]
+fn abandoned(rt: HostRuntime) {
+    let alloc = rt.alloc();
+    let lines = "chosen 0 1 0\nchosen 1 1 1\nstop\nfailed 1 noworker\n";
+    let held = match dispatch(alloc, PLAIN_2, "m - - 2") {
+        Some(opened) => abandons(alloc, opened, lines),
+        None => false,
+    };
+    assert!(rt; held);
+}
+
+/// Drains machine 1.
+fn drain_first(opened: &mut Dispatch) -> bool {
+    if opened.machines().is_empty() {
+        return false;
+    }
+    opened.drain(1).is_ok()
+}
+
+/// The dispatch of one plain node and two machines, of which the first is drained.
+fn drained(alloc: Global) -> Option<Dispatch> {
+    let mut opened = dispatch(alloc, PLAIN_1, "m;n")?;
+    if !drain_first(&mut opened) {
+        close(opened);
+        return None;
+    }
+    Some(opened)
+}
+
+#[test]
+fn drained_run(rt: HostRuntime) {
+    let alloc = rt.alloc();
+    let lines = "drain 1\nchosen 0 2 0\nstarted 0\nbuilt 0 o\n";
+    let drained = drained(alloc);
+    assert!(rt; gives(&rt, alloc, drained, TWO, Stand::Plain, lines));
+}
+
+/// Leases the one node of a dispatch on slot 0 of machine 1, and starts the lease where asked to.
+fn lease_first(alloc: Global, opened: &mut Dispatch, started: bool) -> bool {
+    if opened.pump().is_err() {
+        return false;
+    }
+    let Some(ticket) = opened.current(1, 0) else {
+        return false;
+    };
+    if !started {
+        return true;
+    }
+    opened.started(alloc, ticket, PathSet::new(alloc)).is_ok()
+}
+
+/// The dispatch of one plain node whose lease is live, and started where asked.
+fn leased(alloc: Global, started: bool) -> Option<Dispatch> {
+    let mut opened = dispatch(alloc, PLAIN_1, "m")?;
+    if !lease_first(alloc, &mut opened, started) {
+        close(opened);
+        return None;
+    }
+    Some(opened)
+}
+
+/// Whether a run ended with these lines, and its one receipt is that of the third entry, the end of a lease that
+/// was started before, behind so many calls.
+fn is_taken_up(alloc: Global, end: Ran<StandIn>, calls: u8, lines: &str) -> bool {
+    let noted = match end.receipts.get(0) {
+        Some(row) => {
+            has_receipts(row.as_slice(), &[(2, calls)]) && row.iter().all(|receipt| receipt.again)
+        }
+        None => false,
+    };
+    is_end(alloc, end, lines) && noted
+}
+
+/// Whether a run that goes on from a started lease ends so.
+fn takes_up<R: Threads + Wait + Sync>(
+    rt: &R,
+    alloc: Global,
+    stand: Stand,
+    calls: u8,
+    lines: &str,
+) -> bool {
+    let Some(opened) = leased(alloc, true) else {
+        return false;
+    };
+    match ran(rt, opened, workers(alloc, ONE, stand)) {
+        Ok(end) => is_taken_up(alloc, end, calls, lines),
+        Err(refused) => {
+            close_refused(refused);
+            false
+        }
+    }
+}
+
+/// A lease that is live when a run begins is taken up; where it was started its build is asked for again, and it
+/// is lost where its machine isn't reached.
+#[test]
+fn taken_up(rt: HostRuntime) {
+    let alloc = rt.alloc();
+    let built = "chosen 0 1 0\nstarted 0\nbuilt 0 o\n";
+    let lost = "chosen 0 1 0\nstarted 0\nfailed 0 lost\n";
+    assert!(rt; gives(&rt, alloc, leased(alloc, false), ONE, Stand::Plain, built));
+    assert!(rt; takes_up(&rt, alloc, Stand::Plain, 3, built));
+    assert!(rt; takes_up(&rt, alloc, Stand::Lose, 3, lost));
+    assert!(rt; takes_up(&rt, alloc, Stand::NoCopy(1), 2, lost));
+    assert!(rt; takes_up(&rt, alloc, Stand::NoConnect(1), 1, lost));
+}
+
+/// The history of the stored run where so many calls pass.
+pub(crate) fn blown(passes: u32) -> &'static str {
+    match passes {
+        0 | 1 => "chosen 0 1 0\ndown 0\nnobuilder 0\n",
+        2 => "chosen 0 1 0\nstarted 0 s1\nfailed 0 lost\n",
+        3 | 4 => "chosen 0 1 0\nstarted 0 s1\nbuilt 0 o\nchosen 1 1 0\ndown 1\nnobuilder 1\n",
+        5 => { "chosen 0 1 0\nstarted 0 s1\nbuilt 0 o\nchosen 1 1 0\nstarted 1\nfailed 1 lost\n" }
+        6 | 7 => {
+            "chosen 0 1 0\nstarted 0 s1\nbuilt 0 o\nchosen 1 1 0\nstarted 1\nbuilt 1 o\nchosen 2 1 0\ndown 2\nnobuilder 2\n"
+        }
+        8 => {
+            "chosen 0 1 0\nstarted 0 s1\nbuilt 0 o\nchosen 1 1 0\nstarted 1\nbuilt 1 o\nchosen 2 1 0\nstarted 2\nfailed 2 lost\n"
+        }
+        _ => STORED,
+    }
+}
+
+#[test]
+fn blown_fuse(rt: HostRuntime) {
+    let alloc = rt.alloc();
+    let mut all = true;
+    for passes in 0..10u32 {
+        let chain = dispatch(alloc, CHAIN, "m");
+        if !gives(&rt, alloc, chain, ONE, Stand::Fuse(passes), blown(passes)) {
+            all = false;
+        }
+    }
+    assert!(rt; all);
+}
+
+#[test]
+fn dishonest_transports(rt: HostRuntime) {
+    let alloc = rt.alloc();
+    let lines = "chosen 0 1 0\nstarted 0 s1\nfailed 0 references\n";
+    let chain = dispatch(alloc, CHAIN, "m");
+    assert!(rt; gives(&rt, alloc, chain, ONE, Stand::Lists(0), lines));
+    let chain = dispatch(alloc, CHAIN, "m");
+    assert!(rt; gives(&rt, alloc, chain, ONE, Stand::Lists(2), lines));
+    let chain = dispatch(alloc, CHAIN, "m");
+    assert!(rt; gives(&rt, alloc, chain, ONE, Stand::Stranger, lines));
+}
+
+/// What a run by one worker has of the references of its one build: how many lists were refused, and how many its
+/// receipt has. None where none were refused, and where another entry, another worker or a missing thread is told.
+fn refused_lists(end: &Ran<StandIn>) -> Option<(usize, usize)> {
+    let evidence = &end.evidence;
+    if end.fault.is_some() || evidence.refused || evidence.threads != 1 {
+        return None;
+    }
+    let kept = evidence.misreports.at(2)?;
+    let receipt = end.receipts.get(0)?.get(1)?;
+    if receipt.index != 2 || evidence.misreports.at(1).is_some() {
+        return None;
+    }
+    Some((kept.lists().len(), receipt.refs.lists().len()))
+}
+
+/// The refused lists of a run over the chain, whose worker does so.
+fn judged<R: Threads + Wait + Sync>(rt: &R, alloc: Global, stand: Stand) -> Option<(usize, usize)> {
+    let opened = dispatch(alloc, CHAIN, "m")?;
+    match ran(rt, opened, workers(alloc, ONE, stand)) {
+        Ok(end) => {
+            let lists = refused_lists(&end);
+            close_run(end);
+            lists
+        }
+        Err(refused) => {
+            close_refused(refused);
+            None
+        }
+    }
+}
+
+/// References that a build may not have are handed back, as they were reported; no other ones are.
+#[test]
+fn judged_references(rt: HostRuntime) {
+    let alloc = rt.alloc();
+    assert!(rt; judged(&rt, alloc, Stand::Stranger) == Some((1, 1)));
+    assert!(rt; judged(&rt, alloc, Stand::Lists(0)) == Some((0, 0)));
+    assert!(rt; judged(&rt, alloc, Stand::Lists(2)) == Some((2, 2)));
+    assert!(rt; judged(&rt, alloc, Stand::Plain).is_none());
+    assert!(rt; judged(&rt, alloc, Stand::Lose).is_none());
+}

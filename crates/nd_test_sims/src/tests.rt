@@ -1,0 +1,10 @@
+//! The tests, by what they are about, and what they share.
+
+mod audits;
+mod devices;
+mod drawing;
+mod refusals;
+mod running;
+mod simulations;
+mod truncations;
+mod worlds;
