@@ -7,8 +7,8 @@ ghost use Rattle.nd_kinds.specs.Sharing.{SharesNeed, AddsTo, IsListed, IsOneMore
 use crate::kind::Kind;
 use crate::sharing::{Known, Marks};
 use nd_eligible::{Local, Need};
+use nd_flags::Lists;
 use nd_machines::Machine;
-use nd_queue::Lists;
 use std::alloc::{AllocError, Global};
 use std::marker::Model;
 

@@ -1,5 +1,5 @@
 -- Flags of the numbers of a list that gets one more.
-use Rattle.std.proofs.Common.{◌≡◌, ◌≢◌, ℕ, ◌*◌, ◌/◌, ◌%◌, ◌^◌, ◌<◌, ◌≤◌, Bool, true, false, true≢false, ◌||◌, ◌==◌, List, [], ◌∷◌, ◌++◌, length, get_or, set, refl, sym, ap, ◌∙◌, arith, inl, inr, bit_or, w64}
+use Rattle.std.proofs.Common.{◌≡◌, ◌≢◌, ℕ, ◌*◌, ◌/◌, ◌%◌, ◌^◌, ◌<◌, ◌≤◌, Bool, true, false, ◌||◌, ◌==◌, List, [], ◌∷◌, ◌++◌, length, get_or, set, refl, sym, ap, ◌∙◌, arith, inl, inr, bit_or, w64}
 use mir.Val.{bits}
 use Rattle.std.proofs.lemmas.Bool.{cases_eq, eqb-true, false_from_ne_true}
 use Rattle.std.proofs.lemmas.List.{get_or-set_same, get_or-set_other, length-set}
@@ -36,23 +36,15 @@ up_other words n k lt other = elim (cases_eq (k / 64) (n / 64)) [
   | inr not_same ↦ rw (get_or-set_other words (n / 64) (k / 64) (bit_or (get_or words (n / 64) 0) (1 * 2 ^ (n % 64) % 2 ^ bits w64)) 0 not_same) refl
 ]
 
--- a list that got one more has what it had
-pub among_more : (numbers : List ℕ) (n k : ℕ) → is_among numbers k ≡ true → is_among (numbers ++ n ∷ []) k ≡ true
-among_more numbers n k h = elim (cases_eq k n) [
-  | inl same ↦ rw same (among_same numbers n)
-  | inr other ↦ among_other numbers n k other ∙ h
-]
-
 -- the list got a number that has a flag
-pub noted : (numbers : List ℕ) (old new : Marks) (n : ℕ) → n / 64 < length old.words.items → new.words.items ≡ with_flag old.words.items n → new.others.keys ≡ old.others.keys → new.is_partial ≡ old.is_partial
+pub noted : (numbers : List ℕ) (old new : Marks) (n : ℕ) → n / 64 < length old.words.items → new.words.items ≡ with_flag old.words.items n → new.others.keys ≡ old.others.keys
     → AreMarked numbers old → AreMarked (numbers ++ n ∷ []) new
-noted numbers old new n lt words keys partial h = record {
+noted numbers old new n lt words keys h = record {
   within = λ k below. elim (cases_eq k n) [
     | inl same ↦ rw (words, same) (up_same old.words.items n lt ∙ sym (among_same numbers n))
     | inr other ↦ rw words (up_other old.words.items n k lt other ∙ h.within k (omega (arith, below, as_long)) ∙ sym (among_other numbers n k other))
   ];
-  others = λ k above there. among_more numbers n k (h.others k (omega (arith, above, as_long)) (ap (λ (ks : List ℕ). is_among ks k) (sym keys) ∙ there));
-  whole = λ none k above. among_other numbers n k (λ same. omega (arith, same, above, as_long, lt)) ∙ h.whole (sym partial ∙ none) k (omega (arith, above, as_long)) ∙ ap (λ (ks : List ℕ). is_among ks k) (sym keys);
+  others = λ k above. among_other numbers n k (λ same. omega (arith, same, above, as_long, lt)) ∙ h.others k (omega (arith, above, as_long)) ∙ ap (λ (ks : List ℕ). is_among ks k) (sym keys);
 }
   where
     as_long : length new.words.items ≡ length old.words.items
@@ -60,40 +52,23 @@ noted numbers old new n lt words keys partial h = record {
 
 -- the list got a number that has no flag, and the set has it
 pub noted_other : (numbers : List ℕ) (old new : Marks) (n : ℕ) → length old.words.items ≤ n / 64 → new.words.items ≡ old.words.items → is_among new.others.keys n ≡ true
-    → ((k : ℕ) → k ≢ n → is_among new.others.keys k ≡ is_among old.others.keys k) → new.is_partial ≡ old.is_partial → AreMarked numbers old → AreMarked (numbers ++ n ∷ []) new
-noted_other numbers old new n past words here others partial h = record {
+    → ((k : ℕ) → k ≢ n → is_among new.others.keys k ≡ is_among old.others.keys k) → AreMarked numbers old → AreMarked (numbers ++ n ∷ []) new
+noted_other numbers old new n past words here others h = record {
   within = λ k below. rw words (h.within k (omega (arith, below, as_long)) ∙ sym (among_other numbers n k (λ same. omega (arith, same, below, as_long, past))));
-  others = λ k above there. elim (cases_eq k n) [
-    | inl same ↦ rw same (among_same numbers n)
-    | inr other ↦ among_more numbers n k (h.others k (omega (arith, above, as_long)) (sym (others k other) ∙ there))
-  ];
-  whole = λ none k above. elim (cases_eq k n) [
+  others = λ k above. elim (cases_eq k n) [
     | inl same ↦ rw same (among_same numbers n ∙ sym here)
-    | inr other ↦ among_other numbers n k other ∙ h.whole (sym partial ∙ none) k (omega (arith, above, as_long)) ∙ sym (others k other)
+    | inr other ↦ among_other numbers n k other ∙ h.others k (omega (arith, above, as_long)) ∙ sym (others k other)
   ];
-}
-  where
-    as_long : length new.words.items ≡ length old.words.items
-    as_long = ap (λ (ws : List ℕ). length ws) words
-
--- the list got a number that has no flag, of which nothing tells
-pub left_out : (numbers : List ℕ) (old new : Marks) (n : ℕ) → length old.words.items ≤ n / 64 → new.words.items ≡ old.words.items → new.others.keys ≡ old.others.keys → new.is_partial ≡ true
-    → AreMarked numbers old → AreMarked (numbers ++ n ∷ []) new
-left_out numbers old new n past words keys partial h = record {
-  within = λ k below. rw words (h.within k (omega (arith, below, as_long)) ∙ sym (among_other numbers n k (λ same. omega (arith, same, below, as_long, past))));
-  others = λ k above there. among_more numbers n k (h.others k (omega (arith, above, as_long)) (ap (λ (ks : List ℕ). is_among ks k) (sym keys) ∙ there));
-  whole = λ none. absurd (true≢false (sym partial ∙ none));
 }
   where
     as_long : length new.words.items ≡ length old.words.items
     as_long = ap (λ (ws : List ℕ). length ws) words
 
 -- marks with the same parts are of the same lists
-pub alike : (numbers : List ℕ) (old new : Marks) → new.words.items ≡ old.words.items → new.others.keys ≡ old.others.keys → new.is_partial ≡ old.is_partial → AreMarked numbers old → AreMarked numbers new
-alike numbers old new words keys partial h = record {
+pub alike : (numbers : List ℕ) (old new : Marks) → new.words.items ≡ old.words.items → new.others.keys ≡ old.others.keys → AreMarked numbers old → AreMarked numbers new
+alike numbers old new words keys h = record {
   within = λ k below. rw words (h.within k (omega (arith, below, as_long)));
-  others = λ k above there. h.others k (omega (arith, above, as_long)) (ap (λ (ks : List ℕ). is_among ks k) (sym keys) ∙ there);
-  whole = λ none k above. h.whole (sym partial ∙ none) k (omega (arith, above, as_long)) ∙ ap (λ (ks : List ℕ). is_among ks k) (sym keys);
+  others = λ k above. h.others k (omega (arith, above, as_long)) ∙ ap (λ (ks : List ℕ). is_among ks k) (sym keys);
 }
   where
     as_long : length new.words.items ≡ length old.words.items

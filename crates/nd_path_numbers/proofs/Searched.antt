@@ -1,5 +1,5 @@
 -- The search that stops at each held path: what it has found so far, and what it ends with.
-use Rattle.std.proofs.Common.{◌≡◌, ◌⊎◌, ℕ, ◌+◌, ◌<◌, ◌≤◌, Bool, if◌then◌else◌, List, [], ◌∷◌, ◌++◌, length, map, get_or, take, sym, ap, subst, ◌∙◌, inl, inr, arith, append_assoc, length-append}
+use Rattle.std.proofs.Common.{◌≡◌, ◌⊎◌, ℕ, ◌+◌, ◌<◌, ◌≤◌, Bool, not, List, [], ◌∷◌, ◌++◌, length, map, get_or, take, sym, ap, subst, ◌∙◌, inl, inr, arith, append_assoc, length-append}
 use Rattle.std.specs.List.{Contains}
 use Rattle.std.proofs.lemmas.Bool.{cases_lt, cases_Bool}
 use Rattle.std.proofs.lemmas.List.{get_or_append_left, get_or_default, append-nil, take_more, length-map, get_or-map}
@@ -9,7 +9,7 @@ use Rattle.nd_closure.specs.Tables.{refs_of}
 use Rattle.nd_closure.specs.Closures.{IsReached}
 use Rattle.nd_closure.specs.Closures.IsReached.{seed as begin, step as onward}
 use Rattle.nd_path_numbers.specs.Numbers.{Numbered, path_in, row_in, AreNumbered, AreKnown}
-use Rattle.nd_path_numbers.specs.Held.{is_among}
+use Rattle.nd_path_numbers.specs.Held.{is_among, with_new}
 use Rattle.nd_path_numbers.specs.Searches.{IsCovered, AddsUnheld, IsAlong, AreUnheld, IsUnheld}
 use Rattle.nd_path_numbers.specs.Searches.IsAlong.{seed, step}
 use Rattle.nd_path_numbers.proofs.Holding.{member_by_test}
@@ -61,17 +61,17 @@ adds_push held old new numbers n h there lacks = record {
 }
 
 -- a number that isn't held was put into the set
-pub adds_one : (held old new made numbers : List ℕ) (n : ℕ) → AddsUnheld held old new numbers → Contains numbers n → (Contains held n → ⊥) → made ≡ (if is_among new n then new else new ++ n ∷ []) → AddsUnheld held old made numbers
+pub adds_one : (held old new made numbers : List ℕ) (n : ℕ) → AddsUnheld held old new numbers → Contains numbers n → (Contains held n → ⊥) → made ≡ with_new new n (not (is_among new n)) → AddsUnheld held old made numbers
 adds_one held old new made numbers n h there lacks is = elim (cases_Bool (is_among new n)) [
-  | inl known ↦ subst (λ (xs : List ℕ). AddsUnheld held old xs numbers) (sym (is ∙ ap (λ (b : Bool). if b then new else new ++ n ∷ []) known)) h
-  | inr fresh ↦ subst (λ (xs : List ℕ). AddsUnheld held old xs numbers) (sym (is ∙ ap (λ (b : Bool). if b then new else new ++ n ∷ []) fresh)) (adds_push held old new numbers n h there lacks)
+  | inl known ↦ subst (λ (xs : List ℕ). AddsUnheld held old xs numbers) (sym (is ∙ ap (λ (b : Bool). with_new new n (not b)) known)) h
+  | inr fresh ↦ subst (λ (xs : List ℕ). AddsUnheld held old xs numbers) (sym (is ∙ ap (λ (b : Bool). with_new new n (not b)) fresh)) (adds_push held old new numbers n h there lacks)
 ]
 
-pub covers_one : (numbers held new made : List ℕ) (i n : ℕ) → i < length numbers → n ≡ get_or numbers i n → IsCovered (take i numbers) held new → made ≡ (if is_among new n then new else new ++ n ∷ []) → IsCovered (take (i + 1) numbers) held made
+pub covers_one : (numbers held new made : List ℕ) (i n : ℕ) → i < length numbers → n ≡ get_or numbers i n → IsCovered (take i numbers) held new → made ≡ with_new new n (not (is_among new n)) → IsCovered (take (i + 1) numbers) held made
 covers_one numbers held new made i n lt at covers is = elim (cases_Bool (is_among new n)) [
-  | inl known ↦ subst (λ (xs : List ℕ). IsCovered (take (i + 1) numbers) held xs) (sym (is ∙ ap (λ (b : Bool). if b then new else new ++ n ∷ []) known))
+  | inl known ↦ subst (λ (xs : List ℕ). IsCovered (take (i + 1) numbers) held xs) (sym (is ∙ ap (λ (b : Bool). with_new new n (not b)) known))
       (covers_more numbers held new i n lt at covers (inl ((member_by_test new n).0 known)))
-  | inr fresh ↦ subst (λ (xs : List ℕ). IsCovered (take (i + 1) numbers) held xs) (sym (is ∙ ap (λ (b : Bool). if b then new else new ++ n ∷ []) fresh))
+  | inr fresh ↦ subst (λ (xs : List ℕ). IsCovered (take (i + 1) numbers) held xs) (sym (is ∙ ap (λ (b : Bool). with_new new n (not b)) fresh))
       (covers_more numbers held (new ++ n ∷ []) i n lt at (covers_grown (take i numbers) held new (n ∷ []) covers) (inl (Contains-push new n)))
 ]
 

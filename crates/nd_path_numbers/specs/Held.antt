@@ -1,6 +1,6 @@
 -- The paths that machines hold, by number.
 -- Public clauses cite this.
-use Rattle.std.specs.Prelude.{◌≡◌, ◌≢◌, ℕ, Bool, List, [], length, slice_index_or, ◌==◌}
+use Rattle.std.specs.Prelude.{◌≡◌, ◌≢◌, ℕ, Bool, List, [], ◌∷◌, ◌++◌, length, slice_index_or, ◌==◌, if◌then◌else◌}
 use Rattle.std.specs.List.{list_any}
 
 -- what a contract sees of what a machine holds: the numbers in the order in which they came, each once, and how many more can be
@@ -12,6 +12,10 @@ pub record Hold : Type 0 where
 -- whether the numbers hold this one
 abbrev pub is_among : List ℕ → ℕ → Bool
 is_among numbers n = list_any (λ k. n == k) numbers
+
+-- the numbers, and behind them one more where that is new
+abbrev pub with_new : List ℕ → ℕ → Bool → List ℕ
+with_new numbers n is_new = if is_new then numbers ++ n ∷ [] else numbers
 
 -- nothing held, and no room
 abbrev pub empty_hold : Hold

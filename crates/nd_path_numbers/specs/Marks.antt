@@ -1,6 +1,6 @@
 -- Which numbers a list has, by flags and beyond them by a set.
 -- Private clauses alone cite this.
-use Rattle.std.specs.Prelude.{◌≡◌, ℕ, ◌≤◌, ◌<◌, ◌/◌, ◌%◌, Bool, true, false, if◌then◌else◌, List, length, slice_index_or, ◌==◌}
+use Rattle.std.specs.Prelude.{◌≡◌, ℕ, ◌≤◌, ◌<◌, ◌/◌, ◌%◌, Bool, List, Option, None, Some, length, slice_index_or, ◌==◌}
 use Rattle.std.specs.Int.{bit_at}
 use Rattle.indexmap.specs.IndexSet.{spare}
 use Rattle.nd_path_numbers.specs.Held.{is_among}
@@ -10,13 +10,16 @@ use Rattle.nd_path_numbers.specs.declared.marks.Marks.{Marks}
 abbrev pub is_up : List ℕ → ℕ → Bool
 is_up words n = bit_at (slice_index_or words (n / 64) 0) (n % 64) == 1
 
--- each flag is up exactly where the list has its number; of the numbers past the flags those in the set are in the list, and no
--- others are where the set is whole
+-- each flag is up exactly where the list has its number, and the set has just those of the list that have no flag
 pub record AreMarked (numbers : List ℕ) (m : Marks) : Type 0 where
   pub within : (n : ℕ) → n / 64 < length m.words.items → is_up m.words.items n ≡ is_among numbers n
-  pub others : (n : ℕ) → length m.words.items ≤ n / 64 → is_among m.others.keys n ≡ true → is_among numbers n ≡ true
-  pub whole : m.is_partial ≡ false → (n : ℕ) → length m.words.items ≤ n / 64 → is_among numbers n ≡ is_among m.others.keys n
+  pub others : (n : ℕ) → length m.words.items ≤ n / 64 → is_among numbers n ≡ is_among m.others.keys n
 
--- how many more numbers of any size can be noted without taking memory; marks that aren't whole promise none
+-- where there are marks, they are those of the list
+abbrev pub AreTold : List ℕ → Option Marks → Type 0
+AreTold numbers None = Unit {0}
+AreTold numbers (Some m) = AreMarked numbers m
+
+-- how many more numbers of any size can be noted without taking memory
 abbrev pub room_of : Marks → ℕ
-room_of m = if m.is_partial then 0 else spare m.others
+room_of m = spare m.others

@@ -4,6 +4,7 @@
 mod holdings;
 mod marks;
 mod path_numbers;
+mod reached;
 mod searching;
 
 pub use holdings::{Held, Holdings};

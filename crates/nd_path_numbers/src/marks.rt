@@ -1,6 +1,6 @@
 //! Which numbers a list has, told by flags and beyond them by a set.
 
-ghost use Rattle.std.specs.Prelude.{◌≡◌, ◌≤◌, ◌<◌, ◌+◌, ◌/◌, ℕ, List, ◌∷◌, ◌++◌, [], true, false, length, IfOk, OnOk, OnErr, IsOk, MatchOption};
+ghost use Rattle.std.specs.Prelude.{◌≡◌, ◌≤◌, ◌<◌, ◌+◌, ◌/◌, ℕ, List, ◌∷◌, ◌++◌, [], length, IfOk, OnOk, OnErr, IsOk};
 ghost use Rattle.nd_path_numbers.specs.Held.{is_among};
 ghost use Rattle.nd_path_numbers.specs.Marks.{AreMarked, room_of};
 
@@ -19,60 +19,54 @@ pub(crate) fn are_flags_paid(numbers: usize, limit: usize) -> bool {
 }
 
 /// A flag for each number below a limit, 64 in a word: it is up where a list has the number. What else the list
-/// has, past the limit, is in a set. Only the marks of a search's short list are partial: they have no flags and
-/// leave the set empty, so they tell of nothing until they are completed.
+/// has, past the limit, is in a set.
 #[derive(Debug, Drop)]
 pub(crate) struct Marks {
     words: Vec<u64>,
     others: IndexSet<usize>,
-    is_partial: bool,
 }
 
 impl Marks {
     /// The marks of the empty list, which has no flags. It takes no memory.
     pub(crate) fn new(alloc: Global) -> Marks
-        ensures marked { AreMarked [] result }
-        ensures whole { result.is_partial ≡ false }
-    {
-        Marks {
-            words: Vec::new(alloc),
-            others: IndexSet::new(alloc),
-            is_partial: false,
-        }
-    }
-
-    /// Marks that tell of no number, for a list that is short. They take no memory.
-    pub(crate) fn none(alloc: Global) -> Marks
         ensures { AreMarked [] result }
     {
         Marks {
             words: Vec::new(alloc),
             others: IndexSet::new(alloc),
-            is_partial: true,
         }
     }
 
-    /// The marks of a list, with a flag for each number below the limit.
-    pub(crate) fn with_flags(
+    /// The marks of a list. Each number below the limit has a flag, where so many numbers pay for them.
+    pub(crate) fn of(
         alloc: Global,
         numbers: &[usize],
+        paying: usize,
         limit: usize,
     ) -> Result<Marks, AllocError>
+        ensures { IfOk result (AreMarked numbers.now) }
+    {
+        if are_flags_paid(paying, limit) {
+            return Marks::with_flags(alloc, numbers, limit);
+        }
+        Marks::with_set(alloc, numbers)
+    }
+
+    /// The marks of a list, with a flag for each number below the limit.
+    fn with_flags(alloc: Global, numbers: &[usize], limit: usize) -> Result<Marks, AllocError>
         ensures { IfOk result (AreMarked numbers.now) }
     {
         let mut flags = Marks {
             words: vec![in alloc; 0; limit / WORD + 1]?,
             others: IndexSet::new(alloc),
-            is_partial: false,
         };
         flags.note_all(numbers)?;
         Ok(flags)
     }
 
     /// The marks of a list without flags.
-    pub(crate) fn with_set(alloc: Global, numbers: &[usize]) -> Result<Marks, AllocError>
-        ensures marked { IfOk result (AreMarked numbers.now) }
-        ensures whole { IfOk result (λ m. m.is_partial ≡ false) }
+    fn with_set(alloc: Global, numbers: &[usize]) -> Result<Marks, AllocError>
+        ensures { IfOk result (AreMarked numbers.now) }
     {
         let mut marks = Marks::new(alloc);
         marks.others.reserve(numbers.len())?;
@@ -82,8 +76,7 @@ impl Marks {
 
     /// Takes note of all numbers of a list, where these are the marks of the empty one.
     fn note_all(&mut self, numbers: &[usize]) -> Result<(), AllocError>
-        ensures noted { AreMarked [] self.old → OnOk result (AreMarked numbers.now self.new) }
-        ensures as_whole { self.new.is_partial ≡ self.old.is_partial }
+        ensures { AreMarked [] self.old → OnOk result (AreMarked numbers.now self.new) }
     {
         for number in numbers {
             self.note(*number)?;
@@ -93,39 +86,61 @@ impl Marks {
 
     /// The first number that has no flag.
     #[inline(always)]
-    pub(crate) fn limit(&self) -> usize {
+    fn limit(&self) -> usize {
         self.words.len().saturating_mul(WORD)
     }
 
     /// For how many more numbers without a flag there is room.
-    pub(crate) fn room(&self) -> usize
+    fn room(&self) -> usize
         ensures { room_of self.now ≤ result }
     {
         self.others.capacity() - self.others.len()
     }
 
-    /// Makes the marks of a list anew, as a set, where they don't tell of all its numbers.
-    pub(crate) fn complete(&mut self, numbers: &[usize]) -> Result<(), AllocError>
-        ensures marked { AreMarked numbers.now self.old → AreMarked numbers.now self.new }
-        ensures whole { OnOk result (self.new.is_partial ≡ false) }
-        ensures succeeds { 0 < room_of self.old → IsOk result }
+    /// Makes room for so many more numbers of the list, whether they have a flag or not.
+    pub(crate) fn reserve(&mut self, count: usize) -> Result<(), AllocError>
+        ensures marked { (numbers : List ℕ) → AreMarked numbers self.old → AreMarked numbers self.new }
+        ensures made { OnOk result (count ≤ room_of self.new) }
         ensures room { room_of self.old ≤ room_of self.new }
     {
-        if self.is_partial {
-            let alloc = *self.others.allocator();
-            *self = Marks::with_set(alloc, numbers)?;
+        self.others.reserve(count)
+    }
+
+    /// Makes sure that each number below the limit has a flag, where so many numbers pay for them.
+    #[inline(always)]
+    pub(crate) fn flag_below(
+        &mut self,
+        alloc: Global,
+        numbers: &[usize],
+        paying: usize,
+        limit: usize,
+    ) -> Result<(), AllocError>
+        ensures marked { AreMarked numbers.now self.old → AreMarked numbers.now self.new }
+        ensures room { room_of self.old ≤ room_of self.new }
+    {
+        if self.limit() < limit && are_flags_paid(paying, limit) {
+            self.flag_anew(alloc, numbers, limit)?;
         }
         Ok(())
     }
 
-    /// Completes the marks of a list and makes room for so many more of its numbers, whether they have a flag or not.
-    pub(crate) fn reserve(&mut self, numbers: &[usize], count: usize) -> Result<(), AllocError>
+    /// Gives each number below the limit a flag, with as much room for others as before. The flags at least double,
+    /// so that over many calls the list is walked through a few times as often as it has members, and no more.
+    #[inline(never)]
+    fn flag_anew(
+        &mut self,
+        alloc: Global,
+        numbers: &[usize],
+        limit: usize,
+    ) -> Result<(), AllocError>
         ensures marked { AreMarked numbers.now self.old → AreMarked numbers.now self.new }
-        ensures made { OnOk result (count ≤ room_of self.new) }
         ensures room { room_of self.old ≤ room_of self.new }
     {
-        self.complete(numbers)?;
-        self.others.reserve(count)
+        let limit = limit.max(self.limit().saturating_mul(2));
+        let mut marks = Marks::with_flags(alloc, numbers, limit)?;
+        marks.reserve(self.room())?;
+        *self = marks;
+        Ok(())
     }
 
     /// Takes note of one more number of the list. Of one that has a flag, or that room was made for, it takes no
@@ -136,7 +151,6 @@ impl Marks {
         ensures refused { OnErr result ((numbers : List ℕ) → AreMarked numbers self.old → AreMarked numbers self.new) }
         ensures succeeds { 0 < room_of self.old → IsOk result }
         ensures room { room_of self.old ≤ room_of self.new + 1 }
-        ensures as_whole { self.new.is_partial ≡ self.old.is_partial }
     {
         let place = number / WORD;
         if place < self.words.len() {
@@ -154,38 +168,29 @@ impl Marks {
         ensures refused { OnErr result ((numbers : List ℕ) → AreMarked numbers self.old → AreMarked numbers self.new) }
         ensures succeeds { 0 < room_of self.old → IsOk result }
         ensures room { room_of self.old ≤ room_of self.new + 1 }
-        ensures as_whole { self.new.is_partial ≡ self.old.is_partial }
     {
-        if !self.is_partial {
-            self.others.insert(number)?;
-        }
+        self.others.insert(number)?;
         Ok(())
     }
 
-    /// Whether the list has this number, where the marks tell. It takes no memory.
+    /// Whether the list has this number. It takes no memory.
     #[inline(always)]
-    pub(crate) fn tell(&self, number: usize) -> Option<bool>
-        ensures { MatchOption result (self.now.is_partial ≡ true) (λ has. (numbers : List ℕ) → AreMarked numbers self.now → has ≡ is_among numbers number) }
+    pub(crate) fn tell(&self, number: usize) -> bool
+        ensures { (numbers : List ℕ) → AreMarked numbers self.now → result ≡ is_among numbers number }
     {
         match self.words.get(number / WORD) {
-            Some(word) => Some(*word >> (number % WORD) & 1 == 1),
+            Some(word) => *word >> (number % WORD) & 1 == 1,
             None => self.tell_other(number),
         }
     }
 
     /// The same of one that has no flag.
     #[inline(never)]
-    fn tell_other(&self, number: usize) -> Option<bool>
+    fn tell_other(&self, number: usize) -> bool
         requires { length self.now.words.items ≤ number / 64 }
-        ensures { MatchOption result (self.now.is_partial ≡ true) (λ has. (numbers : List ℕ) → AreMarked numbers self.now → has ≡ is_among numbers number) }
+        ensures { (numbers : List ℕ) → AreMarked numbers self.now → result ≡ is_among numbers number }
     {
-        if self.others.contains(&number) {
-            return Some(true);
-        }
-        if self.is_partial {
-            return None;
-        }
-        Some(false)
+        self.others.contains(&number)
     }
 
     /// A copy of the flags.
@@ -210,7 +215,6 @@ impl Marks {
         Ok(Marks {
             words: self.words_again()?,
             others: self.others_again()?,
-            is_partial: self.is_partial,
         })
     }
 }

@@ -6,6 +6,7 @@ ghost use Rattle.nd_path_numbers.specs.Searches.{IsCovered, AddsUnheld, AreUnhel
 
 use crate::holdings::Held;
 use crate::path_numbers::PathNumbers;
+use crate::reached::Reached;
 use nd_path::{PathSet, StorePath};
 use std::alloc::{AllocError, Global};
 
@@ -53,11 +54,11 @@ fn search(
     seeds: &[usize],
     numbers: &PathNumbers,
     held: &Held,
-) -> Result<Held, AllocError>
-    ensures { IfOk result (λ s. AreUnheld numbers.now.rows held.now.numbers seeds.now s.numbers) }
+) -> Result<Reached, AllocError>
+    ensures { IfOk result (AreUnheld numbers.now.rows held.now.numbers seeds.now) }
 {
     let known = numbers.len();
-    let mut found = Held::nothing(alloc);
+    let mut found = Reached::new(alloc);
     add_unheld(alloc, &mut found, seeds, held, known)?;
     // A list has fewer members than the counter has values, so the search ends at the `break`.
     for next in 0..usize::MAX {
@@ -75,19 +76,19 @@ fn search(
 /// Adds each number that is not held, behind those that were found, where it isn't among them.
 fn add_unheld(
     alloc: Global,
-    found: &mut Held,
+    found: &mut Reached,
     numbers: &[usize],
     held: &Held,
     known: usize,
 ) -> Result<(), AllocError>
-    ensures only { OnOk result (AddsUnheld held.now.numbers found.old.numbers found.new.numbers numbers.now) }
-    ensures all { OnOk result (IsCovered numbers.now held.now.numbers found.new.numbers) }
+    ensures only { OnOk result (AddsUnheld held.now.numbers found.old found.new numbers.now) }
+    ensures all { OnOk result (IsCovered numbers.now held.now.numbers found.new) }
 {
     for number in numbers {
         if held.contains(*number) {
             continue;
         }
-        found.find(alloc, *number, known)?;
+        found.add(alloc, *number, known)?;
     }
     Ok(())
 }

@@ -1,11 +1,11 @@
 -- The derivations of each group: the list that they stand in, and the least ready one.
-use Rattle.std.proofs.Common.{◌≡◌, ◌≤◌, ◌<◌, ◌+◌, ◌++◌, ◌∷◌, ◌⊎◌, [], ℕ, Bool, true, false, List, length, get_or, refl, ap, sym, ◌∙◌, subst, inl, inr, arith}
+use Rattle.std.proofs.Common.{◌≡◌, ◌<◌, ◌+◌, ◌++◌, ◌∷◌, ◌⊎◌, [], ℕ, Bool, false, List, length, get_or, refl, ap, sym, ◌∙◌, subst, inl, inr, arith}
 use Rattle.std.proofs.Math.ListN.{set, length-set}
 use Rattle.std.proofs.lemmas.List.{get_or-set_same, get_or-set_other, get_or_append_left, get_or_push, length-append}
 use Rattle.std.proofs.lemmas.Bool.{cases_eq, cases_lt}
 use Rattle.nd_flags.specs.Members.{IsMember, IsLeastFrom}
 use Rattle.nd_flags.proofs.RowFacts.{IsMember-within}
-use Rattle.nd_queue.specs.Grouped.{group_in, list_of, flags_of, place_in, drv_at, IsSeated, AreSeated, AreFlagged, Readied, IsReadyIn, IsLeastReady}
+use Rattle.nd_queue.specs.Grouped.{group_in, list_of, flags_of, place_in, drv_at, IsSeated, AreSeated, AreFlagged, IsLeastReady}
 
 -- the first flag of a group that is up stands for its least ready derivation
 pub least_of : (groups places : List ℕ) (lists : List (List ℕ)) (flags : List (List Bool)) (ready : List Bool) (g k : ℕ)

@@ -1,11 +1,10 @@
 -- What a queue keeps, after each change of it.
-use Rattle.std.proofs.Common.{◌≡◌, ◌≤◌, ◌<◌, ◌+◌, ℕ, Bool, true, false, List, Option, None, Some, length, Vec, Global, sym, ◌∙◌, subst, arith}
+use Rattle.std.proofs.Common.{◌≡◌, ◌<◌, ℕ, Bool, true, false, List, None, Some, length, Vec, Global, sym, ◌∙◌, subst, arith}
 use Rattle.std.proofs.Math.ListN.{set, length-set}
 use Rattle.nd_flags.proofs.RowFacts.{IsMember-within}
-use Rattle.nd_flags.specs.Members.{IsMember}
 use Rattle.nd_queue.specs.Grouped.{group_in, Readied, IsFirstReadyIn}
-use Rattle.nd_queue.specs.Queues.{Queued, IsDue}
-use Rattle.nd_queue.specs.QueueKept.{queued, IsKept, IsHeadOf, AreHeaded}
+use Rattle.nd_queue.specs.Queues.{IsDue}
+use Rattle.nd_queue.specs.QueueKept.{queued, IsKept, AreHeaded}
 use Rattle.nd_queue.specs.declared.queue.Queue.TheInside.{Inside}
 use Rattle.nd_queue.proofs.QueueFacts.{added, removed_others, woken_others, flagged_more, none_of, unflagged}
 

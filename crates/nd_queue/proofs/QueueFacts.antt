@@ -1,11 +1,11 @@
 -- Each derivation that is due has a head, after each change of a queue.
-use Rattle.std.proofs.Common.{◌≡◌, ◌≤◌, ◌<◌, ◌+◌, ℕ, Bool, true, false, List, Option, None, Some, length, get_or, refl, ap, sym, ◌∙◌, subst, inl, inr, arith}
-use Rattle.std.proofs.Math.ListN.{set, length-set}
+use Rattle.std.proofs.Common.{◌≡◌, ◌≤◌, ◌<◌, ◌+◌, ℕ, Bool, true, false, List, length, get_or, refl, ap, sym, ◌∙◌, subst, inl, inr, arith}
+use Rattle.std.proofs.Math.ListN.{set}
 use Rattle.std.proofs.lemmas.List.{get_or-set_same, get_or-set_other}
 use Rattle.std.proofs.lemmas.Bool.{cases_eq, cases_lt, false≢true}
 use Rattle.nd_flags.specs.Members.{IsMember, IsLeastFrom}
-use Rattle.nd_queue.specs.Grouped.{group_in, Readied, IsReadyIn, IsLeastReady, IsFirstReadyIn}
-use Rattle.nd_queue.specs.Queues.{Queued, IsDue, IsLeastDue, IsFirstDue}
+use Rattle.nd_queue.specs.Grouped.{group_in, IsReadyIn, IsLeastReady}
+use Rattle.nd_queue.specs.Queues.{Queued, IsDue, IsLeastDue}
 use Rattle.nd_queue.specs.QueueKept.{IsHeadOf, AreHeaded}
 
 -- a flag that is put up leaves the others

@@ -1,6 +1,6 @@
 -- What the fields of a queue keep, beside what the model shows.
 -- No public clause cites this: it says what a type keeps.
-use Rattle.std.specs.Prelude.{◌≡◌, ◌≤◌, ◌<◌, ℕ, Bool, List, length}
+use Rattle.std.specs.Prelude.{◌≡◌, ◌≤◌, ℕ, Bool, List, length}
 use Rattle.nd_flags.specs.Members.{IsMember}
 use Rattle.nd_queue.specs.Grouped.{group_in}
 use Rattle.nd_queue.specs.Queues.{Queued, IsDue}

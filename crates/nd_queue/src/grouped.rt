@@ -2,8 +2,7 @@
 ghost use Rattle.std.specs.Prelude.{◌≡◌, ◌<◌, All, Bool, List, false, length, slice_set, slice_index_or, replicate, IfOk};
 ghost use Rattle.nd_queue.specs.Grouped.{AreSeated, AreFlagged, IsFirstReadyIn, group_in};
 
-use crate::lists::Lists;
-use nd_flags::NodeSet;
+use nd_flags::{Lists, NodeSet};
 use std::alloc::{AllocError, Global};
 use std::marker::Model;
 

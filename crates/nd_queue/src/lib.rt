@@ -2,8 +2,6 @@
 #![tactic(auto)]
 
 mod grouped;
-mod lists;
 mod queue;
 
-pub use lists::Lists;
 pub use queue::Queue;

@@ -1,4 +1,4 @@
-use Rattle.std.proofs.Common.{◌≡◌, ◌<◌, ℕ, false, List, [], length, replicate}
+use Rattle.std.proofs.Common.{◌≡◌, ◌<◌, ℕ, false, length, replicate}
 use Rattle.nd_queue.specs.Grouped.{list_of, flags_of}
 use Rattle.nd_queue.proofs.grouped.lowered.Given as goal
 

@@ -10,4 +10,4 @@ returns-then-place-len-clause-noted c =
     let word : c.index_mut.result.now ≡ get_or c.args.self.now.words.items (c.args.number / 64) 0 =
     c.index_mut.ensures.value ∙ get_or_default_zero c.args.self.now.words.items (c.args.number / 64) c.index_mut.result.now lt in
     λ numbers h.
-    noted numbers c.args.self.now _ c.args.number lt (ap (λ (w : ℕ). set c.args.self.now.words.items (c.args.number / 64) (bit_or w (1 * 2 ^ (c.args.number % 64) % 2 ^ bits w64))) word) refl refl h
+    noted numbers c.args.self.now _ c.args.number lt (ap (λ (w : ℕ). set c.args.self.now.words.items (c.args.number / 64) (bit_or w (1 * 2 ^ (c.args.number % 64) % 2 ^ bits w64))) word) refl h

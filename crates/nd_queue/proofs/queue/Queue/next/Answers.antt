@@ -1,8 +1,8 @@
-use Rattle.std.proofs.Common.{◌≡◌, ◌<◌, ◌≤◌, ◌+◌, ◌↔◌, ℕ, Bool, false, List, length, IsTrue, sym, subst, ap, ◌∙◌, arith}
-use Rattle.std.proofs.Math.ListN.{set, length-set}
+use Rattle.std.proofs.Common.{◌<◌, ◌↔◌, Bool, false, List, length, IsTrue, sym, subst, ap, ◌∙◌, arith}
+use Rattle.std.proofs.Math.ListN.{length-set}
 use Rattle.std.proofs.lemmas.Bool.{false≢true}
 use Rattle.nd_flags.proofs.RowFacts.{IsMember-within}
-use Rattle.nd_queue.specs.Queues.{Queued, IsDue}
+use Rattle.nd_queue.specs.Queues.{IsDue}
 use Rattle.nd_queue.specs.QueueKept.{queued}
 use Rattle.nd_queue.proofs.Keeping.{kept_searched}
 use Rattle.nd_queue.proofs.QueueFacts.{searched_more}

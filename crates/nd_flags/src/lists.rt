@@ -5,7 +5,7 @@ use std::alloc::{AllocError, Global};
 use std::marker::Model;
 
 /// A list of numbers.
-#[derive(Drop, Debug)]
+#[derive(Drop, Debug, Clone)]
 struct Numbers {
     items: Vec<usize>,
 }
@@ -19,7 +19,7 @@ impl Model for Numbers {
 }
 
 /// A list of numbers for each group.
-#[derive(Drop, Debug)]
+#[derive(Drop, Debug, Clone)]
 pub struct Lists {
     lists: Vec<Numbers>,
 }
@@ -45,6 +45,15 @@ impl Lists {
         Ok(Lists { lists })
     }
 
+    /// No lists, with room for `count` of them.
+    pub fn with_capacity(alloc: Global, count: usize) -> Result<Lists, AllocError>
+        ensures { IfOk result (λ lists. lists ≡ []) }
+    {
+        Ok(Lists {
+            lists: Vec::with_capacity(alloc, count)?,
+        })
+    }
+
     /// The number of lists.
     pub fn len(&self) -> usize
         ensures { result ≡ length self.now }
@@ -68,5 +77,21 @@ impl Lists {
     {
         self.lists[group].items.push(number)?;
         Ok(())
+    }
+
+    /// Adds the list of one more group.
+    pub fn add(&mut self, items: Vec<usize>) -> Result<(), AllocError>
+        ensures ok { OnOk result (self.new ≡ self.old ++ items.items ∷ []) }
+        ensures err { OnErr result (self.new ≡ self.old) }
+    {
+        self.lists.push(Numbers { items })?;
+        Ok(())
+    }
+
+    /// Equal lists.
+    pub fn try_clone(&self) -> Result<Lists, AllocError>
+        ensures { IfOk result (λ copy. copy ≡ self.now) }
+    {
+        self.clone()
     }
 }

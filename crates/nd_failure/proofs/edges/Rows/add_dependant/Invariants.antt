@@ -1,6 +1,0 @@
-use Rattle.std.proofs.Common.{take}
-use Rattle.nd_failure.specs.Reversed.{AddsDependant}
-use Rattle.nd_failure.proofs.edges.Rows.add_dependant.Given as goal
-
-abbrev pub invariant-loop-input : goal.invariant-loop-input
-invariant-loop-input l = AddsDependant l.node (take l.input-index l.inputs) l.initial.self l.self
