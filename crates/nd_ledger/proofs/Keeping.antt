@@ -22,7 +22,7 @@ use Rattle.nd_provision.specs.Stored.{Stored, AreStored, is_quiet, IsSameStored,
 use Rattle.nd_provision.specs.declared.copying.Additions.{Additions}
 use Rattle.nd_history.specs.Pumping.{step_drv}
 use Rattle.nd_ledger.specs.declared.state.State.{State}
-use Rattle.nd_ledger.specs.States.{IsEntered, IsRoomier, IsStepRecorded, CanTurn}
+use Rattle.nd_ledger.specs.States.{IsEntered, IsRoomier, IsAppended, CanTurn}
 use Rattle.nd_ledger.specs.Moves.{IsReadyToStart, IsReadyToEnd}
 use Rattle.nd_ledger.specs.Inner.{IsKept, room_for}
 use Rattle.nd_history.specs.Marks.{AreMarked}
@@ -212,9 +212,9 @@ step_quiet (Started c paths) d h = cc
 step_quiet (Built c refs) d h = cc
 step_quiet e d h = refl
 
--- a step is recorded
-pub kept_step : (d : Inside) (after : State) (e : Entry) → IsStepRecorded d.state after e → IsKept d → IsAllowed (premises_of d.inputs) e (reverse d.state.book.entries) → is_quiet e ≡ true → IsKept (record d { state = after })
-kept_step d after e rec was allowed quiet =
+-- an entry that is no start and no build is appended
+pub kept_appended : (d : Inside) (after : State) (e : Entry) → IsAppended d.state after e → IsKept d → IsAllowed (premises_of d.inputs) e (reverse d.state.book.entries) → is_quiet e ≡ true → IsKept (record d { state = after })
+kept_appended d after e rec was allowed quiet =
     let one = rec.entered in
     let had = rec.room in
     let roomy : Recorded = record { entries = d.state.book.entries; room = after.book.room + 1; drvs = after.book.drvs; machines = after.book.machines; rooms = after.book.rooms } in
