@@ -53,43 +53,31 @@ pub ticket_of : (d : ℕ) (past : List Entry) (found : Option Ticket) → found 
 ticket_of d past None is = unleased d past (sym is)
 ticket_of d past (Some t) is = (own_lease d past t (sym is), own_live d past t (sym is))
 
--- a derivation with a live lease of its own is leased
-pub leased_own : (past : List Entry) (d : ℕ) (t : Ticket) → t.drv ≡ d → IsLive past t → is_leased d past ≡ true
-leased_own past d t own is = let P : ℕ → Type 0 = λ x. is_leased x past ≡ true in subst P own (leased_by t.drv past t is)
-
 -- ---- rules that take no memory
 
--- a start of a lease that is live and not started passes those
-pub free_start : (i : Premises) (past : List Entry) (d : ℕ) (paths : List (List ℕ)) → d < drvs_in i → is_leased d past ≡ true → is_started d past ≡ false → PassesFreely i past (Starting d paths)
-free_start i past d paths ranged leased fresh = record { each = each }
+-- what passes each of those, one by one
+freely : (i : Premises) (past : List Entry) (e : Entry) → Passes i past e Range → Passes i past e Ready → Passes i past e Decision → Passes i past e Best → Passes i past e Slot → Passes i past e Live → Passes i past e StartedRule → Passes i past e Stopped → PassesFreely i past e
+freely i past e ranged ready decided best slot live started stopped = record { each = each }
   where
-    each : (rule : Rule) → is_over_paths rule ≡ false → Passes i past (Starting d paths) rule
+    each : (rule : Rule) → is_over_paths rule ≡ false → Passes i past e rule
     each Range free = ranged
-    each Ready free = tt
-    each Decision free = tt
-    each Best free = tt
-    each Slot free = tt
-    each Live free = leased
-    each StartedRule free = fresh
+    each Ready free = ready
+    each Decision free = decided
+    each Best free = best
+    each Slot free = slot
+    each Live free = live
+    each StartedRule free = started
     each Paths free = let no_way : ⊥ = cc in absurd no_way
-    each References free = tt
-    each Stopped free = tt
+    each References free = let no_way : ⊥ = cc in absurd no_way
+    each Stopped free = stopped
+
+-- a start of a lease that is live and not started passes those
+free_start : (i : Premises) (past : List Entry) (d : ℕ) (paths : List (List ℕ)) → d < drvs_in i → is_leased d past ≡ true → is_started d past ≡ false → PassesFreely i past (Starting d paths)
+free_start i past d paths ranged leased fresh = freely i past (Starting d paths) ranged tt tt tt tt leased fresh tt
 
 -- .. and the end of a build of one that is live and started
-pub free_end : (i : Premises) (past : List Entry) (d : ℕ) (refs : List (List (List ℕ))) → d < drvs_in i → is_leased d past ≡ true → is_started d past ≡ true → PassesFreely i past (Built d refs)
-free_end i past d refs ranged leased started = record { each = each }
-  where
-    each : (rule : Rule) → is_over_paths rule ≡ false → Passes i past (Built d refs) rule
-    each Range free = ranged
-    each Ready free = tt
-    each Decision free = tt
-    each Best free = tt
-    each Slot free = tt
-    each Live free = leased
-    each StartedRule free = started
-    each Paths free = tt
-    each References free = let no_way : ⊥ = cc in absurd no_way
-    each Stopped free = tt
+free_end : (i : Premises) (past : List Entry) (d : ℕ) (refs : List (List (List ℕ))) → d < drvs_in i → is_leased d past ≡ true → is_started d past ≡ true → PassesFreely i past (Built d refs)
+free_end i past d refs ranged leased started = freely i past (Built d refs) ranged tt tt tt tt leased started tt
 
 -- .. and what is allowed
 pub free_allowed : (i : Premises) (past : List Entry) (e : Entry) → IsAllowed i e past → PassesFreely i past e
@@ -126,6 +114,14 @@ uncovered i past t paths is bare supplied =
 beside : (i : Premises) (past : List Entry) (t : Ticket) (paths : List (List ℕ)) → IsExtra i past t.drv t.machine paths → IsSupplied i past t.drv paths → ⊥
 beside i past t paths extra supplied = extra.unneeded (supplied.right.needed extra.path extra.copied)
 
+-- what refuses an entry of the ticket's derivation refuses that of derivation d, which it is
+own_refused : (entry : ℕ → Entry) (i : Premises) (past : List Entry) (d : ℕ) (t : Ticket) (why : Refusal) (error : AdmitError) → d < drvs_in i → t.drv ≡ d → (t.drv < drvs_in i → IsAdmitRefused i past (entry t.drv) (admit_error_for why)) → error ≡ admit_error_for why → IsAdmitRefused i past (entry d) error
+own_refused entry i past d t why error ranged own refused same =
+    let P : ℕ → Type 0 = λ x. IsAdmitRefused i past (entry x) (admit_error_for why) in
+    let Q : ℕ → Type 0 = λ x. x < drvs_in i in
+    let R : AdmitError → Type 0 = λ e. IsAdmitRefused i past (entry d) e in
+    subst R (sym same) (subst P own (refused (subst Q (sym own) ranged)))
+
 start_at : (i : Premises) (past : List Entry) (t : Ticket) (paths : List (List ℕ)) (why : Refusal) → t.drv < drvs_in i → IsLive past t → IsStartRefused i past t paths why → IsAdmitRefused i past (Starting t.drv paths) (admit_error_for why)
 start_at i past t paths NotLive ranged is h = absurd (h is)
 start_at i past t paths AlreadyStarted ranged is h = started_twice i past t.drv paths ranged (leased_by t.drv past t is) (λ fresh. let was = h.1 in cc)
@@ -136,11 +132,8 @@ start_at i past t paths NotStarted ranged is h = absurd h
 start_at i past t paths BadReferences ranged is h = absurd h
 start_at i past t paths AlreadyStopped ranged is h = absurd h
 
-pub start_illegal : (i : Premises) (past : List Entry) (d : ℕ) (t : Ticket) (paths : List (List ℕ)) (why : Refusal) → d < drvs_in i → t.drv ≡ d → IsLive past t → IsStartRefused i past t paths why → IsAdmitRefused i past (Starting d paths) (admit_error_for why)
-start_illegal i past d t paths why ranged own is h =
-    let P : ℕ → Type 0 = λ x. IsAdmitRefused i past (Starting x paths) (admit_error_for why) in
-    let Q : ℕ → Type 0 = λ x. x < drvs_in i in
-    subst P own (start_at i past t paths why (subst Q (sym own) ranged) is h)
+pub start_illegal : (i : Premises) (past : List Entry) (d : ℕ) (t : Ticket) (paths : List (List ℕ)) (why : Refusal) (error : AdmitError) → d < drvs_in i → t.drv ≡ d → IsLive past t → IsStartRefused i past t paths why → error ≡ admit_error_for why → IsAdmitRefused i past (Starting d paths) error
+start_illegal i past d t paths why error ranged own is h same = own_refused (λ x. Starting x paths) i past d t why error ranged own (λ at. start_at i past t paths why at is h) same
 
 end_at : (i : Premises) (past : List Entry) (t : Ticket) (refs : List (List (List ℕ))) (why : Refusal) → t.drv < drvs_in i → IsLive past t → IsEndRefused i past t refs why → IsAdmitRefused i past (Built t.drv refs) (admit_error_for why)
 end_at i past t refs NotLive ranged is h = absurd (h is)
@@ -152,11 +145,8 @@ end_at i past t refs Uncovered ranged is h = absurd h
 end_at i past t refs Extra ranged is h = absurd h
 end_at i past t refs AlreadyStopped ranged is h = absurd h
 
-pub end_illegal : (i : Premises) (past : List Entry) (d : ℕ) (t : Ticket) (refs : List (List (List ℕ))) (why : Refusal) → d < drvs_in i → t.drv ≡ d → IsLive past t → IsEndRefused i past t refs why → IsAdmitRefused i past (Built d refs) (admit_error_for why)
-end_illegal i past d t refs why ranged own is h =
-    let P : ℕ → Type 0 = λ x. IsAdmitRefused i past (Built x refs) (admit_error_for why) in
-    let Q : ℕ → Type 0 = λ x. x < drvs_in i in
-    subst P own (end_at i past t refs why (subst Q (sym own) ranged) is h)
+pub end_illegal : (i : Premises) (past : List Entry) (d : ℕ) (t : Ticket) (refs : List (List (List ℕ))) (why : Refusal) (error : AdmitError) → d < drvs_in i → t.drv ≡ d → IsLive past t → IsEndRefused i past t refs why → error ≡ admit_error_for why → IsAdmitRefused i past (Built d refs) error
+end_illegal i past d t refs why error ranged own is h same = own_refused (λ x. Built x refs) i past d t why error ranged own (λ at. end_at i past t refs why at is h) same
 
 down_at : (i : Premises) (past : List Entry) (t : Ticket) (why : Refusal) → t.drv < drvs_in i → IsLive past t → IsDownRefused past t why → IsAdmitRefused i past (Down t.drv) (admit_error_for why)
 down_at i past t NotLive ranged is h = absurd (h is)
@@ -168,11 +158,8 @@ down_at i past t BadReferences ranged is h = absurd h
 down_at i past t AlreadyStopped ranged is h = absurd h
 down_at i past t NoMemory ranged is h = absurd h
 
-pub down_illegal : (i : Premises) (past : List Entry) (d : ℕ) (t : Ticket) (why : Refusal) → d < drvs_in i → t.drv ≡ d → IsLive past t → IsDownRefused past t why → IsAdmitRefused i past (Down d) (admit_error_for why)
-down_illegal i past d t why ranged own is h =
-    let P : ℕ → Type 0 = λ x. IsAdmitRefused i past (Down x) (admit_error_for why) in
-    let Q : ℕ → Type 0 = λ x. x < drvs_in i in
-    subst P own (down_at i past t why (subst Q (sym own) ranged) is h)
+pub down_illegal : (i : Premises) (past : List Entry) (d : ℕ) (t : Ticket) (why : Refusal) (error : AdmitError) → d < drvs_in i → t.drv ≡ d → IsLive past t → IsDownRefused past t why → error ≡ admit_error_for why → IsAdmitRefused i past (Down d) error
+down_illegal i past d t why error ranged own is h same = own_refused (λ x. Down x) i past d t why error ranged own (λ at. down_at i past t why at is h) same
 
 pub stop_illegal : (i : Premises) (past : List Entry) (why : Refusal) → IsStopRefused past why → IsAdmitRefused i past Stop (admit_error_for why)
 stop_illegal i past AlreadyStopped h = stopped_twice i past (λ none. let was : has_stop past ≡ true = h in cc)

@@ -1,7 +1,7 @@
 -- What a dispatch holds stays so when an allowed entry is recorded.
 use Rattle.std.proofs.Common.{◌≡◌, ℕ, ◌+◌, ◌<◌, ◌≤◌, Bool, true, false, not, ◌==◌, ◌||◌, cond, if◌then◌else◌, List, [], ◌∷◌, length, reverse, refl, sym, ap, ◌∙◌, subst, arith, Option, None, Some}
 use Rattle.std.proofs.lemmas.Grind.{common_steps}
-use Rattle.std.specs.List.{list_any, filter, find}
+use Rattle.std.specs.List.{list_any, filter}
 use Rattle.std.specs.Option.{option_map, IfSome}
 use Rattle.nd_ledger.specs.declared.dispatch.Dispatch.TheInside.{Inside}
 use Rattle.nd_history.specs.declared.entry.Entry.{Entry}
@@ -10,8 +10,8 @@ use Rattle.nd_leases.specs.declared.ticket.Ticket.{Ticket}
 use Rattle.nd_history.specs.declared.entry.Why.{Why}
 use Rattle.nd_history.specs.Books.{Recorded}
 use Rattle.nd_history.specs.Premises.{Premises, premises_of}
-use Rattle.nd_failure.specs.Progress.{Progress, IsLeased}
-use Rattle.nd_history.specs.History.{live, load, is_leased, lease_of, is_started, has_stop}
+use Rattle.nd_failure.specs.Progress.{Progress}
+use Rattle.nd_history.specs.History.{live, load, lease_of, is_started, has_stop}
 use Rattle.nd_leases.specs.Tickets.{without}
 use Rattle.nd_graph.specs.Graphs.{IsSound}
 use Rattle.nd_history.specs.Standing.{drvs_in}
@@ -22,21 +22,24 @@ use Rattle.nd_provision.specs.Stored.{Stored, AreStored, is_quiet, IsSameStored,
 use Rattle.nd_provision.specs.declared.copying.Additions.{Additions}
 use Rattle.nd_history.specs.Pumping.{step_drv}
 use Rattle.nd_ledger.specs.declared.state.State.{State}
-use Rattle.nd_ledger.specs.States.{IsEntered, IsRoomier, IsStepRecorded, CanTurn}
+use Rattle.nd_ledger.specs.States.{IsEntered, IsRoomier, IsAppended, CanTurn}
 use Rattle.nd_ledger.specs.Moves.{IsReadyToStart, IsReadyToEnd}
-use Rattle.nd_ledger.specs.Inner.{IsKept, room_for}
-use Rattle.nd_history.specs.Marks.{AreMarked}
+use Rattle.nd_ledger.specs.Inner.{IsKept, room_for, seen}
+use Rattle.nd_ledger.specs.Refusals.{IsLive}
+use Rattle.nd_ledger.specs.Worlds.{World}
+use Rattle.nd_ledger.proofs.Tickets.{live_in_graph, ticket_ranged}
+use Rattle.nd_ledger.proofs.Admitting.{own_live, allowed_started, allowed_built, allowed_failed, allowed_down}
+use Rattle.nd_history.specs.Marks.{AreMarked, CanFollow}
 use Rattle.nd_history.specs.Choices.{machines_in}
 use Rattle.nd_history.specs.Legal.{IsInRange}
-use Rattle.nd_pump.specs.Turned.{Turned, AreTurns, HasSearched, touched}
+use Rattle.nd_pump.specs.Turned.{Turned, AreTurns, touched}
 use Rattle.nd_pump.specs.Listing.{IsNewsWithin}
 use Rattle.nd_pump.proofs.Following.{turned_after}
-use Rattle.nd_pump.proofs.Taking.{drvs_needs, turns_searched}
+use Rattle.nd_pump.proofs.Taking.{drvs_needs}
 use Rattle.nd_history.proofs.Following.{newest_first}
-use Rattle.nd_history.proofs.Legality.{leased_ranged, allowed_at}
-use Rattle.nd_history.proofs.Headline.{chosen_in}
 use Rattle.nd_history.proofs.Slots.{load_within}
-use Rattle.nd_history.proofs.Boards.{leased_marked}
+use Rattle.nd_history.proofs.Boards.{can_follow}
+use Rattle.nd_history.proofs.Provisions.{leased_by}
 use Rattle.nd_history.proofs.Marking.{followed}
 use Rattle.nd_provision.proofs.Storing.{stored_quiet, stored_same, stored_start, stored_built}
 
@@ -71,20 +74,7 @@ kept_with d after stores e rec was allowed room stored =
 pub kept : (d : Inside) (after : State) (e : Entry) → IsEntered d.state after e → IsKept d → IsAllowed (premises_of d.inputs) e (reverse d.state.book.entries) → room_for (e ∷ reverse d.state.book.entries) + 1 ≤ d.state.book.room → is_quiet e ≡ true → IsKept (record d { state = after })
 kept d after e rec was allowed room quiet = kept_with d after d.stores e rec was allowed room (stored_quiet (premises_of d.inputs) (reverse d.state.book.entries) e d.stores quiet was.stores)
 
--- ---- leases that are found
-
-found_step : (d : ℕ) (x : Ticket) (leases : List Ticket) (t : Ticket) (b : Bool) → cond b (Some x) (find (λ t. d == t.drv) leases) ≡ Some t → (find (λ t. d == t.drv) leases ≡ Some t → list_any (λ t. d == t.drv) leases ≡ true) → (b || list_any (λ t. d == t.drv) leases) ≡ true
-found_step d x leases t true h rest = refl
-found_step d x leases t false h rest = rest h
-
--- a lease that is found is there
-pub found_any : (d : ℕ) (leases : List Ticket) (t : Ticket) → find (λ t. d == t.drv) leases ≡ Some t → list_any (λ t. d == t.drv) leases ≡ true
-found_any d [] t h = cc
-found_any d (x ∷ leases) t h = found_step d x leases t (d == x.drv) h (found_any d leases t)
-
--- a derivation's lease that is found makes it leased
-pub found_leased : (d : ℕ) (past : List Entry) (t : Ticket) → lease_of d past ≡ Some t → is_leased d past ≡ true
-found_leased d past t h = found_any d (live past) t h
+-- ---- leases that are taken out
 
 filter_le : {X : Type 0} → (p : X → Bool) (xs : List X) → length (filter p xs) ≤ length xs
 filter_le p [] = grind (arith, common_steps)
@@ -101,23 +91,19 @@ fewer d (t ∷ leases) h = fewer_step d t leases (d == t.drv) h (fewer d leases)
 
 -- ---- the entries that end leases, and a stop
 
-pub kept_failed : (d : Inside) (after : State) (t : Ticket) (e : Entry) (why : Why) → e ≡ Failed t.drv why → IsEntered d.state after e → IsKept d → lease_of t.drv (reverse d.state.book.entries) ≡ Some t → IsKept (record d { state = after })
-kept_failed d after t e why is rec was found =
-    let past = reverse d.state.book.entries in
-    let leased = found_leased t.drv past t found in
-    let P : Entry → Type 0 = λ e. IsEntered d.state after e in
-    kept d after (Failed t.drv why) (subst P is rec) was
-    (record { ranged = leased_ranged (premises_of d.inputs) past was.legal t.drv leased; may = leased })
-    (let less = fewer t.drv (live past) leased in let room = was.room in omega arith) refl
+-- where a live lease is taken out, there is room for one entry more
+ended_room : (past : List Entry) (t : Ticket) (n : ℕ) → IsLive past t → room_for past ≤ n → length (without t.drv (live past)) + (if has_stop past then 0 else 1) + 1 ≤ n
+ended_room past t n found room = let less = fewer t.drv (live past) (leased_by t.drv past t found) in omega arith
 
-pub kept_down : (d : Inside) (after : State) (t : Ticket) (e : Entry) → e ≡ Down t.drv → IsEntered d.state after e → IsKept d → lease_of t.drv (reverse d.state.book.entries) ≡ Some t → is_started t.drv (reverse d.state.book.entries) ≡ false → IsKept (record d { state = after })
-kept_down d after t e is rec was found fresh =
+pub kept_failed : (d : Inside) (after : State) (t : Ticket) (why : Why) → IsEntered d.state after (Failed t.drv why) → IsKept d → IsLive (reverse d.state.book.entries) t → IsKept (record d { state = after })
+kept_failed d after t why rec was found =
     let past = reverse d.state.book.entries in
-    let leased = found_leased t.drv past t found in
-    let P : Entry → Type 0 = λ e. IsEntered d.state after e in
-    kept d after (Down t.drv) (subst P is rec) was
-    (record { ranged = leased_ranged (premises_of d.inputs) past was.legal t.drv leased; may = record { live = leased; fresh = fresh } })
-    (let less = fewer t.drv (live past) leased in let room = was.room in omega arith) refl
+    kept d after (Failed t.drv why) rec was (allowed_failed (premises_of d.inputs) past t why was.legal found) (ended_room past t d.state.book.room found was.room) refl
+
+pub kept_down : (d : Inside) (after : State) (t : Ticket) → IsEntered d.state after (Down t.drv) → IsKept d → IsLive (reverse d.state.book.entries) t → is_started t.drv (reverse d.state.book.entries) ≡ false → IsKept (record d { state = after })
+kept_down d after t rec was found fresh =
+    let past = reverse d.state.book.entries in
+    kept d after (Down t.drv) rec was (allowed_down (premises_of d.inputs) past t was.legal found fresh) (ended_room past t d.state.book.room found was.room) refl
 
 stop_room : (past : List Entry) (n : ℕ) → has_stop past ≡ false → room_for past ≤ n → room_for (Stop ∷ past) + 1 ≤ n
 stop_room past n none room = let at = rw none at room in omega arith
@@ -128,21 +114,13 @@ kept_stop d after rec was none =
 
 -- ---- entries that end no lease, for which room was made
 
--- the book has room for more, and is as it was
-pub record HasRoom (old new : Recorded) (n : ℕ) : Type 0 where
-  pub entries : new.entries ≡ old.entries
-  pub drvs : new.drvs ≡ old.drvs
-  pub machines : new.machines ≡ old.machines
-  pub room : old.room ≤ new.room
-  pub more : n ≤ new.room
-
 stop_bit : (b : Bool) → (if b then 0 else 1) ≤ 1
 stop_bit true = omega arith
 stop_bit false = omega arith
 
 -- what was held is held with more room
-pub kept_room : (d : Inside) (book : Recorded) (n : ℕ) → HasRoom d.state.book book n → IsKept d → IsKept (record d { state = record d.state { book = book } })
-kept_room d book n more was =
+pub kept_room : (d : Inside) (book : Recorded) → IsRoomier d.state.book book → IsKept d → IsKept (record d { state = record d.state { book = book } })
+kept_room d book more was =
     let P : List Entry → Type 0 = λ es. IsLegal (premises_of d.inputs) (reverse es) in
     let Q : List Entry → Type 0 = λ es. room_for (reverse es) ≤ book.room in
     record {
@@ -158,25 +136,18 @@ kept_room d book n more was =
       turns = (let U : List Entry → Type 0 = λ es. AreTurns (premises_of d.inputs) (reverse es) d.state.board d.state.turns in subst U (sym more.entries) was.turns);
     }
 
--- an entry is recorded where room was made for it, a stop and all leases
-pub kept_more_with : (d : Inside) (roomy : Recorded) (after : State) (stores : Stored) (e : Entry) (n : ℕ) → HasRoom d.state.book roomy (length (live (reverse d.state.book.entries)) + n + 2) → IsEntered (record d.state { book = roomy }) after e → IsKept d → IsAllowed (premises_of d.inputs) e (reverse d.state.book.entries)
+-- an entry that makes no more than n leases, with what is kept of references and holdings after it
+kept_more : (d : Inside) (roomy : Recorded) (after : State) (stores : Stored) (e : Entry) (n : ℕ) → IsRoomier d.state.book roomy → length (live (reverse d.state.book.entries)) + n + 2 ≤ roomy.room → IsEntered (record d.state { book = roomy }) after e → IsKept d → IsAllowed (premises_of d.inputs) e (reverse d.state.book.entries)
     → length (live (e ∷ reverse d.state.book.entries)) ≤ length (live (reverse d.state.book.entries)) + n → AreStored (premises_of d.inputs) (e ∷ reverse d.state.book.entries) stores → IsKept (record d { state = after; stores = stores })
-kept_more_with d roomy after stores e n more rec was allowed few stored =
+kept_more d roomy after stores e n more many rec was allowed few stored =
     let P : List Entry → Type 0 = λ es. IsAllowed (premises_of d.inputs) e (reverse es) in
     let Q : List Entry → Type 0 = λ es. room_for (e ∷ reverse es) + 1 ≤ roomy.room in
     let R : List Entry → Type 0 = λ es. AreStored (premises_of d.inputs) (e ∷ reverse es) stores in
     let bit = stop_bit (has_stop (e ∷ reverse d.state.book.entries)) in
-    let had = more.more in
-    kept_with (record d { state = record d.state { book = roomy } }) after stores e rec (kept_room d roomy (length (live (reverse d.state.book.entries)) + n + 2) more was)
+    kept_with (record d { state = record d.state { book = roomy } }) after stores e rec (kept_room d roomy more was)
     (subst P (sym more.entries) allowed)
     (subst Q (sym more.entries) (omega arith))
     (subst R (sym more.entries) stored)
-
--- an entry that is no start and no build, and makes no more than one lease
-pub kept_more : (d : Inside) (roomy : Recorded) (after : State) (e : Entry) (n : ℕ) → HasRoom d.state.book roomy (length (live (reverse d.state.book.entries)) + n + 2) → IsEntered (record d.state { book = roomy }) after e → IsKept d → IsAllowed (premises_of d.inputs) e (reverse d.state.book.entries)
-    → length (live (e ∷ reverse d.state.book.entries)) ≤ length (live (reverse d.state.book.entries)) + n → is_quiet e ≡ true → IsKept (record d { state = after })
-kept_more d roomy after e n more rec was allowed few quiet =
-    kept_more_with d roomy after d.stores e n more rec was allowed few (stored_quiet (premises_of d.inputs) (reverse d.state.book.entries) e d.stores quiet was.stores)
 
 -- the load of a machine is a small number
 pub small_load : (d : Inside) → IsKept d → (m : ℕ) → load m (reverse d.state.book.entries) ≤ 65535
@@ -185,14 +156,15 @@ small_load d was m =
     let few = was.small.jobs m in
     omega arith
 
--- the derivation of a live lease is in the book's range
-pub in_book : (d : Inside) → IsKept d → (t : Ticket) → lease_of t.drv (reverse d.state.book.entries) ≡ Some t → t.drv < d.state.book.drvs
-in_book d was t found =
-    rw was.drvs (leased_ranged (premises_of d.inputs) (reverse d.state.book.entries) was.legal t.drv (found_leased t.drv (reverse d.state.book.entries) t found))
-
 -- the inputs and the book fit together
 pub fit_kept : (d : Inside) → IsKept d → FitTogether (premises_of d.inputs) d.state.book
 fit_kept d was = record { legal = was.legal; sound = was.sound; drvs = was.drvs; park = was.park; few = was.few; small = was.small }
+
+-- the derivation of a live lease is in the graph
+pub lease_in_graph : (d : Inside) (w : World) (t : Ticket) → IsKept d → seen d ≡ w → IsLive (reverse w.history) t → t.drv < length (premises_of d.inputs).graph.paths
+lease_in_graph d w t was is found =
+    let P : World → Type 0 = λ w. IsLive (reverse w.history) t in
+    live_in_graph (premises_of d.inputs) d.state.book t (fit_kept d was) (subst P (sym is) found)
 
 -- an entry makes at most one lease
 pub live_grows : (past : List Entry) (e : Entry) → length (live (e ∷ past)) ≤ length (live past) + 1
@@ -212,20 +184,23 @@ step_quiet (Started c paths) d h = cc
 step_quiet (Built c refs) d h = cc
 step_quiet e d h = refl
 
--- a step is recorded
-pub kept_step : (d : Inside) (after : State) (e : Entry) → IsStepRecorded d.state after e → IsKept d → IsAllowed (premises_of d.inputs) e (reverse d.state.book.entries) → is_quiet e ≡ true → IsKept (record d { state = after })
-kept_step d after e rec was allowed quiet =
+-- an entry that is no start and no build is appended
+pub kept_appended : (d : Inside) (after : State) (e : Entry) → IsAppended d.state after e → IsKept d → IsAllowed (premises_of d.inputs) e (reverse d.state.book.entries) → is_quiet e ≡ true → IsKept (record d { state = after })
+kept_appended d after e rec was allowed quiet =
+    let past = reverse d.state.book.entries in
     let one = rec.entered in
     let had = rec.room in
     let roomy : Recorded = record { entries = d.state.book.entries; room = after.book.room + 1; drvs = after.book.drvs; machines = after.book.machines; rooms = after.book.rooms } in
-    kept_more d roomy after e 1
-    (record { entries = refl; drvs = one.drvs; machines = one.machines; room = one.room; more = omega arith })
+    kept_more d roomy after d.stores e 1
+    (record { entries = refl; drvs = one.drvs; machines = one.machines; room = one.room })
+    (omega arith)
     (record { entries = one.entries; room = omega arith; drvs = refl; machines = refl; board = one.board; turned = one.turned; whole = one.whole })
-    was allowed (live_grows (reverse d.state.book.entries) e) quiet
+    was allowed (live_grows past e) (stored_quiet (premises_of d.inputs) past e d.stores quiet was.stores)
 
--- what was kept with other room for references and holdings is kept
-pub kept_stores : (d : Inside) (stores : Stored) → IsSameStored d.stores stores → IsKept d → IsKept (record d { stores = stores })
-kept_stores d stores same was = record {
+-- ---- what stands beside the history
+
+beside : (d : Inside) (stores : Stored) (turns : Turned) → AreStored (premises_of d.inputs) (reverse d.state.book.entries) stores → AreTurns (premises_of d.inputs) (reverse d.state.book.entries) d.state.board turns → IsKept d → IsKept (record d { state = record d.state { turns = turns }; stores = stores })
+beside d stores turns stored are was = record {
   legal = was.legal;
   room = was.room;
   sound = was.sound;
@@ -233,38 +208,44 @@ kept_stores d stores same was = record {
   park = was.park;
   few = was.few;
   small = was.small;
-  stores = stored_same (premises_of d.inputs) (reverse d.state.book.entries) d.stores stores same was.stores;
+  stores = stored;
   marked = was.marked;
-  turns = was.turns;
+  turns = are;
 }
+
+-- other room for references and holdings
+pub kept_stores : (d : Inside) (stores : Stored) → IsSameStored d.stores stores → IsKept d → IsKept (record d { stores = stores })
+kept_stores d stores same was = beside d stores d.state.turns (stored_same (premises_of d.inputs) (reverse d.state.book.entries) d.stores stores same was.stores) was.turns was
+
+-- other turns for the same history
+pub kept_turns : (d : Inside) (turns : Turned) → AreTurns (premises_of d.inputs) (reverse d.state.book.entries) d.state.board turns → IsKept d → IsKept (record d { state = record d.state { turns = turns } })
+kept_turns d turns are was = beside d d.stores turns was.stores are was
 
 -- ---- starts, and builds that end
 
-pub kept_started : (d : Inside) (roomy : Recorded) (after : State) (mid new : Stored) (t : Ticket) (paths : List (List ℕ)) (a : Additions) (e : Entry) → e ≡ Started t.drv paths → IsRoomier d.state.book roomy → IsEntered (record d.state { book = roomy }) after e → IsKept d → IsSameStored d.stores mid
+-- what is ready to be recorded is allowed
+pub allowed_begun : (d : Inside) (t : Ticket) (paths : List (List ℕ)) (book : Recorded) (stores : Stored) (a : Additions) → IsKept d → IsReadyToStart (premises_of d.inputs) (reverse d.state.book.entries) t paths book stores a → IsAllowed (premises_of d.inputs) (Started t.drv paths) (reverse d.state.book.entries)
+allowed_begun d t paths book stores a was ready = allowed_started (premises_of d.inputs) (reverse d.state.book.entries) t paths was.legal ready.live ready.fresh ready.right
+
+pub allowed_ended : (d : Inside) (t : Ticket) (refs : List (List (List ℕ))) (stores : Stored) (a : Additions) → IsKept d → IsReadyToEnd (premises_of d.inputs) (reverse d.state.book.entries) t refs stores a → IsAllowed (premises_of d.inputs) (Built t.drv refs) (reverse d.state.book.entries)
+allowed_ended d t refs stores a was ready = allowed_built (premises_of d.inputs) (reverse d.state.book.entries) t refs was.legal ready.live ready.started ready.right
+
+pub kept_started : (d : Inside) (roomy : Recorded) (after : State) (mid new : Stored) (t : Ticket) (paths : List (List ℕ)) (a : Additions) → IsRoomier d.state.book roomy → IsEntered (record d.state { book = roomy }) after (Started t.drv paths) → IsKept d → IsSameStored d.stores mid
     → IsReadyToStart (premises_of d.inputs) (reverse d.state.book.entries) t paths roomy mid a → HasTaken mid new a → IsKept (record d { state = after; stores = new })
-kept_started d roomy after mid new t paths a e is more rec was same ready took =
+kept_started d roomy after mid new t paths a more rec was same ready took =
     let i = premises_of d.inputs in
     let past = reverse d.state.book.entries in
-    let P : Entry → Type 0 = λ e. IsEntered (record d.state { book = roomy }) after e in
-    let leased = found_leased t.drv past t ready.live in
     let had = ready.room in
-    kept_more_with d roomy after new (Started t.drv paths) 0
-    (record { entries = more.entries; drvs = more.drvs; machines = more.machines; room = more.room; more = omega arith })
-    (subst P is rec) was
-    (record { ranged = leased_ranged i past was.legal t.drv leased; may = record { ticket = t; live = ready.live; fresh = ready.fresh; right = ready.right } })
-    (omega arith)
+    kept_more d roomy after new (Started t.drv paths) 0 more (omega arith) rec was (allowed_begun d t paths roomy mid a was ready) (omega arith)
     (stored_start i past t.drv t paths mid new a was.legal ready.live ready.right (stored_same i past d.stores mid same was.stores) ready.adds took)
 
-pub kept_built : (d : Inside) (after : State) (mid new : Stored) (t : Ticket) (refs : List (List (List ℕ))) (a : Additions) (e : Entry) → e ≡ Built t.drv refs → IsEntered d.state after e → IsKept d → IsSameStored d.stores mid
+pub kept_built : (d : Inside) (after : State) (mid new : Stored) (t : Ticket) (refs : List (List (List ℕ))) (a : Additions) → IsEntered d.state after (Built t.drv refs) → IsKept d → IsSameStored d.stores mid
     → IsReadyToEnd (premises_of d.inputs) (reverse d.state.book.entries) t refs mid a → HasTaken mid new a → IsKept (record d { state = after; stores = new })
-kept_built d after mid new t refs a e is rec was same ready took =
+kept_built d after mid new t refs a rec was same ready took =
     let i = premises_of d.inputs in
     let past = reverse d.state.book.entries in
-    let P : Entry → Type 0 = λ e. IsEntered d.state after e in
-    let leased = found_leased t.drv past t ready.live in
-    let allowed : IsAllowed i (Built t.drv refs) past = record { ranged = leased_ranged i past was.legal t.drv leased; may = record { live = leased; started = ready.started; right = ready.right } } in
-    kept_with d after new (Built t.drv refs) (subst P is rec) was allowed
-    (let less = fewer t.drv (live past) leased in let room = was.room in omega arith)
+    let allowed = allowed_ended d t refs mid a was ready in
+    kept_with d after new (Built t.drv refs) rec was allowed (ended_room past t d.state.book.room ready.live was.room)
     (stored_built i past t.drv t refs mid new a (allowed, was.legal) ready.live (stored_same i past d.stores mid same was.stores) ready.adds took)
 
 -- ---- copies
@@ -309,41 +290,26 @@ kept_copy d copy same was =
       turns = same.turns;
     }
 
--- a derivation whose lease is found is leased on the board
-pub found_marked : (d : Inside) → IsKept d → (t : Ticket) → lease_of t.drv (reverse d.state.book.entries) ≡ Some t → IsLeased d.state.board t.drv
-found_marked d was t found =
-    leased_marked (premises_of d.inputs) (reverse d.state.book.entries) d.state.board was.legal was.marked t.drv (found_leased t.drv (reverse d.state.book.entries) t found)
+-- ---- what is allowed can be entered
 
--- ---- turns
+-- what is allowed in what a dispatch holds is so in what is seen of it
+pub allowed_seen : (d : Inside) (w : World) (e : Entry) → seen d ≡ w → IsAllowed (premises_of d.inputs) e (reverse d.state.book.entries) → IsAllowed w.inputs e (reverse w.history)
+allowed_seen d w e is allowed = let P : World → Type 0 = λ w. IsAllowed w.inputs e (reverse w.history) in subst P is allowed
 
--- other turns for the same history
-pub kept_turns : (d : Inside) (turns : Turned) → AreTurns (premises_of d.inputs) (reverse d.state.book.entries) d.state.board turns → IsKept d → IsKept (record d { state = record d.state { turns = turns } })
-kept_turns d turns are was = record {
-  legal = was.legal;
-  room = was.room;
-  sound = was.sound;
-  drvs = was.drvs;
-  park = was.park;
-  few = was.few;
-  small = was.small;
-  stores = was.stores;
-  marked = was.marked;
-  turns = are;
-}
+-- .. and the other way round
+pub allowed_inside : (d : Inside) (w : World) (e : Entry) → seen d ≡ w → IsAllowed w.inputs e (reverse w.history) → IsAllowed (premises_of d.inputs) e (reverse d.state.book.entries)
+allowed_inside d w e is allowed = let P : World → Type 0 = λ w. IsAllowed w.inputs e (reverse w.history) in subst P (sym is) allowed
 
--- .. those with which builders were looked at
-pub kept_searched : (d : Inside) (turns : Turned) → HasSearched (premises_of d.inputs) (reverse d.state.book.entries) d.state.turns turns → IsKept d → IsKept (record d { state = record d.state { turns = turns } })
-kept_searched d turns searched was = kept_turns d turns (turns_searched (premises_of d.inputs) (reverse d.state.book.entries) d.state.board d.state.turns turns searched was.turns) was
+-- the board can follow what is allowed
+pub can_mark : (d : Inside) (e : Entry) → IsKept d → IsAllowed (premises_of d.inputs) e (reverse d.state.book.entries) → CanFollow d.state.board e
+can_mark d e was allowed = can_follow (premises_of d.inputs) (reverse d.state.book.entries) d.state.board e was.legal was.marked allowed
 
 machine_ranged : (n : ℕ) (o : Option Ticket) → ((t : Ticket) → o ≡ Some t → t.machine < n) → IfSome (option_map (λ (t : Ticket). t.machine) o) (λ m. m < n)
 machine_ranged n None h = tt
 machine_ranged n (Some t) h = h t refl
 
 lease_machine : (i : Premises) (past : List Entry) (n d : ℕ) (t : Ticket) → n ≡ machines_in i → IsLegal i past → lease_of d past ≡ Some t → t.machine < n
-lease_machine i past n d t is legal found =
-    let chosen = chosen_in past (λ (u : Ticket). d == u.drv) t found in
-    let ranged : t.machine < machines_in i = (allowed_at i chosen.later chosen.before past (Chosen t.drv t.machine t.slot) chosen.place legal).0.ranged.1 in
-    omega (arith, is, ranged)
+lease_machine i past n d t is legal found = let ranged = ticket_ranged i past t legal (own_live d past t found) in omega (arith, is, ranged)
 
 touched_ranged : (i : Premises) (past : List Entry) (n : ℕ) (e : Entry) → n ≡ machines_in i → IsLegal i past → IsInRange i e → IfSome (touched e past) (λ m. m < n)
 touched_ranged i past n (Chosen d m s) is legal ranged = tt
@@ -367,7 +333,7 @@ news_within i n Stop is ranged = tt
 news_within i n (Drain m) is ranged = tt
 news_within i n (Enable m) is ranged = tt
 
--- the turns can follow what is allowed
+-- .. and the turns
 pub can_turn : (d : Inside) (e : Entry) → IsKept d → IsAllowed (premises_of d.inputs) e (reverse d.state.book.entries) → CanTurn d.state e
 can_turn d e was allowed =
     let i = premises_of d.inputs in

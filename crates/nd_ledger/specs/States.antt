@@ -51,7 +51,7 @@ pub record IsEntered (old new : State) (e : Entry) : Type 0 where
   pub turned : HasTurned (board_after old.board e) e (touched e (reverse old.book.entries)) old.turns new.turns
   pub whole : IsWhole new.turns
 
--- .. a step, with room for the end of each lease, that of a choice among them, and for a stop
-pub record IsStepRecorded (old new : State) (step : Entry) : Type 0 where
-  pub entered : IsEntered old new step
+-- .. with room for the end of each lease, that of a choice among them, and for a stop
+pub record IsAppended (old new : State) (e : Entry) : Type 0 where
+  pub entered : IsEntered old new e
   pub room : length (live (reverse old.book.entries)) + 2 ≤ new.book.room

@@ -1,12 +1,11 @@
 //! The dispatch: leases and their history.
 
-ghost use Rattle.std.specs.Prelude.{◌≡◌, ℕ, ◌+◌, ◌<◌, ◌≤◌, ◌++◌, [], ◌∷◌, List, true, false, length, slice_index_or, reverse, IfOk, OnOk, IfErr, OnErr, IsOk, IsOkUnless, IsTrue, ◌↔◌};
+ghost use Rattle.std.specs.Prelude.{◌≡◌, ℕ, ◌+◌, ◌<◌, ◌≤◌, ◌++◌, [], ◌∷◌, List, true, false, length, slice_index_or, reverse, IfOk, OnOk, IfErr, OnErr, IsOk, IsTrue, ◌↔◌};
 ghost use Rattle.nd_history.specs.History.{live, lease_of, current_of, load, is_started, is_up, has_stop};
 ghost use Rattle.nd_failure.specs.Statuses.{total_of};
 ghost use Rattle.nd_history.specs.Choices.{machines_in, HasReply};
-ghost use Rattle.nd_history.specs.Legal.{IsInRange, IsAllowed, IsLegal};
+ghost use Rattle.nd_history.specs.Legal.{IsAllowed, IsLegal};
 ghost use Rattle.nd_history.specs.Premises.{premises};
-ghost use Rattle.nd_ledger.specs.Admitting.{IsAdmitRefused};
 ghost use Rattle.nd_history.specs.Closing.{StartsAreProvisioned};
 ghost use Rattle.nd_history.specs.Headline.{SlotsAreLeases, LeasesAreInOrder, StartsAreOnce, StartsAreEligible, CountsSum, ChoicesAreBest};
 ghost use Rattle.nd_history.specs.Resting.{WaitsForLeases};
@@ -15,22 +14,21 @@ ghost use Rattle.nd_history.specs.Statuses.{HasStatusIn, AreCountsIn, IsFinished
 ghost use Rattle.nd_history.specs.Pumping.{HasPumped, HasPumpedBy, AreAtRest};
 ghost use Rattle.nd_ledger.specs.Moves.{IsStartRefused, IsEndRefused, IsJobRefused};
 ghost use Rattle.nd_history.specs.References.{outputs_of};
-ghost use Rattle.nd_provision.specs.Stored.{IsMissing};
+ghost use Rattle.nd_provision.specs.Stored.{IsMissing, is_quiet};
 ghost use Rattle.nd_ledger.specs.Worlds.{GoesOnFrom};
-ghost use Rattle.nd_ledger.specs.Refusals.{IsLive, IsTicketOf, IsFailRefused, IsDownRefused, IsStopRefused};
+ghost use Rattle.nd_ledger.specs.Refusals.{IsLive, IsFailRefused, IsDownRefused, IsStopRefused};
 
 use crate::fresh::learn_jobs;
 use crate::job::{Job, copy_paths};
 use crate::moving::{is_live, prepare_end, prepare_start};
-use crate::refusal::{AdmitError, Refusal, Refused, admit_error};
+use crate::refusal::{Refusal, Refused};
 use crate::state::State;
 use nd_bytes::Items;
 use nd_closure::{RefTable, Refs};
 use nd_eligible::Local;
 use nd_failure::{Board, Counts, Status};
 use nd_graph::Graph;
-use nd_history::auditing::{check_ready, is_in_range, judge_ready_choice, judge_ready_no_builder};
-use nd_history::{Book, Entry, Inputs, Parts, Rule, Why};
+use nd_history::{Book, Entry, Inputs, Parts, Why};
 use nd_hook::Reply;
 use nd_leases::Ticket;
 use nd_machines::Machine;
@@ -44,9 +42,9 @@ use std::marker::Model;
 /// never change, and the entries, oldest first.
 #[derive(Drop)]
 pub struct Dispatch {
-    inputs: Inputs,
-    state: State,
-    stores: Stores,
+    pub(crate) inputs: Inputs,
+    pub(crate) state: State,
+    pub(crate) stores: Stores,
 }
 
 impl Model for Dispatch {
@@ -126,10 +124,22 @@ impl Dispatch {
             &self.state.board,
             &mut self.state.turns,
         ) {
-            self.state.record_step(step)?; // it stands, whatever comes behind it
+            self.state.append(step)?; // it stands, whatever comes behind it
         }
         let _order = self.inputs.graph.order();
         Ok(self.state.book.entries().len() - before)
+    }
+
+    /// Appends an entry that is legal where it stands, and is no start and no build. Where memory is refused
+    /// nothing is appended.
+    pub(crate) fn append(&mut self, entry: Entry) -> Result<(), AllocError>
+        requires allowed { IsAllowed self.old.inputs entry (reverse self.old.history) }
+        requires quiet { is_quiet entry ≡ true }
+        ensures ok { OnOk result (self.new ≡ record self.old { history = self.old.history ++ entry ∷ [] }) }
+        ensures err { OnErr result (self.new ≡ self.old) }
+    {
+        self.state.append(entry)?;
+        Ok(())
     }
 
     /// A build starts, after these paths were copied to its machine.
@@ -318,10 +328,7 @@ impl Dispatch {
         ensures allowed { OnOk result (IsAllowed self.old.inputs (Entry.Drain machine) (reverse self.old.history)) }
         ensures err { OnErr result (self.new ≡ self.old) }
     {
-        let room = self.state.book.live_len() + 2;
-        self.state.book.make_room(room)?;
-        self.state.enter(Entry::Drain { machine });
-        Ok(())
+        self.append(Entry::Drain { machine })
     }
 
     /// Machine `machine` gets leases again: this undoes a `drain` and a `down` alike.
@@ -331,198 +338,7 @@ impl Dispatch {
         ensures allowed { OnOk result (IsAllowed self.old.inputs (Entry.Enable machine) (reverse self.old.history)) }
         ensures err { OnErr result (self.new ≡ self.old) }
     {
-        let room = self.state.book.live_len() + 2;
-        self.state.book.make_room(room)?;
-        self.state.enter(Entry::Enable { machine });
-        Ok(())
-    }
-
-    /// Appends an entry if it is legal there.
-    ///
-    /// Refuses with `Illegal` (1) where it isn't, naming the first rule that refuses it, and with
-    /// `Memory` (2) where an allocation is refused; that comes only where every rule passes but perhaps
-    /// those over paths and references.
-    pub fn admit(&mut self, alloc: Global, entry: Entry) -> Result<(), AdmitError>
-        ensures ok { OnOk result (self.new ≡ record self.old { history = self.old.history ++ entry ∷ [] }) }
-        ensures allowed { OnOk result (IsAllowed self.old.inputs entry (reverse self.old.history)) }
-        ensures refused { IfErr result (IsAdmitRefused self.old.inputs (reverse self.old.history) entry) }
-        ensures err { OnErr result (self.new ≡ self.old) }
-        ensures legal { IsAllowed self.old.inputs entry (reverse self.old.history) → IsOkUnless result AdmitError.Memory }
-    {
-        if !is_in_range(&self.inputs, &entry) {
-            return Err(AdmitError::Illegal(Rule::Range));
-        }
-        match self.admit_in_range(alloc, entry) {
-            Ok(()) => {
-                // What was appended is legal, since all of the history is.
-                let _entries = self.history();
-                Ok(())
-            }
-            Err(error) => Err(error),
-        }
-    }
-
-    /// Appends an entry if it is legal there, all that it names being there.
-    fn admit_in_range(&mut self, alloc: Global, entry: Entry) -> Result<(), AdmitError>
-        requires { IsInRange self.old.inputs entry }
-        ensures ok { OnOk result (self.new ≡ record self.old { history = self.old.history ++ entry ∷ [] }) }
-        ensures refused { IfErr result (IsAdmitRefused self.old.inputs (reverse self.old.history) entry) }
-        ensures err { OnErr result (self.new ≡ self.old) }
-    {
-        match entry {
-            Entry::Chosen { drv, machine, slot } => self.admit_choice(drv, machine, slot),
-            Entry::NoBuilder { drv } => self.admit_no_builder(drv),
-            Entry::Started { drv, paths } => self.admit_start(alloc, drv, paths),
-            Entry::Down { drv } => self.admit_down(drv),
-            Entry::Built { drv, refs } => self.admit_end(alloc, drv, refs),
-            Entry::Failed { drv, why } => self.admit_failure(drv, why),
-            Entry::Stop => self.admit_stop(),
-            Entry::Drain { machine } => Ok(self.drain(machine)?),
-            Entry::Enable { machine } => Ok(self.enable(machine)?),
-        }
-    }
-
-    /// Records the choice of a slot if it is legal.
-    #[tactic(auto, using(crate::proofs::Admitting::free_allowed))]
-    fn admit_choice(&mut self, drv: u32, machine: u32, slot: u32) -> Result<(), AdmitError>
-        requires { IsInRange self.old.inputs (Entry.Chosen drv machine slot) }
-        ensures ok { OnOk result (self.new ≡ record self.old { history = self.old.history ++ Entry.Chosen drv machine slot ∷ [] }) }
-        ensures refused { IfErr result (IsAdmitRefused self.old.inputs (reverse self.old.history) (Entry.Chosen drv machine slot)) }
-        ensures err { OnErr result (self.new ≡ self.old) }
-    {
-        let inputs = &self.inputs;
-        if let Err(rule) = check_ready(inputs, &self.state.book, &self.state.board, drv) {
-            return Err(AdmitError::Illegal(rule));
-        }
-        let decision = self
-            .state
-            .turns
-            .decide_by_kind(inputs, &self.state.book, drv as usize);
-        if let Err(rule) = judge_ready_choice(
-            inputs,
-            &self.state.book,
-            decision,
-            drv,
-            machine,
-            slot,
-        ) {
-            return Err(AdmitError::Illegal(rule));
-        }
-        self.state
-            .record_step(Entry::Chosen { drv, machine, slot })?;
-        Ok(())
-    }
-
-    /// Records the word that nothing can build a derivation if it is legal.
-    #[tactic(auto, using(crate::proofs::Admitting::free_allowed))]
-    fn admit_no_builder(&mut self, drv: u32) -> Result<(), AdmitError>
-        requires { drv < drvs_in self.old.inputs }
-        ensures ok { OnOk result (self.new ≡ record self.old { history = self.old.history ++ Entry.NoBuilder drv ∷ [] }) }
-        ensures refused { IfErr result (IsAdmitRefused self.old.inputs (reverse self.old.history) (Entry.NoBuilder drv)) }
-        ensures err { OnErr result (self.new ≡ self.old) }
-    {
-        let inputs = &self.inputs;
-        if let Err(rule) = check_ready(inputs, &self.state.book, &self.state.board, drv) {
-            return Err(AdmitError::Illegal(rule));
-        }
-        let decision = self
-            .state
-            .turns
-            .decide_by_kind(inputs, &self.state.book, drv as usize);
-        if let Err(rule) = judge_ready_no_builder(inputs, &self.state.book, decision, drv) {
-            return Err(AdmitError::Illegal(rule));
-        }
-        self.state.record_step(Entry::NoBuilder { drv })?;
-        Ok(())
-    }
-
-    /// The ticket of a live lease of derivation `drv`.
-    fn live_ticket(&self, drv: u32) -> Option<Ticket>
-        ensures { IsTicketOf (reverse self.now.history) drv result }
-    {
-        self.lease(drv)
-    }
-
-    /// Records a start if it is legal.
-    fn admit_start(&mut self, alloc: Global, drv: u32, paths: PathSet) -> Result<(), AdmitError>
-        requires { drv < drvs_in self.old.inputs }
-        ensures ok { OnOk result (self.new ≡ record self.old { history = self.old.history ++ Entry.Started drv paths ∷ [] }) }
-        ensures refused { IfErr result (IsAdmitRefused self.old.inputs (reverse self.old.history) (Entry.Started drv paths)) }
-        ensures err { OnErr result (self.new ≡ self.old) }
-    {
-        let Some(ticket) = self.live_ticket(drv) else {
-            return Err(AdmitError::Illegal(Rule::Live));
-        };
-        if self.state.book.is_started(drv as usize) {
-            return Err(AdmitError::Illegal(Rule::Started));
-        }
-        match self.started(alloc, ticket, paths) {
-            Ok(()) => Ok(()),
-            Err(refused) => Err(admit_error(refused.why)),
-        }
-    }
-
-    /// Records that a lease is given back if it is legal.
-    fn admit_down(&mut self, drv: u32) -> Result<(), AdmitError>
-        requires { drv < drvs_in self.old.inputs }
-        ensures ok { OnOk result (self.new ≡ record self.old { history = self.old.history ++ Entry.Down drv ∷ [] }) }
-        ensures refused { IfErr result (IsAdmitRefused self.old.inputs (reverse self.old.history) (Entry.Down drv)) }
-        ensures err { OnErr result (self.new ≡ self.old) }
-    {
-        let Some(ticket) = self.live_ticket(drv) else {
-            return Err(AdmitError::Illegal(Rule::Live));
-        };
-        match self.down(ticket) {
-            Ok(()) => Ok(()),
-            Err(why) => Err(admit_error(why)),
-        }
-    }
-
-    /// Records the end of a build if it is legal.
-    fn admit_end(&mut self, alloc: Global, drv: u32, refs: Refs) -> Result<(), AdmitError>
-        requires { drv < drvs_in self.old.inputs }
-        ensures ok { OnOk result (self.new ≡ record self.old { history = self.old.history ++ Entry.Built drv refs ∷ [] }) }
-        ensures refused { IfErr result (IsAdmitRefused self.old.inputs (reverse self.old.history) (Entry.Built drv refs)) }
-        ensures err { OnErr result (self.new ≡ self.old) }
-    {
-        let Some(ticket) = self.live_ticket(drv) else {
-            return Err(AdmitError::Illegal(Rule::Live));
-        };
-        if !self.state.book.is_started(drv as usize) {
-            return Err(AdmitError::Illegal(Rule::Started));
-        }
-        match self.built(alloc, ticket, refs) {
-            Ok(()) => Ok(()),
-            Err(refused) => Err(admit_error(refused.why)),
-        }
-    }
-
-    /// Records a failure if it is legal.
-    fn admit_failure(&mut self, drv: u32, why: Why) -> Result<(), AdmitError>
-        requires { drv < drvs_in self.old.inputs }
-        ensures ok { OnOk result (self.new ≡ record self.old { history = self.old.history ++ Entry.Failed drv why ∷ [] }) }
-        ensures refused { IfErr result (IsAdmitRefused self.old.inputs (reverse self.old.history) (Entry.Failed drv why)) }
-        ensures err { OnErr result (self.new ≡ self.old) }
-    {
-        let Some(ticket) = self.live_ticket(drv) else {
-            return Err(AdmitError::Illegal(Rule::Live));
-        };
-        let Ok(()) = self.failed(ticket, why) else {
-            unreachable!()
-        };
-        Ok(())
-    }
-
-    /// Records a stop if it is legal.
-    fn admit_stop(&mut self) -> Result<(), AdmitError>
-        ensures ok { OnOk result (self.new ≡ record self.old { history = self.old.history ++ Entry.Stop ∷ [] }) }
-        ensures refused { IfErr result (IsAdmitRefused self.old.inputs (reverse self.old.history) Entry.Stop) }
-        ensures err { OnErr result (self.new ≡ self.old) }
-    {
-        match self.stop() {
-            Ok(()) => Ok(()),
-            Err(why) => Err(admit_error(why)),
-        }
+        self.append(Entry::Enable { machine })
     }
 
     /// A copy that is equal to the original. It keeps room of its own for the end of each live lease and

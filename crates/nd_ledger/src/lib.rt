@@ -1,6 +1,7 @@
 //! Leases and the history of a run of builds.
 #![tactic(auto)]
 
+mod admission;
 mod dispatch;
 mod fresh;
 mod job;

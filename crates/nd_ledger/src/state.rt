@@ -61,7 +61,7 @@ fn follow(board: &mut Board, entry: &Entry)
 }
 
 impl State {
-    ghost use Rattle.nd_ledger.specs.States.{CanTurn, IsEntered, IsFresh, IsRoomier, IsStepRecorded};
+    ghost use Rattle.nd_ledger.specs.States.{CanTurn, IsAppended, IsEntered, IsFresh, IsRoomier};
 
     /// The empty history over this graph and these machines.
     pub(crate) fn new(
@@ -95,21 +95,21 @@ impl State {
         self.book.record(entry);
     }
 
-    /// Records a step: a choice, or the word that nothing can build a derivation. Where memory is refused
-    /// nothing is recorded.
-    pub(crate) fn record_step(&mut self, step: Entry) -> Result<(), AllocError>
-        requires can { CanFollow self.old.board step }
-        requires may { MayRecord self.old.book step }
-        requires turn { CanTurn self.old step }
-        ensures ok { OnOk result (IsStepRecorded self.old self.new step) }
+    /// Records an entry and keeps room behind it: for the end of each lease, and for a stop. Where memory is
+    /// refused nothing is recorded.
+    pub(crate) fn append(&mut self, entry: Entry) -> Result<(), AllocError>
+        requires can { CanFollow self.old.board entry }
+        requires may { MayRecord self.old.book entry }
+        requires turn { CanTurn self.old entry }
+        ensures ok { OnOk result (IsAppended self.old self.new entry) }
         ensures err { OnErr result (IsRoomier self.old.book self.new.book) }
         ensures same { OnErr result (self.new.board ≡ self.old.board) }
         ensures unturned { OnErr result (self.new.turns ≡ self.old.turns) }
     {
         let room = self.book.live_len() + 3;
         self.book.make_room(room)?;
-        self.book.make_slot(&step)?;
-        self.enter(step);
+        self.book.make_slot(&entry)?;
+        self.enter(entry);
         Ok(())
     }
 }

@@ -1,14 +1,8 @@
-use Rattle.std.proofs.Common.{reverse, sym, subst}
-use Rattle.nd_history.specs.declared.entry.Entry.TheVariants.{Down}
-use Rattle.nd_ledger.specs.declared.refusal.AdmitError.{AdmitError}
-use Rattle.nd_ledger.specs.Admitting.{IsAdmitRefused}
+use Rattle.std.proofs.Common.{reverse}
 use Rattle.nd_ledger.proofs.Admitting.{down_illegal}
 use Rattle.nd_ledger.proofs.dispatch.Dispatch.admit_down.Goals as goal
 
 pub returns-in-Err-clause-refused : goal.returns-in-Err-clause-refused
 returns-in-Err-clause-refused c =
-    let i = c.args.self.now.inputs in
-    let past = reverse c.args.self.now.history in
-    let P : AdmitError → Type 0 = λ e. IsAdmitRefused i past (Down c.args.drv) e in
-    subst P (sym c.admit_error.ensures)
-    (down_illegal i past c.args.drv c.in-Some.ticket c.in-Err.why c.requires c.in-Some.ensures.0 c.in-Some.ensures.1 c.in-Err.ensures.refused)
+    let w = c.args.self.now in
+    down_illegal w.inputs (reverse w.history) c.args.drv c.in-Some.ticket c.in-Err.why _ c.requires c.in-Some.ensures.0 c.in-Some.ensures.1 c.in-Err.ensures.refused c.admit_error.ensures
