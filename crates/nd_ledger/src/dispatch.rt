@@ -393,15 +393,15 @@ impl Dispatch {
         self.state.book.extends(&other.state.book)
     }
 
-    /// The hook's reply about derivation `i`, as the machines are now. It doesn't ask how `i` stands,
-    /// and takes no memory.
-    pub fn ask(&self, i: usize) -> Reply
-        requires { i < length self.now.inputs.graph.paths }
-        ensures { HasReply self.now.inputs (reverse self.now.history) i result }
+    /// The hook's reply about derivation `drv`, as the machines are now. It doesn't ask how the derivation
+    /// stands, and takes no memory.
+    pub fn ask(&self, drv: u32) -> Reply
+        requires { drv < length self.now.inputs.graph.paths }
+        ensures { HasReply self.now.inputs (reverse self.now.history) drv result }
     {
         self.state
             .turns
-            .reply_by_kind(&self.inputs, &self.state.book, i)
+            .reply_by_kind(&self.inputs, &self.state.book, drv as usize)
     }
 
     /// The live lease on this slot of this machine.
@@ -411,11 +411,11 @@ impl Dispatch {
         self.state.book.current(machine, slot)
     }
 
-    /// The live lease of derivation `i`.
-    pub fn lease(&self, i: u32) -> Option<Ticket>
-        ensures { result ≡ lease_of i (reverse self.now.history) }
+    /// The live lease of derivation `drv`.
+    pub fn lease(&self, drv: u32) -> Option<Ticket>
+        ensures { result ≡ lease_of drv (reverse self.now.history) }
     {
-        self.state.book.lease(i)
+        self.state.book.lease(drv)
     }
 
     /// The status of derivation `i`: built, failed or leased as its entries say; else cancelled where

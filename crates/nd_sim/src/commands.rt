@@ -57,7 +57,7 @@ fn call(alloc: Global, dispatch: &mut Dispatch, command: Command) -> Result<Answ
         Command::Stop => stop(dispatch),
         Command::Drain { machine } => drain(dispatch, machine),
         Command::Enable { machine } => enable(dispatch, machine),
-        Command::Ask { drv } => Ok(Answer::Replied(dispatch.ask(drv as usize))),
+        Command::Ask { drv } => Ok(Answer::Replied(dispatch.ask(drv))),
     }
 }
 
