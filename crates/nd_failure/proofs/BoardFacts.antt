@@ -1,15 +1,15 @@
 -- What a board keeps, as its calls change it.
-use Rattle.std.proofs.Common.{◌≡◌, ◌+◌, ◌<◌, ◌≤◌, ℕ, Bool, true, false, not, List, [], ◌∷◌, map, replicate, Option, None, Some, length, Contains, Vec, Global, get_or, vec_capacity, MatchBool, refl, sym, ◌∙◌, ap, subst, inl, inr, eqb, ltb, arith}
+use Rattle.std.proofs.Common.{◌≡◌, ◌+◌, ◌^◌, ◌<◌, ◌≤◌, ℕ, Bool, true, false, not, List, [], ◌∷◌, map, replicate, Option, None, Some, length, Contains, Vec, Global, get_or, vec_capacity, MatchBool, refl, sym, ◌∙◌, ap, subst, inl, inr, eqb, ltb, arith}
 use Rattle.std.specs.List.{count_by}
 use Rattle.std.proofs.Math.ListN.{set, length-set}
 use Rattle.std.proofs.lemmas.List.{get_or-set_same, get_or-set_other, get_or-map, length-map, get_or_past, get_or-replicate, length-replicate}
 use Rattle.std.proofs.lemmas.Bool.{cases_eq, cases_lt, false≢true, ltb-true, lt-ltb}
 use Rattle.nd_graph.specs.Walks.{inputs_of}
 use Rattle.nd_flags.specs.Members.{IsMember, IsFirstFrom}
-use Rattle.nd_failure.specs.Progress.{Progress, mark_of, HasInputsBuilt, IsReady, IsStopped, HasFailure}
+use Rattle.nd_failure.specs.Progress.{Progress, mark_of, HasInputsBuilt, IsLeased, IsReady, IsStopped, HasFailure}
 use Rattle.nd_failure.specs.Statuses.{IsTally, HasStatus, CanFail, AreCounts, IsNextReady, total_of}
 use Rattle.nd_failure.specs.Kept.{is_built, unbuilt_of, AreSettled, AreCounted, AreDoomed, AreReady, AreWoken, AreZero}
-use Rattle.nd_failure.specs.Tallied.{status_by, statuses_of}
+use Rattle.nd_failure.specs.Tallied.{status_by, statuses_of, count_in, IsMoved}
 use Rattle.nd_failure.specs.Reversed.{AreDependants}
 use Rattle.nd_failure.specs.Spread.{SpreadsFrom, size_of}
 use Rattle.nd_failure.specs.BoardParts.{IsKept}
@@ -22,9 +22,8 @@ use Rattle.nd_failure.specs.declared.status.Status.TheVariants as status
 use Rattle.nd_failure.proofs.BelowFacts.{free_or, built_above_none, HasFailedBelow-free}
 use Rattle.nd_failure.proofs.CountFacts.{true_or_false, count_by-cons_yes, count_by-none, count-from_Contains, Contains-from_count}
 use Rattle.nd_failure.proofs.MarkFacts.{within_if_marked, AreSettled-set, AreCounted-set, unbuilt_of-built, AreDoomed-set, AreReady-put}
-use Rattle.nd_failure.proofs.TallyFacts.{IsMoved, AreCancelled, IsTally-moved, IsTally-spread, IsTally-stopped, stopped_statuses, count_in-tally, same_itself, counted_at, waiting_enough, fresh_counts, failure_from_count, count_from_failure, get_or-statuses_of, length-statuses_of, total_of-tally}
+use Rattle.nd_failure.proofs.TallyFacts.{AreCancelled, IsTally-moved, IsTally-spread, IsTally-stopped, stopped_statuses, count_in-tally, same_itself, counted_at, waiting_enough, fresh_counts, failure_from_count, count_from_failure, get_or-statuses_of, length-statuses_of, total_of-tally}
 use Rattle.nd_flags.proofs.RowFacts.{IsMember-within}
-use Rattle.nd_failure.specs.Tallied.{count_in}
 use Rattle.nd_failure.proofs.SpreadFacts.{AreDoomed-failed, input_of_dependant}
 
 -- the board as its model shows it
@@ -300,18 +299,39 @@ IsFailing-from b i status.Cancelled kept has can = elim can [
   | inr ready ↦ absurd (elim has.1 [ inl stopped ↦ ready.waiting.1 stopped | inr below ↦ ready.waiting.2 below ])
 ]
 
+-- the same of what contracts see of the board
+pub known_leased : (b : Inside) (p : Progress) (i : ℕ) → IsKept b → shown b ≡ p → IsLeased p i → IsFailing b i status.Leased
+known_leased b p i kept is leased = IsFailing-leased b i kept (subst (λ (q : Progress). IsLeased q i) (sym is) leased)
+
+pub known_ready : (b : Inside) (p : Progress) (i : ℕ) → IsKept b → shown b ≡ p → IsReady p i → IsFailing b i status.Waiting
+known_ready b p i kept is ready = IsFailing-ready b i kept (subst (λ (q : Progress). IsReady q i) (sym is) ready)
+
+pub known_failing : (b : Inside) (p : Progress) (i : ℕ) (was : Status) → IsKept b → shown b ≡ p → HasStatus p i was → CanFail p i → IsFailing b i was
+known_failing b p i was kept is has can =
+    IsFailing-from b i was kept (subst (λ (q : Progress). HasStatus q i was) (sym is) has) (subst (λ (q : Progress). CanFail q i) (sym is) can)
+
 -- a node with a status is counted there
-pub counted_some : (b : Inside) (i : ℕ) (s : Status) → IsKept b → i < length b.marks.items → HasInputsBuilt b.edges b.marks.items i
-    → status_by (mark_of b.marks.items i) false ≡ s → 0 < count_in s b.counts
-counted_some b i s kept within inputs is =
-    let low = not_doomed b.edges b.marks.items b.doomed i kept.settled kept.doomed inputs in
+pub counted_some : (b : Inside) (i : ℕ) (s : Status) → IsKept b → IsFailing b i s → 0 < count_in s b.counts
+counted_some b i s kept known =
+    let low = not_doomed b.edges b.marks.items b.doomed i kept.settled kept.doomed known.inputs in
     subst (λ (n : ℕ). 0 < n) (sym (count_in-tally (statuses_of b.marks.items b.doomed) b.counts s kept.tally))
-    (counted_at s b.marks.items b.doomed i within (ap (λ (down : Bool). status_by (mark_of b.marks.items i) down) low ∙ is) (same_itself s))
+    (counted_at s b.marks.items b.doomed i known.within (ap (λ (down : Bool). status_by (mark_of b.marks.items i) down) low ∙ known.is_was) (same_itself s))
+
+-- a leased one as leased, and a ready one as waiting
+pub counted_leased : (b : Inside) (p : Progress) (i : ℕ) → IsKept b → shown b ≡ p → IsLeased p i → 0 < count_in status.Leased b.counts
+counted_leased b p i kept is leased = counted_some b i status.Leased kept (known_leased b p i kept is leased)
+
+pub counted_ready : (b : Inside) (p : Progress) (i : ℕ) → IsKept b → shown b ≡ p → IsReady p i → 0 < count_in status.Waiting b.counts
+counted_ready b p i kept is ready = counted_some b i status.Waiting kept (known_ready b p i kept is ready)
 
 -- the counts sum to the number of marks
 pub total_of-kept : (b : Inside) → IsKept b → total_of b.counts ≡ length b.marks.items
 total_of-kept b kept =
     total_of-tally (statuses_of b.marks.items b.doomed) b.counts kept.tally ∙ length-statuses_of b.marks.items b.doomed
+
+-- and so they are those of numbers of 64 bits
+pub counts_fit : (b : Inside) → IsKept b → total_of b.counts < 2 ^ 64
+counts_fit b kept = omega (arith, total_of-kept b kept, b.marks.ok.0)
 
 -- the members of the ready set are the ready nodes
 pub ready_from_member : (b : Inside) (d : ℕ) → IsKept b → (IsStopped (shown b) → ⊥) → IsMember b.ready d → IsReady (shown b) d
