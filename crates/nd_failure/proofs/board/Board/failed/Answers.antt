@@ -20,14 +20,14 @@ spread-cancelled-requires-clause-closed c =
 pub overflow_sub-self : goal.overflow_sub-self
 overflow_sub-self c =
     let known = known_failing c.self.inside _ c.args.i c.status-was.result c.self.invariant c.self.view_is c.status-was.ensures c.requires in
-    cancelled_le c.self.inside c.args.i c.spread-cancelled.result c.status-was.result _ _ c.self.invariant known.within known.unbuilt known.sound
-    known.inputs known.is_was c.spread-cancelled.ensures.spreads c.spread-cancelled.ensures.counted c.change.ensures
+    cancelled_le c.self.inside c.args.i c.spread-cancelled.result c.status-was.result _ _ c.self.invariant known
+    c.spread-cancelled.ensures.spreads c.spread-cancelled.ensures.counted c.change.ensures
 
 pub overflow_add-self : goal.overflow_add-self
 overflow_add-self c =
     let known = known_failing c.self.inside _ c.args.i c.status-was.result c.self.invariant c.self.view_is c.status-was.ensures c.requires in
-    let enough = cancelled_le c.self.inside c.args.i c.spread-cancelled.result c.status-was.result _ _ c.self.invariant known.within known.unbuilt
-    known.sound known.inputs known.is_was c.spread-cancelled.ensures.spreads c.spread-cancelled.ensures.counted c.change.ensures in
+    let enough = cancelled_le c.self.inside c.args.i c.spread-cancelled.result c.status-was.result _ _ c.self.invariant known
+    c.spread-cancelled.ensures.spreads c.spread-cancelled.ensures.counted c.change.ensures in
     omega (
       arith,
       enough,
@@ -39,9 +39,8 @@ overflow_add-self c =
 pub invariant_of-self : goal.invariant_of-self
 invariant_of-self c =
     let known = known_failing c.self.inside _ c.args.i c.status-was.result c.self.invariant c.self.view_is c.status-was.ensures c.requires in
-    let enough = cancelled_le c.self.inside c.args.i c.spread-cancelled.result c.status-was.result _ _ c.self.invariant known.within known.unbuilt
-    known.sound known.inputs known.is_was c.spread-cancelled.ensures.spreads c.spread-cancelled.ensures.counted c.change.ensures in
-    IsKept-failed c.self.inside c.args.i c.spread-cancelled.result c.status-was.result _ _ _ _ _ _ c.self.invariant known.within known.unbuilt
-    known.sound known.inputs known.is_was refl c.remove.ensures c.spread-cancelled.ensures.spreads c.spread-cancelled.ensures.counted
-    c.spread-cancelled.ensures.idle c.spread-cancelled.ensures.room c.change.ensures
+    let enough = cancelled_le c.self.inside c.args.i c.spread-cancelled.result c.status-was.result _ _ c.self.invariant known
+    c.spread-cancelled.ensures.spreads c.spread-cancelled.ensures.counted c.change.ensures in
+    IsKept-failed c.self.inside c.args.i c.spread-cancelled.result c.status-was.result _ _ _ _ _ _ c.self.invariant known refl
+    c.remove.ensures c.spread-cancelled.ensures.spreads c.spread-cancelled.ensures.counted c.spread-cancelled.ensures.idle c.spread-cancelled.ensures.room c.change.ensures
     (record { waiting = omega (arith, enough); cancelled = refl; leased = refl; built = refl; failed = refl })
