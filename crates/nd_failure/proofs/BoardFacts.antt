@@ -1,15 +1,15 @@
 -- What a board keeps, as its calls change it.
-use Rattle.std.proofs.Common.{◌≡◌, ◌+◌, ◌<◌, ◌≤◌, ℕ, Bool, true, false, not, List, [], ◌∷◌, map, replicate, Option, None, Some, length, Contains, Vec, Global, get_or, vec_capacity, MatchBool, refl, sym, ◌∙◌, ap, subst, inl, inr, eqb, ltb, arith}
+use Rattle.std.proofs.Common.{◌≡◌, ◌+◌, ◌^◌, ◌<◌, ◌≤◌, ℕ, Bool, true, false, not, List, [], ◌∷◌, map, replicate, Option, None, Some, length, Contains, Vec, Global, get_or, vec_capacity, MatchBool, refl, sym, ◌∙◌, ap, subst, inl, inr, eqb, ltb, arith}
 use Rattle.std.specs.List.{count_by}
 use Rattle.std.proofs.Math.ListN.{set, length-set}
 use Rattle.std.proofs.lemmas.List.{get_or-set_same, get_or-set_other, get_or-map, length-map, get_or_past, get_or-replicate, length-replicate}
 use Rattle.std.proofs.lemmas.Bool.{cases_eq, cases_lt, false≢true, ltb-true, lt-ltb}
 use Rattle.nd_graph.specs.Walks.{inputs_of}
 use Rattle.nd_flags.specs.Members.{IsMember, IsFirstFrom}
-use Rattle.nd_failure.specs.Progress.{Progress, mark_of, HasInputsBuilt, IsReady, IsStopped, HasFailure}
+use Rattle.nd_failure.specs.Progress.{Progress, mark_of, HasInputsBuilt, IsLeased, IsReady, IsStopped, HasFailure}
 use Rattle.nd_failure.specs.Statuses.{IsTally, HasStatus, CanFail, AreCounts, IsNextReady, total_of}
 use Rattle.nd_failure.specs.Kept.{is_built, unbuilt_of, AreSettled, AreCounted, AreDoomed, AreReady, AreWoken, AreZero}
-use Rattle.nd_failure.specs.Tallied.{status_by, statuses_of}
+use Rattle.nd_failure.specs.Tallied.{status_by, statuses_of, count_in, IsMoved}
 use Rattle.nd_failure.specs.Reversed.{AreDependants}
 use Rattle.nd_failure.specs.Spread.{SpreadsFrom, size_of}
 use Rattle.nd_failure.specs.BoardParts.{IsKept}
@@ -22,9 +22,8 @@ use Rattle.nd_failure.specs.declared.status.Status.TheVariants as status
 use Rattle.nd_failure.proofs.BelowFacts.{free_or, built_above_none, HasFailedBelow-free}
 use Rattle.nd_failure.proofs.CountFacts.{true_or_false, count_by-cons_yes, count_by-none, count-from_Contains, Contains-from_count}
 use Rattle.nd_failure.proofs.MarkFacts.{within_if_marked, AreSettled-set, AreCounted-set, unbuilt_of-built, AreDoomed-set, AreReady-put}
-use Rattle.nd_failure.proofs.TallyFacts.{IsMoved, AreCancelled, IsTally-moved, IsTally-spread, IsTally-stopped, stopped_statuses, count_in-tally, same_itself, counted_at, waiting_enough, fresh_counts, failure_from_count, count_from_failure, get_or-statuses_of, length-statuses_of, total_of-tally}
+use Rattle.nd_failure.proofs.TallyFacts.{AreCancelled, IsTally-moved, IsTally-spread, IsTally-stopped, stopped_statuses, count_in-tally, same_itself, counted_at, waiting_enough, fresh_counts, failure_from_count, count_from_failure, get_or-statuses_of, length-statuses_of, total_of-tally}
 use Rattle.nd_flags.proofs.RowFacts.{IsMember-within}
-use Rattle.nd_failure.specs.Tallied.{count_in}
 use Rattle.nd_failure.proofs.SpreadFacts.{AreDoomed-failed, input_of_dependant}
 
 -- the board as its model shows it
@@ -64,32 +63,55 @@ inputs_built_from_none rows marks unbuilt i counted none = record {
   ];
 }
 
+-- node i, whose status may change: its mark, its inputs and its status
+pub record MayChange (b : Inside) (i : ℕ) (was : Status) : Type 0 where
+  pub within : i < length b.marks.items
+  pub unbuilt : mark_of b.marks.items i ≡ Built → ⊥
+  pub sound : mark_of b.marks.items i ≡ Failed → ⊥
+  pub inputs : HasInputsBuilt b.edges b.marks.items i
+  pub is_was : status_by (mark_of b.marks.items i) false ≡ was
+
+pub MayChange-leased : (b : Inside) (i : ℕ) → IsKept b → mark_of b.marks.items i ≡ Leased → MayChange b i status.Leased
+MayChange-leased b i kept leased = record {
+  within = within_if_marked b.marks.items i not_free;
+  unbuilt = λ is. let both : Leased ≡ Built = sym leased ∙ is in cc;
+  sound = λ is. let both : Leased ≡ Failed = sym leased ∙ is in cc;
+  inputs = kept.settled.settled i not_free;
+  is_was = ap (λ (m : Mark). status_by m false) leased;
+}
+  where
+    not_free : mark_of b.marks.items i ≡ Free → ⊥
+    not_free is = let both : Leased ≡ Free = sym leased ∙ is in cc
+
+-- a mark that isn't `Built` fails the test
+pub not_built_test : (m : Mark) → (m ≡ Built → ⊥) → is_built m ≡ false
+not_built_test Free apart = refl
+not_built_test Leased apart = refl
+not_built_test Built apart = absurd (apart refl)
+not_built_test Failed apart = refl
+
 -- a board whose node i has another mark, neither of which is `Built` or `Failed`
 pub IsKept-moved : (b : Inside) (i : ℕ) (m : Mark) (up : Bool) (was becomes : Status) (marks : Vec Mark Global) (ready : List Bool) (counts : Counts)
-    → IsKept b → i < length b.marks.items
-    → is_built (mark_of b.marks.items i) ≡ false → (mark_of b.marks.items i ≡ Failed → ⊥) → is_built m ≡ false → (m ≡ Failed → ⊥)
-    → HasInputsBuilt b.edges b.marks.items i
-    → status_by (mark_of b.marks.items i) false ≡ was → status_by m false ≡ becomes
+    → IsKept b → MayChange b i was → is_built m ≡ false → (m ≡ Failed → ⊥) → status_by m false ≡ becomes
     → MatchBool up ((m ≡ Free) × (get_or b.unbuilt i 0 ≡ 0)) (m ≡ Free → ⊥)
     → marks.items ≡ set b.marks.items i m → ready ≡ set b.ready i up → IsMoved was becomes b.counts counts
     → IsKept (record b { marks = marks; ready = ready; counts = counts })
-IsKept-moved b i m up was becomes marks ready counts kept within unbuilt sound unbuilt_too sound_too inputs before after right marks_are ready_is moved =
-    let low = not_doomed b.edges b.marks.items b.doomed i kept.settled kept.doomed inputs in
+IsKept-moved b i m up was becomes marks ready counts kept known unbuilt sound after right marks_are ready_is moved =
+    let low = not_doomed b.edges b.marks.items b.doomed i kept.settled kept.doomed known.inputs in
     record {
       marked = ap length marks_are ∙ length-set b.marks.items i m ∙ kept.marked;
       settled = subst (λ (xs : List Mark). AreSettled b.edges xs) (sym marks_are)
-          (AreSettled-set b.edges b.marks.items i m kept.settled within
-          (λ is. false≢true (sym unbuilt ∙ ap is_built is)) inputs);
+          (AreSettled-set b.edges b.marks.items i m kept.settled known.within known.unbuilt known.inputs);
       counted = subst (λ (xs : List Mark). AreCounted b.edges xs b.unbuilt) (sym marks_are)
-          (AreCounted-set b.edges b.marks.items b.unbuilt i m kept.counted within unbuilt unbuilt_too);
+          (AreCounted-set b.edges b.marks.items b.unbuilt i m kept.counted known.within (not_built_test (mark_of b.marks.items i) known.unbuilt) unbuilt);
       doomed = subst (λ (xs : List Mark). AreDoomed b.edges xs b.doomed) (sym marks_are)
-          (AreDoomed-set b.edges b.marks.items b.doomed i m kept.doomed within sound sound_too);
+          (AreDoomed-set b.edges b.marks.items b.doomed i m kept.doomed known.within known.sound sound);
       ready = subst (λ (xs : List Mark). AreReady xs b.unbuilt ready) (sym marks_are)
           (subst (λ (xs : List Bool). AreReady (set b.marks.items i m) b.unbuilt xs) (sym ready_is)
-          (AreReady-put b.marks.items b.unbuilt b.ready i m up kept.ready within right));
+          (AreReady-put b.marks.items b.unbuilt b.ready i m up kept.ready known.within right));
       tally = subst (λ (xs : List Mark). IsTally (statuses_of xs b.doomed) counts) (sym marks_are)
-          (IsTally-moved b.marks.items b.doomed i m was becomes b.counts counts kept.tally within
-          (ap (λ (down : Bool). status_by (mark_of b.marks.items i) down) low ∙ before) (ap (λ (down : Bool). status_by m down) low ∙ after) moved);
+          (IsTally-moved b.marks.items b.doomed i m was becomes b.counts counts kept.tally known.within
+          (ap (λ (down : Bool). status_by (mark_of b.marks.items i) down) low ∙ known.is_was) (ap (λ (down : Bool). status_by m down) low ∙ after) moved);
       idle = kept.idle;
       room = kept.room;
     }
@@ -102,34 +124,26 @@ pub IsKept-built : (b : Inside) (i : ℕ) (marks : Vec Mark Global) (unbuilt : L
     → AreWoken dependants unbuilt b.ready ready → IsMoved status.Leased status.Built b.counts counts
     → IsKept (record b { marks = marks; unbuilt = unbuilt; ready = ready; counts = counts })
 IsKept-built b i marks unbuilt ready counts dependants kept leased are marks_are sized lowered woken moved =
-    let inputs : HasInputsBuilt b.edges b.marks.items i = kept.settled.settled i (λ free. leased_not_free free) in
-    let low = not_doomed b.edges b.marks.items b.doomed i kept.settled kept.doomed inputs in
     record {
       marked = ap length marks_are ∙ length-set b.marks.items i Built ∙ kept.marked;
       settled = subst (λ (xs : List Mark). AreSettled b.edges xs) (sym marks_are)
-          (AreSettled-set b.edges b.marks.items i Built kept.settled within leased_not_built inputs);
+          (AreSettled-set b.edges b.marks.items i Built kept.settled known.within known.unbuilt known.inputs);
       counted = subst (λ (xs : List Mark). AreCounted b.edges xs unbuilt) (sym marks_are) counted;
       doomed = subst (λ (xs : List Mark). AreDoomed b.edges xs b.doomed) (sym marks_are)
-          (AreDoomed-set b.edges b.marks.items b.doomed i Built kept.doomed within leased_not_failed (λ is. cc));
+          (AreDoomed-set b.edges b.marks.items b.doomed i Built kept.doomed known.within known.sound (λ is. cc));
       ready = subst (λ (xs : List Mark). AreReady xs unbuilt ready) (sym marks_are) now_ready;
       tally = subst (λ (xs : List Mark). IsTally (statuses_of xs b.doomed) counts) (sym marks_are)
-          (IsTally-moved b.marks.items b.doomed i Built status.Leased status.Built b.counts counts kept.tally within
+          (IsTally-moved b.marks.items b.doomed i Built status.Leased status.Built b.counts counts kept.tally known.within
           (ap (λ (m : Mark). status_by m (get_or b.doomed i false)) leased) refl moved);
       idle = kept.idle;
       room = kept.room;
     }
   where
+    known : MayChange b i status.Leased
+    known = MayChange-leased b i kept leased
+
     leased_not_free : mark_of b.marks.items i ≡ Free → ⊥
     leased_not_free is = let both : Leased ≡ Free = sym leased ∙ is in cc
-
-    leased_not_built : mark_of b.marks.items i ≡ Built → ⊥
-    leased_not_built is = let both : Leased ≡ Built = sym leased ∙ is in cc
-
-    leased_not_failed : mark_of b.marks.items i ≡ Failed → ⊥
-    leased_not_failed is = let both : Leased ≡ Failed = sym leased ∙ is in cc
-
-    within : i < length b.marks.items
-    within = within_if_marked b.marks.items i leased_not_free
 
     counted : AreCounted b.edges (set b.marks.items i Built) unbuilt
     counted = record {
@@ -139,7 +153,7 @@ IsKept-built b i marks unbuilt ready counts dependants kept leased are marks_are
         lowered d,
         kept.counted.counted d,
         are.same d,
-        unbuilt_of-built b.marks.items i within (ap is_built leased) (inputs_of b.edges d),
+        unbuilt_of-built b.marks.items i known.within (ap is_built leased) (inputs_of b.edges d),
       );
     }
 
@@ -152,7 +166,7 @@ IsKept-built b i marks unbuilt ready counts dependants kept leased are marks_are
     dependant_free : (d : ℕ) → Contains dependants d → mark_of b.marks.items d ≡ Free
     dependant_free d has = elim (free_or (mark_of b.marks.items d)) [
       | inl free ↦ free
-      | inr taken ↦ absurd (leased_not_built ((kept.settled.settled d taken).built i (input_of_dependant b.edges i d dependants are has)))
+      | inr taken ↦ absurd (known.unbuilt ((kept.settled.settled d taken).built i (input_of_dependant b.edges i d dependants are has)))
     ]
 
     now_ready : AreReady (set b.marks.items i Built) unbuilt ready
@@ -166,7 +180,7 @@ IsKept-built b i marks unbuilt ready counts dependants kept leased are marks_are
       ];
       complete = λ d in_range free none. elim (cases_eq d i) [
         | inl same ↦
-            let is : Built ≡ Free = sym (get_or-set_same b.marks.items i Built Free within)
+            let is : Built ≡ Free = sym (get_or-set_same b.marks.items i Built Free known.within)
             ∙ subst (λ (n : ℕ). mark_of (set b.marks.items i Built) n ≡ Free) same free in
             cc
         | inr apart ↦
@@ -179,13 +193,6 @@ IsKept-built b i marks unbuilt ready counts dependants kept leased are marks_are
       ];
     }
 
--- a mark that isn't `Built` fails the test
-pub not_built_test : (m : Mark) → (m ≡ Built → ⊥) → is_built m ≡ false
-not_built_test Free apart = refl
-not_built_test Leased apart = refl
-not_built_test Built apart = absurd (apart refl)
-not_built_test Failed apart = refl
-
 -- what stands once node i has failed and the nodes that depend on it are known, before these are counted
 pub record AreFailing (b : Inside) (i : ℕ) (doomed : List Bool) (middle : Counts) : Type 0 where
   pub settled : AreSettled b.edges (set b.marks.items i Failed)
@@ -195,20 +202,18 @@ pub record AreFailing (b : Inside) (i : ℕ) (doomed : List Bool) (middle : Coun
   pub new_sized : length doomed ≡ length (set b.marks.items i Failed)
   pub free : (d : ℕ) → IsMember doomed d → mark_of (set b.marks.items i Failed) d ≡ Free
 
-pub failed_parts : (b : Inside) (i n : ℕ) (was : Status) (doomed : List Bool) (middle : Counts) → IsKept b → i < length b.marks.items
-    → (mark_of b.marks.items i ≡ Built → ⊥) → (mark_of b.marks.items i ≡ Failed → ⊥) → HasInputsBuilt b.edges b.marks.items i
-    → status_by (mark_of b.marks.items i) false ≡ was → SpreadsFrom b.edges i b.doomed doomed
+pub failed_parts : (b : Inside) (i n : ℕ) (was : Status) (doomed : List Bool) (middle : Counts) → IsKept b → MayChange b i was → SpreadsFrom b.edges i b.doomed doomed
     → IsMoved was status.Failed b.counts middle → AreFailing b i doomed middle
-failed_parts b i n was doomed middle kept within unbuilt sound inputs is_was spreads moved =
-    let low = not_doomed b.edges b.marks.items b.doomed i kept.settled kept.doomed inputs in
-    let now_settled = AreSettled-set b.edges b.marks.items i Failed kept.settled within unbuilt inputs in
-    let now_doomed = AreDoomed-failed b.edges b.marks.items b.doomed doomed i kept.doomed spreads within sound in
+failed_parts b i n was doomed middle kept known spreads moved =
+    let low = not_doomed b.edges b.marks.items b.doomed i kept.settled kept.doomed known.inputs in
+    let now_settled = AreSettled-set b.edges b.marks.items i Failed kept.settled known.within known.unbuilt known.inputs in
+    let now_doomed = AreDoomed-failed b.edges b.marks.items b.doomed doomed i kept.doomed spreads known.within known.sound in
     let sized = length-set b.marks.items i Failed ∙ kept.marked in
     record {
       settled = now_settled;
       known = now_doomed;
-      tally = IsTally-moved b.marks.items b.doomed i Failed was status.Failed b.counts middle kept.tally within
-          (ap (λ (down : Bool). status_by (mark_of b.marks.items i) down) low ∙ is_was) refl moved;
+      tally = IsTally-moved b.marks.items b.doomed i Failed was status.Failed b.counts middle kept.tally known.within
+          (ap (λ (down : Bool). status_by (mark_of b.marks.items i) down) low ∙ known.is_was) refl moved;
       old_sized = kept.doomed.sized ∙ sym sized;
       new_sized = now_doomed.sized ∙ sym sized;
       free = λ d member. HasFailedBelow-free b.edges (set b.marks.items i Failed) d now_settled (now_doomed.sound d member);
@@ -216,25 +221,23 @@ failed_parts b i n was doomed middle kept within unbuilt sound inputs is_was spr
 
 -- a board whose node i fails
 pub IsKept-failed : (b : Inside) (i n : ℕ) (was : Status) (marks : Vec Mark Global) (doomed ready : List Bool) (middle counts : Counts)
-    (work : Vec ℕ Global) → IsKept b → i < length b.marks.items
-    → (mark_of b.marks.items i ≡ Built → ⊥) → (mark_of b.marks.items i ≡ Failed → ⊥) → HasInputsBuilt b.edges b.marks.items i
-    → status_by (mark_of b.marks.items i) false ≡ was
+    (work : Vec ℕ Global) → IsKept b → MayChange b i was
     → marks.items ≡ set b.marks.items i Failed → ready ≡ set b.ready i false
     → SpreadsFrom b.edges i b.doomed doomed → n + size_of b.doomed ≡ size_of doomed
     → work.items ≡ [] → vec_capacity work ≡ vec_capacity b.work
     → IsMoved was status.Failed b.counts middle → AreCancelled n middle counts
     → IsKept (record b { marks = marks; doomed = doomed; ready = ready; counts = counts; work = work })
-IsKept-failed b i n was marks doomed ready middle counts work kept within unbuilt sound inputs is_was marks_are ready_is spreads grown idle room moved cancelled =
-    let failing = failed_parts b i n was doomed middle kept within unbuilt sound inputs is_was spreads moved in
+IsKept-failed b i n was marks doomed ready middle counts work kept known marks_are ready_is spreads grown idle room moved cancelled =
+    let failing = failed_parts b i n was doomed middle kept known spreads moved in
     record {
       marked = ap length marks_are ∙ length-set b.marks.items i Failed ∙ kept.marked;
       settled = subst (λ (xs : List Mark). AreSettled b.edges xs) (sym marks_are) failing.settled;
       counted = subst (λ (xs : List Mark). AreCounted b.edges xs b.unbuilt) (sym marks_are)
-          (AreCounted-set b.edges b.marks.items b.unbuilt i Failed kept.counted within (not_built_test (mark_of b.marks.items i) unbuilt) refl);
+          (AreCounted-set b.edges b.marks.items b.unbuilt i Failed kept.counted known.within (not_built_test (mark_of b.marks.items i) known.unbuilt) refl);
       doomed = subst (λ (xs : List Mark). AreDoomed b.edges xs doomed) (sym marks_are) failing.known;
       ready = subst (λ (xs : List Mark). AreReady xs b.unbuilt ready) (sym marks_are)
           (subst (λ (xs : List Bool). AreReady (set b.marks.items i Failed) b.unbuilt xs) (sym ready_is)
-          (AreReady-put b.marks.items b.unbuilt b.ready i Failed false kept.ready within (λ is. cc)));
+          (AreReady-put b.marks.items b.unbuilt b.ready i Failed false kept.ready known.within (λ is. cc)));
       tally = subst (λ (xs : List Mark). IsTally (statuses_of xs doomed) counts) (sym marks_are)
           (IsTally-spread (set b.marks.items i Failed) b.doomed doomed n middle counts failing.tally
           failing.old_sized failing.new_sized spreads.still failing.free grown cancelled);
@@ -243,37 +246,15 @@ IsKept-failed b i n was marks doomed ready middle counts work kept within unbuil
     }
 
 -- as many as a failure cancels were waiting
-pub cancelled_le : (b : Inside) (i n : ℕ) (was : Status) (doomed : List Bool) (middle : Counts) → IsKept b → i < length b.marks.items
-    → (mark_of b.marks.items i ≡ Built → ⊥) → (mark_of b.marks.items i ≡ Failed → ⊥) → HasInputsBuilt b.edges b.marks.items i
-    → status_by (mark_of b.marks.items i) false ≡ was → SpreadsFrom b.edges i b.doomed doomed → n + size_of b.doomed ≡ size_of doomed
+pub cancelled_le : (b : Inside) (i n : ℕ) (was : Status) (doomed : List Bool) (middle : Counts) → IsKept b → MayChange b i was → SpreadsFrom b.edges i b.doomed doomed → n + size_of b.doomed ≡ size_of doomed
     → IsMoved was status.Failed b.counts middle → n ≤ middle.waiting
-cancelled_le b i n was doomed middle kept within unbuilt sound inputs is_was spreads grown moved =
-    let failing = failed_parts b i n was doomed middle kept within unbuilt sound inputs is_was spreads moved in
+cancelled_le b i n was doomed middle kept known spreads grown moved =
+    let failing = failed_parts b i n was doomed middle kept known spreads moved in
     waiting_enough (set b.marks.items i Failed) b.doomed doomed n middle failing.tally failing.old_sized failing.new_sized
     spreads.still failing.free grown
 
--- node i, which can fail: its mark, its inputs and its status
-pub record IsFailing (b : Inside) (i : ℕ) (was : Status) : Type 0 where
-  pub within : i < length b.marks.items
-  pub unbuilt : mark_of b.marks.items i ≡ Built → ⊥
-  pub sound : mark_of b.marks.items i ≡ Failed → ⊥
-  pub inputs : HasInputsBuilt b.edges b.marks.items i
-  pub is_was : status_by (mark_of b.marks.items i) false ≡ was
-
-pub IsFailing-leased : (b : Inside) (i : ℕ) → IsKept b → mark_of b.marks.items i ≡ Leased → IsFailing b i status.Leased
-IsFailing-leased b i kept leased = record {
-  within = within_if_marked b.marks.items i not_free;
-  unbuilt = λ is. let both : Leased ≡ Built = sym leased ∙ is in cc;
-  sound = λ is. let both : Leased ≡ Failed = sym leased ∙ is in cc;
-  inputs = kept.settled.settled i not_free;
-  is_was = ap (λ (m : Mark). status_by m false) leased;
-}
-  where
-    not_free : mark_of b.marks.items i ≡ Free → ⊥
-    not_free is = let both : Leased ≡ Free = sym leased ∙ is in cc
-
-pub IsFailing-ready : (b : Inside) (i : ℕ) → IsKept b → IsReady (shown b) i → IsFailing b i status.Waiting
-IsFailing-ready b i kept ready = record {
+pub MayChange-ready : (b : Inside) (i : ℕ) → IsKept b → IsReady (shown b) i → MayChange b i status.Waiting
+MayChange-ready b i kept ready = record {
   within = omega (arith, ready.node, kept.marked);
   unbuilt = λ is. let both : Free ≡ Built = sym ready.waiting.0 ∙ is in cc;
   sound = λ is. let both : Free ≡ Failed = sym ready.waiting.0 ∙ is in cc;
@@ -281,37 +262,58 @@ IsFailing-ready b i kept ready = record {
   is_was = ap (λ (m : Mark). status_by m false) ready.waiting.0;
 }
 
-pub IsFailing-from : (b : Inside) (i : ℕ) (was : Status) → IsKept b → HasStatus (shown b) i was → CanFail (shown b) i → IsFailing b i was
-IsFailing-from b i status.Waiting kept has can = elim can [
+pub MayChange-from : (b : Inside) (i : ℕ) (was : Status) → IsKept b → HasStatus (shown b) i was → CanFail (shown b) i → MayChange b i was
+MayChange-from b i status.Waiting kept has can = elim can [
   | inl leased ↦ (let both : Leased ≡ Free = sym leased ∙ has.0 in cc)
-  | inr ready ↦ IsFailing-ready b i kept ready
+  | inr ready ↦ MayChange-ready b i kept ready
 ]
-IsFailing-from b i status.Leased kept has can = IsFailing-leased b i kept has
-IsFailing-from b i status.Built kept has can = elim can [
+MayChange-from b i status.Leased kept has can = MayChange-leased b i kept has
+MayChange-from b i status.Built kept has can = elim can [
   | inl leased ↦ (let both : Leased ≡ Built = sym leased ∙ has in cc)
   | inr ready ↦ (let both : Free ≡ Built = sym ready.waiting.0 ∙ has in cc)
 ]
-IsFailing-from b i status.Failed kept has can = elim can [
+MayChange-from b i status.Failed kept has can = elim can [
   | inl leased ↦ (let both : Leased ≡ Failed = sym leased ∙ has in cc)
   | inr ready ↦ (let both : Free ≡ Failed = sym ready.waiting.0 ∙ has in cc)
 ]
-IsFailing-from b i status.Cancelled kept has can = elim can [
+MayChange-from b i status.Cancelled kept has can = elim can [
   | inl leased ↦ (let both : Leased ≡ Free = sym leased ∙ has.0 in cc)
   | inr ready ↦ absurd (elim has.1 [ inl stopped ↦ ready.waiting.1 stopped | inr below ↦ ready.waiting.2 below ])
 ]
 
+-- the same of what contracts see of the board
+pub known_leased : (b : Inside) (p : Progress) (i : ℕ) → IsKept b → shown b ≡ p → IsLeased p i → MayChange b i status.Leased
+known_leased b p i kept is leased = MayChange-leased b i kept (subst (λ (q : Progress). IsLeased q i) (sym is) leased)
+
+pub known_ready : (b : Inside) (p : Progress) (i : ℕ) → IsKept b → shown b ≡ p → IsReady p i → MayChange b i status.Waiting
+known_ready b p i kept is ready = MayChange-ready b i kept (subst (λ (q : Progress). IsReady q i) (sym is) ready)
+
+pub known_failing : (b : Inside) (p : Progress) (i : ℕ) (was : Status) → IsKept b → shown b ≡ p → HasStatus p i was → CanFail p i → MayChange b i was
+known_failing b p i was kept is has can =
+    MayChange-from b i was kept (subst (λ (q : Progress). HasStatus q i was) (sym is) has) (subst (λ (q : Progress). CanFail q i) (sym is) can)
+
 -- a node with a status is counted there
-pub counted_some : (b : Inside) (i : ℕ) (s : Status) → IsKept b → i < length b.marks.items → HasInputsBuilt b.edges b.marks.items i
-    → status_by (mark_of b.marks.items i) false ≡ s → 0 < count_in s b.counts
-counted_some b i s kept within inputs is =
-    let low = not_doomed b.edges b.marks.items b.doomed i kept.settled kept.doomed inputs in
+pub counted_some : (b : Inside) (i : ℕ) (s : Status) → IsKept b → MayChange b i s → 0 < count_in s b.counts
+counted_some b i s kept known =
+    let low = not_doomed b.edges b.marks.items b.doomed i kept.settled kept.doomed known.inputs in
     subst (λ (n : ℕ). 0 < n) (sym (count_in-tally (statuses_of b.marks.items b.doomed) b.counts s kept.tally))
-    (counted_at s b.marks.items b.doomed i within (ap (λ (down : Bool). status_by (mark_of b.marks.items i) down) low ∙ is) (same_itself s))
+    (counted_at s b.marks.items b.doomed i known.within (ap (λ (down : Bool). status_by (mark_of b.marks.items i) down) low ∙ known.is_was) (same_itself s))
+
+-- a leased one as leased, and a ready one as waiting
+pub counted_leased : (b : Inside) (p : Progress) (i : ℕ) → IsKept b → shown b ≡ p → IsLeased p i → 0 < count_in status.Leased b.counts
+counted_leased b p i kept is leased = counted_some b i status.Leased kept (known_leased b p i kept is leased)
+
+pub counted_ready : (b : Inside) (p : Progress) (i : ℕ) → IsKept b → shown b ≡ p → IsReady p i → 0 < count_in status.Waiting b.counts
+counted_ready b p i kept is ready = counted_some b i status.Waiting kept (known_ready b p i kept is ready)
 
 -- the counts sum to the number of marks
 pub total_of-kept : (b : Inside) → IsKept b → total_of b.counts ≡ length b.marks.items
 total_of-kept b kept =
     total_of-tally (statuses_of b.marks.items b.doomed) b.counts kept.tally ∙ length-statuses_of b.marks.items b.doomed
+
+-- and so they are those of numbers of 64 bits
+pub counts_fit : (b : Inside) → IsKept b → total_of b.counts < 2 ^ 64
+counts_fit b kept = omega (arith, total_of-kept b kept, b.marks.ok.0)
 
 -- the members of the ready set are the ready nodes
 pub ready_from_member : (b : Inside) (d : ℕ) → IsKept b → (IsStopped (shown b) → ⊥) → IsMember b.ready d → IsReady (shown b) d
@@ -388,7 +390,7 @@ AreCounts-stopped p doomed counts new marked stopped tally waiting cancelled lea
 pub lower_within : (b : Inside) (i : ℕ) (dependants : List ℕ) → IsKept b → mark_of b.marks.items i ≡ Leased → AreDependants b.edges i dependants
     → (d : ℕ) → count_by (eqb d) dependants ≤ get_or b.unbuilt d 0
 lower_within b i dependants kept leased are d =
-    let within = (IsFailing-leased b i kept leased).within in
+    let within = (MayChange-leased b i kept leased).within in
     omega (
       arith,
       kept.counted.counted d,

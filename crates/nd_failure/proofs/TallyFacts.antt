@@ -8,7 +8,7 @@ use Rattle.nd_failure.specs.Progress.{mark_of, HasFailure}
 use Rattle.nd_failure.specs.Statuses.{IsTally, count_of, same_status, total_of}
 use Rattle.nd_flags.specs.Members.{IsMember}
 use Rattle.nd_failure.specs.Spread.{size_of}
-use Rattle.nd_failure.specs.Tallied.{status_by, statuses_of, count_in, one_if, IsLess, IsMore}
+use Rattle.nd_failure.specs.Tallied.{status_by, statuses_of, count_in, one_if, IsLess, IsMore, IsMoved}
 use Rattle.nd_failure.specs.declared.status.Counts.{Counts}
 use Rattle.nd_failure.specs.declared.status.Mark.{Mark}
 use Rattle.nd_failure.specs.declared.status.Mark.TheVariants as mark
@@ -37,14 +37,6 @@ statuses_of-set (x ∷ marks) [] zero m = refl
 statuses_of-set (x ∷ marks) [] (suc i) m = ap (λ (xs : List Status). status_by x false ∷ xs) (statuses_of-set marks [] i m)
 statuses_of-set (x ∷ marks) (c ∷ cancelled) zero m = refl
 statuses_of-set (x ∷ marks) (c ∷ cancelled) (suc i) m = ap (λ (xs : List Status). status_by x c ∷ xs) (statuses_of-set marks cancelled i m)
-
--- one node's status changes
-pub record IsMoved (was becomes : Status) (old new : Counts) : Type 0 where
-  pub waiting : new.waiting + one_if Waiting was ≡ old.waiting + one_if Waiting becomes
-  pub leased : new.leased + one_if Leased was ≡ old.leased + one_if Leased becomes
-  pub built : new.built + one_if Built was ≡ old.built + one_if Built becomes
-  pub failed : new.failed + one_if Failed was ≡ old.failed + one_if Failed becomes
-  pub cancelled : new.cancelled + one_if Cancelled was ≡ old.cancelled + one_if Cancelled becomes
 
 moved_count : (s was becomes : Status) (statuses : List Status) (i old new : ℕ) → i < length statuses → get_or statuses i Waiting ≡ was
     → old ≡ count_of s statuses → new + one_if s was ≡ old + one_if s becomes → new ≡ count_of s (set statuses i becomes)
@@ -202,8 +194,8 @@ waiting_enough marks old new n before tally old_sized new_sized still free count
     omega (arith, moved.waiting, tally.waiting)
 
 -- one node fewer with a status and one more with another is one that moved
-pub IsMoved-from : (was becomes : Status) (old middle new : Counts) → IsLess was old middle → IsMore becomes middle new → IsMoved was becomes old new
-IsMoved-from was becomes old middle new less more = record {
+pub moved_from : (was becomes : Status) (old middle new : Counts) → IsLess was old middle → IsMore becomes middle new → IsMoved was becomes old new
+moved_from was becomes old middle new less more = record {
   waiting = omega (arith, less.waiting, more.waiting);
   leased = omega (arith, less.leased, more.leased);
   built = omega (arith, less.built, more.built);
@@ -212,8 +204,13 @@ IsMoved-from was becomes old middle new less more = record {
 }
 
 -- and then there is one fewer
-pub total_of-less : (s : Status) (old new : Counts) → IsLess s old new → total_of new + 1 ≡ total_of old
-total_of-less s old new less = omega (arith, one_each s, less.waiting, less.leased, less.built, less.failed, less.cancelled)
+pub total_of_less : (s : Status) (old new : Counts) → IsLess s old new → total_of new + 1 ≡ total_of old
+total_of_less s old new less = omega (arith, one_each s, less.waiting, less.leased, less.built, less.failed, less.cancelled)
+
+-- one that moved leaves as many
+pub total_of-moved : (was becomes : Status) (old new : Counts) → IsMoved was becomes old new → total_of new ≡ total_of old
+total_of-moved was becomes old new moved =
+    omega (arith, one_each was, one_each becomes, moved.waiting, moved.leased, moved.built, moved.failed, moved.cancelled)
 
 -- a tally has each status's number
 pub count_in-tally : (statuses : List Status) (counts : Counts) (s : Status) → IsTally statuses counts → count_in s counts ≡ count_of s statuses

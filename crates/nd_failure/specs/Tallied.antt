@@ -49,3 +49,11 @@ pub record IsMore (s : Status) (old new : Counts) : Type 0 where
   pub built : new.built ≡ old.built + one_if Built s
   pub failed : new.failed ≡ old.failed + one_if Failed s
   pub cancelled : new.cancelled ≡ old.cancelled + one_if Cancelled s
+
+-- one node's status changes
+pub record IsMoved (was becomes : Status) (old new : Counts) : Type 0 where
+  pub waiting : new.waiting + one_if Waiting was ≡ old.waiting + one_if Waiting becomes
+  pub leased : new.leased + one_if Leased was ≡ old.leased + one_if Leased becomes
+  pub built : new.built + one_if Built was ≡ old.built + one_if Built becomes
+  pub failed : new.failed + one_if Failed was ≡ old.failed + one_if Failed becomes
+  pub cancelled : new.cancelled + one_if Cancelled was ≡ old.cancelled + one_if Cancelled becomes

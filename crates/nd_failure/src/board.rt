@@ -157,35 +157,35 @@ impl Board {
     }
 
     /// Node `i`, which is ready, is leased.
+    #[tactic(auto, using(crate::proofs::BoardFacts::counted_ready, crate::proofs::BoardFacts::counts_fit))]
     pub fn leased(&mut self, i: usize)
         requires { IsReady self.old i }
         ensures { self.new ≡ record self.old { marks = slice_set self.old.marks i Mark.Leased } }
     {
         self.marks[i] = Mark::Leased;
         self.ready.remove(i);
-        self.counts.take(Status::Waiting);
-        self.counts.add(Status::Leased);
+        self.counts.change(Status::Waiting, Status::Leased);
     }
 
     /// The lease of node `i` is given back: it was not begun.
+    #[tactic(auto, using(crate::proofs::BoardFacts::counted_leased, crate::proofs::BoardFacts::counts_fit))]
     pub fn back(&mut self, i: usize)
         requires { HasStatus self.old i Status.Leased }
         ensures { self.new ≡ record self.old { marks = slice_set self.old.marks i Mark.Free } }
     {
         self.marks[i] = Mark::Free;
         self.ready.insert(i);
-        self.counts.take(Status::Leased);
-        self.counts.add(Status::Waiting);
+        self.counts.change(Status::Leased, Status::Waiting);
     }
 
     /// Node `i`, which is leased, is built.
+    #[tactic(auto, using(crate::proofs::BoardFacts::counted_leased, crate::proofs::BoardFacts::counts_fit))]
     pub fn built(&mut self, i: usize)
         requires { HasStatus self.old i Status.Leased }
         ensures { self.new ≡ record self.old { marks = slice_set self.old.marks i Mark.Built } }
     {
         self.marks[i] = Mark::Built;
-        self.counts.take(Status::Leased);
-        self.counts.add(Status::Built);
+        self.counts.change(Status::Leased, Status::Built);
         let dependants = self.edges.dependants(i);
         self.unbuilt.lower_all(dependants);
         wake(&mut self.ready, &self.unbuilt, dependants);
@@ -199,8 +199,7 @@ impl Board {
         let was = self.status(i);
         self.marks[i] = Mark::Failed;
         self.ready.remove(i);
-        self.counts.take(was);
-        self.counts.add(Status::Failed);
+        self.counts.change(was, Status::Failed);
         let cancelled = spread(&self.edges, &mut self.doomed, &mut self.work, i);
         self.counts.waiting -= cancelled;
         self.counts.cancelled += cancelled;

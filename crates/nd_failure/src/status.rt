@@ -1,7 +1,7 @@
 //! Statuses and their counts.
 ghost use Rattle.std.specs.Prelude.{◌≡◌, ◌<◌, ◌+◌, ◌^◌};
 ghost use Rattle.nd_failure.specs.Statuses.{total_of};
-ghost use Rattle.nd_failure.specs.Tallied.{count_in, IsLess, IsMore};
+ghost use Rattle.nd_failure.specs.Tallied.{count_in, IsLess, IsMore, IsMoved};
 
 /// What has been recorded of a node: nothing, or that it is in one of the three sets of a board.
 #[derive(Clone, Copy, Debug, PartialEq, Eq)]
@@ -89,5 +89,16 @@ impl Counts {
             Status::Failed => self.failed += 1,
             Status::Cancelled => self.cancelled += 1,
         }
+    }
+
+    /// One node has another status than before.
+    #[tactic(auto, using(crate::proofs::TallyFacts::moved_from, crate::proofs::TallyFacts::total_of_less))]
+    pub(crate) fn change(&mut self, was: Status, becomes: Status)
+        requires some { 0 < count_in was self.old }
+        requires sized { total_of self.old < 2 ^ 64 }
+        ensures { IsMoved was becomes self.old self.new }
+    {
+        self.take(was);
+        self.add(becomes);
     }
 }

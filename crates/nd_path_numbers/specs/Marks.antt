@@ -1,6 +1,6 @@
 -- Which numbers a list has, by flags and beyond them by a set.
 -- Private clauses alone cite this.
-use Rattle.std.specs.Prelude.{◌≡◌, ℕ, ◌≤◌, ◌<◌, ◌/◌, ◌%◌, Bool, List, Option, None, Some, length, slice_index_or, ◌==◌}
+use Rattle.std.specs.Prelude.{◌≡◌, ℕ, ◌≤◌, ◌<◌, ◌/◌, ◌%◌, Bool, List, [], ◌∷◌, ◌++◌, Option, None, Some, length, slice_index_or, ◌==◌}
 use Rattle.std.specs.Int.{bit_at}
 use Rattle.indexmap.specs.IndexSet.{spare}
 use Rattle.nd_path_numbers.specs.Held.{is_among}
@@ -14,6 +14,14 @@ is_up words n = bit_at (slice_index_or words (n / 64) 0) (n % 64) == 1
 pub record AreMarked (numbers : List ℕ) (m : Marks) : Type 0 where
   pub within : (n : ℕ) → n / 64 < length m.words.items → is_up m.words.items n ≡ is_among numbers n
   pub others : (n : ℕ) → length m.words.items ≤ n / 64 → is_among numbers n ≡ is_among m.others.keys n
+
+-- the marks of the same lists
+abbrev pub MarkTheSame : Marks → Marks → Type 0
+MarkTheSame old new = (numbers : List ℕ) → AreMarked numbers old → AreMarked numbers new
+
+-- the marks of the lists that got this number
+abbrev pub TakeNote : ℕ → Marks → Marks → Type 0
+TakeNote number old new = (numbers : List ℕ) → AreMarked numbers old → AreMarked (numbers ++ number ∷ []) new
 
 -- where there are marks, they are those of the list
 abbrev pub AreTold : List ℕ → Option Marks → Type 0

@@ -1,8 +1,8 @@
 //! Which numbers a list has, told by flags and beyond them by a set.
 
-ghost use Rattle.std.specs.Prelude.{◌≡◌, ◌≤◌, ◌<◌, ◌+◌, ◌/◌, ℕ, List, ◌∷◌, ◌++◌, [], length, IfOk, OnOk, OnErr, IsOk};
+ghost use Rattle.std.specs.Prelude.{◌≡◌, ◌≤◌, ◌<◌, ◌+◌, ◌/◌, ℕ, List, [], length, IfOk, OnOk, OnErr, IsOk};
 ghost use Rattle.nd_path_numbers.specs.Held.{is_among};
-ghost use Rattle.nd_path_numbers.specs.Marks.{AreMarked, room_of};
+ghost use Rattle.nd_path_numbers.specs.Marks.{AreMarked, MarkTheSame, TakeNote, room_of};
 
 use indexmap::IndexSet;
 use std::alloc::{AllocError, Global};
@@ -14,7 +14,7 @@ const WORD: usize = 64;
 const FLAGS_A_NUMBER: usize = 128;
 
 /// Whether flags for all numbers below a limit are no more than so many numbers of a list pay for.
-pub(crate) fn are_flags_paid(numbers: usize, limit: usize) -> bool {
+fn are_flags_paid(numbers: usize, limit: usize) -> bool {
     limit / FLAGS_A_NUMBER <= numbers
 }
 
@@ -99,7 +99,7 @@ impl Marks {
 
     /// Makes room for so many more numbers of the list, whether they have a flag or not.
     pub(crate) fn reserve(&mut self, count: usize) -> Result<(), AllocError>
-        ensures marked { (numbers : List ℕ) → AreMarked numbers self.old → AreMarked numbers self.new }
+        ensures marked { MarkTheSame self.old self.new }
         ensures made { OnOk result (count ≤ room_of self.new) }
         ensures room { room_of self.old ≤ room_of self.new }
     {
@@ -147,8 +147,8 @@ impl Marks {
     /// memory; a refusal changes nothing.
     #[inline(always)]
     pub(crate) fn note(&mut self, number: usize) -> Result<(), AllocError>
-        ensures noted { OnOk result ((numbers : List ℕ) → AreMarked numbers self.old → AreMarked (numbers ++ number ∷ []) self.new) }
-        ensures refused { OnErr result ((numbers : List ℕ) → AreMarked numbers self.old → AreMarked numbers self.new) }
+        ensures noted { OnOk result (TakeNote number self.old self.new) }
+        ensures refused { OnErr result (MarkTheSame self.old self.new) }
         ensures succeeds { 0 < room_of self.old → IsOk result }
         ensures room { room_of self.old ≤ room_of self.new + 1 }
     {
@@ -164,8 +164,8 @@ impl Marks {
     #[inline(never)]
     fn note_other(&mut self, number: usize) -> Result<(), AllocError>
         requires { length self.old.words.items ≤ number / 64 }
-        ensures noted { OnOk result ((numbers : List ℕ) → AreMarked numbers self.old → AreMarked (numbers ++ number ∷ []) self.new) }
-        ensures refused { OnErr result ((numbers : List ℕ) → AreMarked numbers self.old → AreMarked numbers self.new) }
+        ensures noted { OnOk result (TakeNote number self.old self.new) }
+        ensures refused { OnErr result (MarkTheSame self.old self.new) }
         ensures succeeds { 0 < room_of self.old → IsOk result }
         ensures room { room_of self.old ≤ room_of self.new + 1 }
     {
@@ -210,7 +210,7 @@ impl Marks {
     /// Equal marks.
     #[tactic(auto, using(crate::proofs::Marking::alike))]
     pub(crate) fn try_clone(&self) -> Result<Marks, AllocError>
-        ensures { IfOk result (λ copy. (numbers : List ℕ) → AreMarked numbers self.now → AreMarked numbers copy) }
+        ensures { IfOk result (MarkTheSame self.now) }
     {
         Ok(Marks {
             words: self.words_again()?,

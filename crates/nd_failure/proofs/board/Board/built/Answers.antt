@@ -1,19 +1,8 @@
-use Rattle.std.proofs.Common.{sym, subst, refl, ◌∙◌, length, arith}
+use Rattle.std.proofs.Common.{sym, subst, refl, ◌∙◌, length}
 use Rattle.nd_failure.specs.Progress.{Progress, IsLeased}
-use Rattle.nd_failure.specs.declared.status.Status.TheVariants.{Leased, Built}
-use Rattle.nd_failure.proofs.BoardFacts.{shown, IsFailing-leased, IsKept-built, counted_some, total_of-kept, lower_within}
+use Rattle.nd_failure.proofs.BoardFacts.{shown, IsKept-built, lower_within}
 use Rattle.nd_failure.proofs.SpreadFacts.{dependants_within}
-use Rattle.nd_failure.proofs.TallyFacts.{IsMoved-from, total_of-less}
 use Rattle.nd_failure.proofs.board.Board.built.Goals as goal
-
-pub take-requires : goal.take-requires
-take-requires c =
-    let leased : IsLeased (shown c.self.inside) c.args.i = subst (λ (p : Progress). IsLeased p c.args.i) (sym c.self.view_is) c.requires in
-    let known = IsFailing-leased c.self.inside c.args.i c.self.invariant leased in
-    counted_some c.self.inside c.args.i Leased c.self.invariant known.within known.inputs known.is_was
-
-pub add-requires : goal.add-requires
-add-requires c = omega (arith, total_of-less Leased _ _ c.take.ensures, total_of-kept c.self.inside c.self.invariant, c.self.inside.marks.ok.0)
 
 pub lower_all-requires : goal.lower_all-requires
 lower_all-requires c =
@@ -29,4 +18,4 @@ pub invariant_of-self : goal.invariant_of-self
 invariant_of-self c =
     let leased : IsLeased (shown c.self.inside) c.args.i = subst (λ (p : Progress). IsLeased p c.args.i) (sym c.self.view_is) c.requires in
     IsKept-built c.self.inside c.args.i _ _ _ _ c.dependants-dependants.result.now c.self.invariant leased c.dependants-dependants.ensures refl
-    c.lower_all.ensures.sized c.lower_all.ensures.lowered c.wake.ensures (IsMoved-from Leased Built _ _ _ c.take.ensures c.add.ensures)
+    c.lower_all.ensures.sized c.lower_all.ensures.lowered c.wake.ensures c.change.ensures

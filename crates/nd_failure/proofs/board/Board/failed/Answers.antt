@@ -1,22 +1,17 @@
-use Rattle.std.proofs.Common.{sym, subst, refl, arith}
-use Rattle.nd_failure.specs.Progress.{Progress}
-use Rattle.nd_failure.specs.Statuses.{HasStatus, CanFail}
+use Rattle.std.proofs.Common.{refl, arith}
 use Rattle.nd_failure.specs.declared.status.Status.TheVariants.{Failed}
-use Rattle.nd_failure.proofs.BoardFacts.{IsFailing-from, IsKept-failed, counted_some, total_of-kept, cancelled_le}
+use Rattle.nd_failure.proofs.BoardFacts.{known_failing, IsKept-failed, counted_some, total_of-kept, counts_fit, cancelled_le}
 use Rattle.nd_failure.proofs.SpreadFacts.{IsClosed-doomed}
-use Rattle.nd_failure.proofs.TallyFacts.{IsMoved-from, total_of-less, total_of-more}
+use Rattle.nd_failure.proofs.TallyFacts.{total_of-moved}
 use Rattle.nd_failure.proofs.board.Board.failed.Goals as goal
 
-pub take-requires : goal.take-requires
-take-requires c =
-    let known = IsFailing-from c.self.inside c.args.i c.status-was.result c.self.invariant
-    (subst (λ (p : Progress). HasStatus p c.args.i c.status-was.result) (sym c.self.view_is) c.status-was.ensures)
-    (subst (λ (p : Progress). CanFail p c.args.i) (sym c.self.view_is) c.requires) in
-    counted_some c.self.inside c.args.i c.status-was.result c.self.invariant known.within known.inputs known.is_was
+pub change-requires-clause-some : goal.change-requires-clause-some
+change-requires-clause-some c =
+    let known = known_failing c.self.inside _ c.args.i c.status-was.result c.self.invariant c.self.view_is c.status-was.ensures c.requires in
+    counted_some c.self.inside c.args.i c.status-was.result c.self.invariant known
 
-pub add-requires : goal.add-requires
-add-requires c =
-    omega (arith, total_of-less c.status-was.result _ _ c.take.ensures, total_of-kept c.self.inside c.self.invariant, c.self.inside.marks.ok.0)
+pub change-requires-clause-sized : goal.change-requires-clause-sized
+change-requires-clause-sized c = counts_fit c.self.inside c.self.invariant
 
 pub spread-cancelled-requires-clause-closed : goal.spread-cancelled-requires-clause-closed
 spread-cancelled-requires-clause-closed c =
@@ -24,39 +19,28 @@ spread-cancelled-requires-clause-closed c =
 
 pub overflow_sub-self : goal.overflow_sub-self
 overflow_sub-self c =
-    let known = IsFailing-from c.self.inside c.args.i c.status-was.result c.self.invariant
-    (subst (λ (p : Progress). HasStatus p c.args.i c.status-was.result) (sym c.self.view_is) c.status-was.ensures)
-    (subst (λ (p : Progress). CanFail p c.args.i) (sym c.self.view_is) c.requires) in
-    cancelled_le c.self.inside c.args.i c.spread-cancelled.result c.status-was.result _ _ c.self.invariant known.within known.unbuilt known.sound
-    known.inputs known.is_was c.spread-cancelled.ensures.spreads c.spread-cancelled.ensures.counted
-    (IsMoved-from c.status-was.result Failed _ _ _ c.take.ensures c.add.ensures)
+    let known = known_failing c.self.inside _ c.args.i c.status-was.result c.self.invariant c.self.view_is c.status-was.ensures c.requires in
+    cancelled_le c.self.inside c.args.i c.spread-cancelled.result c.status-was.result _ _ c.self.invariant known
+    c.spread-cancelled.ensures.spreads c.spread-cancelled.ensures.counted c.change.ensures
 
 pub overflow_add-self : goal.overflow_add-self
 overflow_add-self c =
-    let known = IsFailing-from c.self.inside c.args.i c.status-was.result c.self.invariant
-    (subst (λ (p : Progress). HasStatus p c.args.i c.status-was.result) (sym c.self.view_is) c.status-was.ensures)
-    (subst (λ (p : Progress). CanFail p c.args.i) (sym c.self.view_is) c.requires) in
-    let enough = cancelled_le c.self.inside c.args.i c.spread-cancelled.result c.status-was.result _ _ c.self.invariant known.within known.unbuilt
-    known.sound known.inputs known.is_was c.spread-cancelled.ensures.spreads c.spread-cancelled.ensures.counted
-    (IsMoved-from c.status-was.result Failed _ _ _ c.take.ensures c.add.ensures) in
+    let known = known_failing c.self.inside _ c.args.i c.status-was.result c.self.invariant c.self.view_is c.status-was.ensures c.requires in
+    let enough = cancelled_le c.self.inside c.args.i c.spread-cancelled.result c.status-was.result _ _ c.self.invariant known
+    c.spread-cancelled.ensures.spreads c.spread-cancelled.ensures.counted c.change.ensures in
     omega (
       arith,
       enough,
-      total_of-less c.status-was.result _ _ c.take.ensures,
-      total_of-more Failed _ _ c.add.ensures,
+      total_of-moved c.status-was.result Failed _ _ c.change.ensures,
       total_of-kept c.self.inside c.self.invariant,
       c.self.inside.marks.ok.0,
     )
 
 pub invariant_of-self : goal.invariant_of-self
 invariant_of-self c =
-    let known = IsFailing-from c.self.inside c.args.i c.status-was.result c.self.invariant
-    (subst (λ (p : Progress). HasStatus p c.args.i c.status-was.result) (sym c.self.view_is) c.status-was.ensures)
-    (subst (λ (p : Progress). CanFail p c.args.i) (sym c.self.view_is) c.requires) in
-    let moved = IsMoved-from c.status-was.result Failed _ _ _ c.take.ensures c.add.ensures in
-    let enough = cancelled_le c.self.inside c.args.i c.spread-cancelled.result c.status-was.result _ _ c.self.invariant known.within known.unbuilt
-    known.sound known.inputs known.is_was c.spread-cancelled.ensures.spreads c.spread-cancelled.ensures.counted moved in
-    IsKept-failed c.self.inside c.args.i c.spread-cancelled.result c.status-was.result _ _ _ _ _ _ c.self.invariant known.within known.unbuilt
-    known.sound known.inputs known.is_was refl c.remove.ensures c.spread-cancelled.ensures.spreads c.spread-cancelled.ensures.counted
-    c.spread-cancelled.ensures.idle c.spread-cancelled.ensures.room moved
+    let known = known_failing c.self.inside _ c.args.i c.status-was.result c.self.invariant c.self.view_is c.status-was.ensures c.requires in
+    let enough = cancelled_le c.self.inside c.args.i c.spread-cancelled.result c.status-was.result _ _ c.self.invariant known
+    c.spread-cancelled.ensures.spreads c.spread-cancelled.ensures.counted c.change.ensures in
+    IsKept-failed c.self.inside c.args.i c.spread-cancelled.result c.status-was.result _ _ _ _ _ _ c.self.invariant known refl
+    c.remove.ensures c.spread-cancelled.ensures.spreads c.spread-cancelled.ensures.counted c.spread-cancelled.ensures.idle c.spread-cancelled.ensures.room c.change.ensures
     (record { waiting = omega (arith, enough); cancelled = refl; leased = refl; built = refl; failed = refl })
