@@ -1,6 +1,6 @@
 -- A board that follows a legal history says what the history says: of what is ready, of each status and of the counts.
-use Rattle.std.proofs.Common.{◌≡◌, ◌↔◌, ◌⊎◌, ℕ, ◌<◌, ◌≤◌, Bool, true, false, not, ◌==◌, ◌&&◌, ◌||◌, if◌then◌else◌, List, [], ◌∷◌, length, Contains, refl, sym, ap, ◌∙◌, subst, arith, inl, inr, eq-eqb}
-use Rattle.std.proofs.lemmas.Bool.{cases_lt, cases_eq, ne_eqb, false_from_ne_true}
+use Rattle.std.proofs.Common.{◌≡◌, ◌↔◌, ℕ, ◌<◌, ◌≤◌, Bool, true, false, not, ◌==◌, ◌&&◌, ◌||◌, if◌then◌else◌, List, [], ◌∷◌, length, Contains, refl, sym, ap, ◌∙◌, subst, arith, inl, inr, eq-eqb}
+use Rattle.std.proofs.lemmas.Bool.{cases_lt, cases_eq, ne_eqb, false_from_ne_true, or_cases, or_left, or_right}
 use Rattle.std.proofs.lemmas.List.{get_or_past}
 use Rattle.std.specs.Bool.{MatchBool}
 use Rattle.std.specs.List.{list_any}
@@ -20,32 +20,17 @@ use Rattle.nd_history.specs.History.{is_built, is_failed, is_leased, is_stopped,
 use Rattle.nd_history.specs.Standing.{drvs_in, HasFailedBelow, IsOpen, IsReady}
 use Rattle.nd_history.specs.Statuses.{HasStatusIn, AreCountsIn}
 use Rattle.nd_history.specs.Legal.{IsLegal, IsAllowed}
-use Rattle.nd_history.proofs.Legality.{leased_fresh, leased_ranged, built_settled}
+use Rattle.nd_history.proofs.Legality.{leased_fresh, leased_ranged, built_settled, rest_true}
 use Rattle.nd_history.specs.Marks.{mark_in, AreMarked, CanFollow}
 
 -- ---- nothing is said of a number that is no derivation
-
-one_of : (a b : Bool) → (a || b) ≡ true → (a ≡ true) ⊎ (b ≡ true)
-one_of true b h = inl refl
-one_of false b h = inr h
-
-or_left : (a b : Bool) → a ≡ true → (a || b) ≡ true
-or_left a b h = rw h refl
-
-or_right : (a b : Bool) → b ≡ true → (a || b) ≡ true
-or_right true b h = refl
-or_right false b h = h
-
-rest_of : (a b : Bool) → a ≡ false → (a || b) ≡ true → b ≡ true
-rest_of true b h k = cc
-rest_of false b h k = k
 
 -- said of the newest entry's derivation, or before
 newest_or : (i : Premises) (d e : ℕ) (b : Bool) → e < drvs_in i → ((d == e) || b) ≡ true → (b ≡ true → d < drvs_in i) → d < drvs_in i
 newest_or i d e b lt h rest =
     elim (cases_eq d e) [
       | inl same ↦ subst (λ (x : ℕ). x < drvs_in i) (sym same) lt
-      | inr other ↦ rest (rest_of (d == e) b (ne_eqb d e other) h)
+      | inr other ↦ rest (rest_true (d == e) b (ne_eqb d e other) h)
     ]
 
 built_ranged : (i : Premises) (past : List Entry) → IsLegal i past → (d : ℕ) → is_built d past ≡ true → d < drvs_in i
@@ -177,7 +162,7 @@ fails_failure d (Enable m) h = cc
 any_failure : (d : ℕ) (past : List Entry) → is_failed d past ≡ true → list_any is_failure past ≡ true
 any_failure d [] h = cc
 any_failure d (e ∷ past) h =
-    elim (one_of (fails d e) (is_failed d past) h) [
+    elim (or_cases (fails d e) (is_failed d past) h) [
       | inl here ↦ or_left (is_failure e) (list_any is_failure past) (fails_failure d e here)
       | inr before ↦ or_right (is_failure e) (list_any is_failure past) (any_failure d past before)
     ]
@@ -223,7 +208,7 @@ stopped_said i past p legal was stopped =
 
 stopped_marked : (i : Premises) (past : List Entry) (p : Progress) → IsLegal i past → AreMarked i past p → is_stopped i.keep_going past ≡ true → IsStopped p
 stopped_marked i past p legal was h =
-    elim (one_of (has_stop past) (not i.keep_going && list_any is_failure past) h) [
+    elim (or_cases (has_stop past) (not i.keep_going && list_any is_failure past) h) [
       | inl asked ↦ inl (was.stop ∙ asked)
       | inr lost ↦
           let both = both_of (not i.keep_going) (list_any is_failure past) lost in

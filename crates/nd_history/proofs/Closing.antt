@@ -2,7 +2,7 @@
 use Rattle.std.proofs.Common.{◌≡◌, ◌⊎◌, ℕ, List, [], ◌∷◌, ◌++◌, get_or, map, refl, sym, ap, subst, ◌∙◌, inl, inr, Some}
 use Rattle.std.specs.Prelude.{◌↔◌}
 use Rattle.std.specs.List.{Contains, zip, slice_get}
-use Rattle.std.proofs.lemmas.Bool.{cases_Bool}
+use Rattle.std.proofs.lemmas.Bool.{cases_Bool, or_right}
 use Rattle.std.proofs.lemmas.List.{length-map}
 use Rattle.std.proofs.lemmas.Option.{slice_get_within, get_or_from_slice_get}
 use Rattle.std.proofs.Math.ListN as seq
@@ -20,7 +20,7 @@ use Rattle.nd_history.specs.References.IsAlong.{seed, step}
 use Rattle.nd_history.specs.References.Refers.{listed, reported}
 use Rattle.nd_history.specs.Closing.{ClosureStays}
 use Rattle.nd_history.proofs.Legality.{leased_fresh}
-use Rattle.nd_history.proofs.Reported.{or_true, nothing_in, zip_refs, refs_first, refs_second, built_listed, built_on, just_built}
+use Rattle.nd_history.proofs.Reported.{nothing_in, zip_refs, refs_first, refs_second, built_listed, built_on, just_built}
 
 -- ---- sets that are closed under a relation
 
@@ -143,7 +143,7 @@ stays_once i past e d legal inputs p = (
 
 -- the inputs stay built
 inputs_stay : (i : Premises) (past : List Entry) (d : ℕ) (e : Entry) → AreInputsBuilt i past d → AreInputsBuilt i (e ∷ past) d
-inputs_stay i past d e inputs = record { built = λ c h. or_true (builds c e) (is_built c past) (inputs.built c h) }
+inputs_stay i past d e inputs = record { built = λ c h. or_right (builds c e) (is_built c past) (inputs.built c h) }
 
 pub inputs_later : (i : Premises) (later past : List Entry) (d : ℕ) → AreInputsBuilt i past d → AreInputsBuilt i (later ++ past) d
 inputs_later i [] past d inputs = inputs

@@ -17,7 +17,7 @@ use Rattle.nd_history.specs.Books.{Recorded, IsSeatFor, HasSeatFor, CanRecord, M
 use Rattle.nd_history.specs.Premises.{Premises}
 use Rattle.nd_history.specs.Choices.{jobs_of}
 use Rattle.nd_history.specs.Fitting.{FitTogether}
-use Rattle.nd_history.proofs.Slots.{place_has_room}
+use Rattle.nd_history.proofs.Slots.{place_has_room, same_of}
 use Rattle.nd_history.specs.BooksKept.{recorded, AreFollowed}
 use Rattle.nd_history.specs.History.{live, load, is_leased, is_taken, is_started}
 use Rattle.nd_history.specs.Kept.{leases_after, started_after, AreStarted, AreUp, AreUpsAfter, AreLowered, CanTable}
@@ -81,9 +81,6 @@ one_at false some = absurd (some refl)
 
 pub one_passes : {X : Type 0} → (p : X → Bool) (xs : List X) → (find p xs ≡ None → ⊥) → list_any p xs ≡ true
 one_passes p xs some = one_at (list_any p xs) (λ none. some (none_found p xs none))
-
-same_of : (a b : ℕ) → (a == b) ≡ true → a ≡ b
-same_of a b h = elim (cases_eq a b) [ inl same ↦ same | inr other ↦ let no_way : ⊥ = cc (ne_eqb a b other) in absurd no_way ]
 
 -- a flag that was put reads back
 put_flag : (flags : List Bool) (e d : ℕ) (flag : Bool) → d < length flags → get_or (set flags e flag) d false ≡ (if d == e then flag else get_or flags d false)

@@ -1,5 +1,6 @@
 -- The claims hold of every legal history.
-use Rattle.std.proofs.Common.{◌≡◌, ◌⊎◌, ℕ, zero, suc, ◌<◌, Bool, true, false, not, ◌==◌, ◌&&◌, ◌||◌, cond, List, [], ◌∷◌, length, refl, sym, ap, ◌∙◌, subst, inl, inr, Some}
+use Rattle.std.proofs.Common.{◌≡◌, ℕ, zero, suc, ◌<◌, Bool, true, false, not, ◌==◌, ◌&&◌, ◌||◌, cond, List, [], ◌∷◌, length, refl, sym, ap, ◌∙◌, subst, inl, inr, Some}
+use Rattle.std.proofs.lemmas.Bool.{and_parts, or_cases, or_right}
 use Rattle.std.specs.List.{list_any, filter, find}
 use Rattle.nd_history.specs.declared.entry.Entry.{Entry}
 use Rattle.nd_history.specs.declared.entry.Entry.TheVariants.{Chosen, NoBuilder, Started, Down, Built, Failed, Stop, Drain, Enable}
@@ -16,21 +17,9 @@ use Rattle.nd_history.proofs.Slots.{lease_once, slot_once, load_within, same_of}
 
 -- ---- slots are leases
 
-either_of : (a b : Bool) → (a || b) ≡ true → (a ≡ true) ⊎ (b ≡ true)
-either_of true b h = inl refl
-either_of false b h = inr h
-
-two_of : (a b : Bool) → (a && b) ≡ true → (a ≡ true) × (b ≡ true)
-two_of true b h = (refl, h)
-two_of false b h = cc
-
-or_right : (a b : Bool) → b ≡ true → (a || b) ≡ true
-or_right true b h = refl
-or_right false b h = h
-
 -- what is among fewer is among all
 any_kept : {X : Type 0} → (p q : X → Bool) (x : X) (xs : List X) (b : Bool) → list_any p (cond b (x ∷ filter q xs) (filter q xs)) ≡ true → (list_any p (filter q xs) ≡ true → list_any p xs ≡ true) → (p x || list_any p xs) ≡ true
-any_kept p q x xs true h rest = elim (either_of (p x) (list_any p (filter q xs)) h) [ inl here ↦ rw here refl | inr there ↦ or_right (p x) (list_any p xs) (rest there) ]
+any_kept p q x xs true h rest = elim (or_cases (p x) (list_any p (filter q xs)) h) [ inl here ↦ rw here refl | inr there ↦ or_right (p x) (list_any p xs) (rest there) ]
 any_kept p q x xs false h rest = or_right (p x) (list_any p xs) (rest h)
 
 any_filter : {X : Type 0} → (p q : X → Bool) (xs : List X) → list_any p (filter q xs) ≡ true → list_any p xs ≡ true
@@ -40,9 +29,9 @@ any_filter p q (x ∷ xs) h = any_kept p q x xs (q x) h (any_filter p q xs)
 pub taken_ranged : (i : Premises) (past : List Entry) → IsLegal i past → (m s : ℕ) → is_taken m s past ≡ true → s < jobs_of i m
 taken_ranged i [] legal m s h = cc
 taken_ranged i (Chosen e n k ∷ past) legal m s h =
-    elim (either_of ((m == n) && (s == k)) (is_taken m s past) h) [
+    elim (or_cases ((m == n) && (s == k)) (is_taken m s past) h) [
       | inl here ↦
-          let two = two_of (m == n) (s == k) here in
+          let two = and_parts (m == n) (s == k) here in
           let P : ℕ → Type 0 = λ x. k < jobs_of i x in
           let Q : ℕ → Type 0 = λ x. x < jobs_of i m in
           subst Q (sym (same_of s k two.1)) (subst P (sym (same_of m n two.0)) legal.0.ranged.2)

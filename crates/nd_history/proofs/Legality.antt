@@ -1,7 +1,7 @@
 -- What holds of every legal history: of leased, built and failed derivations, and of loads.
-use Rattle.std.proofs.Common.{◌≡◌, ◌⊎◌, ℕ, ◌<◌, Bool, true, false, not, ◌==◌, ◌&&◌, ◌||◌, List, [], ◌∷◌, ◌++◌, refl, sym, ◌∙◌, subst, arith, inl, inr}
+use Rattle.std.proofs.Common.{◌≡◌, ℕ, ◌<◌, Bool, true, false, not, ◌==◌, ◌&&◌, ◌||◌, List, [], ◌∷◌, ◌++◌, refl, sym, ◌∙◌, subst, arith, inl, inr}
 use Rattle.std.proofs.lemmas.Grind.{common_steps}
-use Rattle.std.proofs.lemmas.Bool.{cases_eq, ne_eqb}
+use Rattle.std.proofs.lemmas.Bool.{cases_eq, ne_eqb, or_right, or_from}
 use Rattle.std.specs.List.{list_any}
 use Rattle.nd_history.specs.declared.entry.Entry.{Entry}
 use Rattle.nd_history.specs.declared.entry.Entry.TheVariants.{Chosen, NoBuilder, Started, Down, Built, Failed, Stop, Drain, Enable}
@@ -25,20 +25,10 @@ both_true false b h = (refl, h)
 pub other_lease : (d e : ℕ) (past : List Entry) → list_any (λ t. d == t.drv) (without e (live past)) ≡ true → ((d == e) ≡ false) × (is_leased d past ≡ true)
 other_lease d e past h = both_true (d == e) (is_leased d past) (sym (gone d e (live past)) ∙ h)
 
-one_of : (a b : Bool) → (a || b) ≡ true → (a ≡ true) ⊎ (b ≡ true)
-one_of true b h = inl refl
-one_of false b h = inr h
-
-or_true : (a b : Bool) → b ≡ true → (a || b) ≡ true
-or_true true b h = refl
-or_true false b h = h
-
-rest_true : (a b : Bool) → a ≡ false → (a || b) ≡ true → b ≡ true
+-- what is so by one of two tests, and not by the first, is so by the second
+pub rest_true : (a b : Bool) → a ≡ false → (a || b) ≡ true → b ≡ true
 rest_true true b h k = cc
 rest_true false b h k = k
-
-none_of : (a b : Bool) → a ≡ false → b ≡ false → (a || b) ≡ false
-none_of a b h k = cc
 
 -- a derivation that is leased and one that isn't are two
 apart : (d e : ℕ) (past : List Entry) → is_leased d past ≡ true → is_leased e past ≡ false → (d == e) ≡ false
@@ -55,12 +45,12 @@ pub record IsFresh (i : Premises) (past : List Entry) (d : ℕ) : Type 0 where
   pub inputs : AreInputsBuilt i past d
 
 inputs_stay : (i : Premises) (past : List Entry) (d : ℕ) (e : Entry) → AreInputsBuilt i past d → AreInputsBuilt i (e ∷ past) d
-inputs_stay i past d e are = record { built = λ c h. or_true (builds c e) (is_built c past) (are.built c h) }
+inputs_stay i past d e are = record { built = λ c h. or_right (builds c e) (is_built c past) (are.built c h) }
 
 fresh_on : (i : Premises) (past : List Entry) (d : ℕ) (e : Entry) → builds d e ≡ false → fails d e ≡ false → IsFresh i past d → IsFresh i (e ∷ past) d
 fresh_on i past d e b f fresh = record {
-  unbuilt = none_of (builds d e) (is_built d past) b fresh.unbuilt;
-  unfailed = none_of (fails d e) (is_failed d past) f fresh.unfailed;
+  unbuilt = or_from (builds d e) (is_built d past) b fresh.unbuilt;
+  unfailed = or_from (fails d e) (is_failed d past) f fresh.unfailed;
   inputs = inputs_stay i past d e fresh.inputs;
 }
 
@@ -98,7 +88,7 @@ pub record IsSettled (i : Premises) (past : List Entry) (d : ℕ) : Type 0 where
 
 settled_on : (i : Premises) (past : List Entry) (d : ℕ) (e : Entry) → fails d e ≡ false → IsSettled i past d → IsSettled i (e ∷ past) d
 settled_on i past d e f settled = record {
-  unfailed = none_of (fails d e) (is_failed d past) f settled.unfailed;
+  unfailed = or_from (fails d e) (is_failed d past) f settled.unfailed;
   inputs = inputs_stay i past d e settled.inputs;
 }
 

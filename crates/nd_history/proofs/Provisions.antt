@@ -2,7 +2,7 @@
 use Rattle.std.proofs.Common.{◌≡◌, ◌⊎◌, ℕ, zero, suc, Bool, true, false, ◌||◌, ◌&&◌, ◌==◌, if◌then◌else◌, List, [], ◌∷◌, ◌++◌, refl, ap, subst, ◌∙◌, inl, inr, Some, eq-eqb}
 use Rattle.std.specs.Prelude.{◌↔◌}
 use Rattle.std.specs.List.{Contains, list_any, find, zip}
-use Rattle.std.proofs.lemmas.Bool.{cases_eq, ne_eqb, cases_Bool}
+use Rattle.std.proofs.lemmas.Bool.{cases_eq, ne_eqb, cases_Bool, or_right}
 use Rattle.std.proofs.lemmas.List.Elements.{Contains-append_left, Contains-append_right}
 use Rattle.nd_closure.specs.Tables.{is_listed, refs_of}
 use Rattle.nd_history.specs.declared.entry.Entry.{Entry}
@@ -16,8 +16,8 @@ use Rattle.nd_history.specs.References.{outputs_of, IsOutputOf, IsSource, IsGive
 use Rattle.nd_history.specs.References.IsAlong.{seed, step}
 use Rattle.nd_history.specs.References.Refers.{listed, reported}
 use Rattle.nd_history.specs.Closing.{OutputsAlone, StartsAreProvisioned}
-use Rattle.nd_history.proofs.Legality.{leased_fresh}
-use Rattle.nd_history.proofs.Reported.{or_true, rest_true, zip_refs, refs_first, refs_second, built_on, just_built}
+use Rattle.nd_history.proofs.Legality.{leased_fresh, rest_true}
+use Rattle.nd_history.proofs.Reported.{zip_refs, refs_first, refs_second, built_on, just_built}
 use Rattle.nd_history.proofs.Closing.{along_more, along_within, along_known, IsKnown, named_built, reported_known, referred_known, refers_after, closing, inputs_later}
 
 -- ---- the local machine
@@ -135,7 +135,7 @@ found_any p q (y ∷ xs) x h passes = by (p y) (λ later. found_any p q xs x lat
   where
     by : (b : Bool) → (find p xs ≡ Some x → list_any q xs ≡ true) → (if b then Some y else find p xs) ≡ Some x → list_any q (y ∷ xs) ≡ true
     by true rest here = let same : y ≡ x = cc in ap (λ (b : Bool). b || list_any q xs) (ap q same ∙ passes)
-    by false rest later = or_true (q y) (list_any q xs) (rest later)
+    by false rest later = or_right (q y) (list_any q xs) (rest later)
 
 -- the lease of d is on its ticket's machine, and d is leased
 pub leased_there : (d : ℕ) (past : List Entry) (t : Ticket) → lease_of d past ≡ Some t → is_leased_on t.machine d past ≡ true

@@ -1,7 +1,7 @@
 -- Tables of paths with their references, and what builds reported.
 use Rattle.std.proofs.Common.{◌≡◌, ◌⊎◌, ℕ, Bool, true, false, ◌||◌, ◌==◌, if◌then◌else◌, List, [], ◌∷◌, ◌++◌, length, eq-eqb, refl, sym, ap, subst, ◌∙◌, arith, inl, inr}
 use Rattle.std.specs.List.{Contains, zip}
-use Rattle.std.proofs.lemmas.Bool.{cases_eq, ne_eqb}
+use Rattle.std.proofs.lemmas.Bool.{cases_eq, ne_eqb, or_cases, or_right}
 use Rattle.std.proofs.lemmas.List.Folds.{list_any-append}
 use Rattle.std.proofs.lemmas.List.Elements.{Contains-append_left, Contains-append_right, Contains-append_cases, Contains-push, Contains-push_cases}
 use Rattle.nd_path.specs.StorePath.{path_eq}
@@ -15,20 +15,7 @@ use Rattle.nd_history.specs.Premises.{Premises}
 use Rattle.nd_history.specs.History.{is_built, builds}
 use Rattle.nd_history.specs.Legal.{IsLegal}
 use Rattle.nd_history.specs.References.{outputs_of, IsOutputOf, IsBuiltPath, reports}
-
--- ---- flags
-
-pub one_of : (a b : Bool) → (a || b) ≡ true → (a ≡ true) ⊎ (b ≡ true)
-one_of true b h = inl refl
-one_of false b h = inr h
-
-pub or_true : (a b : Bool) → b ≡ true → (a || b) ≡ true
-or_true true b h = refl
-or_true false b h = h
-
-pub rest_true : (a b : Bool) → a ≡ false → (a || b) ≡ true → b ≡ true
-rest_true true b h k = cc
-rest_true false b h k = k
+use Rattle.nd_history.proofs.Legality.{rest_true}
 
 -- ---- lists
 
@@ -87,7 +74,7 @@ zip_lists (o ∷ outputs) (r ∷ refs) p h = ap (λ (b : Bool). path_eq p o || b
 pub zip_outputs : (outputs : List (List ℕ)) (refs : List (List (List ℕ))) (p : List ℕ) → is_listed (zip outputs refs) p ≡ true → Contains outputs p
 zip_outputs [] refs p h = cc
 zip_outputs (o ∷ outputs) [] p h = cc
-zip_outputs (o ∷ outputs) (r ∷ refs) p h = elim (one_of (path_eq p o) (is_listed (zip outputs refs) p) h) [
+zip_outputs (o ∷ outputs) (r ∷ refs) p h = elim (or_cases (path_eq p o) (is_listed (zip outputs refs) p) h) [
   | inl same ↦ subst (λ (x : List ℕ). Contains (x ∷ outputs) p) (paths_same p o same) (contains_here p outputs)
   | inr later ↦ contains_there o outputs p (zip_outputs outputs refs p later)
 ]
@@ -118,7 +105,7 @@ built_listed i [] legal d p built out = cc
 built_listed i (Built e refs ∷ past) legal d p built out =
     listed_both (reports i past) (zip (outputs_of i e) refs) p
     ∙ elim (cases_eq d e) [
-      | inl same ↦ or_true (is_listed (reports i past) p) (is_listed (zip (outputs_of i e) refs) p)
+      | inl same ↦ or_right (is_listed (reports i past) p) (is_listed (zip (outputs_of i e) refs) p)
           (zip_lists (outputs_of i e) refs p legal.0.may.right.sized ∙ (member_by_test (outputs_of i e) p).1 (subst (λ (x : ℕ). Contains (outputs_of i x) p) same out))
       | inr other ↦ ap (λ (b : Bool). b || is_listed (zip (outputs_of i e) refs) p)
           (built_listed i past legal.1 d p (rest_true (d == e) (is_built d past) (ne_eqb d e other) built) out)
@@ -126,7 +113,7 @@ built_listed i (Built e refs ∷ past) legal d p built out =
 built_listed i (e ∷ past) legal d p built out = built_listed i past legal.1 d p built out
 
 pub built_on : (i : Premises) (past : List Entry) (e : Entry) (p : List ℕ) → IsBuiltPath i past p → IsBuiltPath i (e ∷ past) p
-built_on i past e p h = record { drv = h.drv; built = or_true (builds h.drv e) (is_built h.drv past) h.built; output = h.output }
+built_on i past e p h = record { drv = h.drv; built = or_right (builds h.drv e) (is_built h.drv past) h.built; output = h.output }
 
 -- an output of the derivation that was built last
 pub just_built : (i : Premises) (past : List Entry) (d : ℕ) (refs : List (List (List ℕ))) (p : List ℕ) → IsOutputOf i d p → IsBuiltPath i (Built d refs ∷ past) p
@@ -135,7 +122,7 @@ just_built i past d refs p out = record { drv = d; built = ap (λ (b : Bool). b 
 -- what the reports list is an output of what is built
 pub listed_built : (i : Premises) (past : List Entry) (p : List ℕ) → is_listed (reports i past) p ≡ true → IsBuiltPath i past p
 listed_built i [] p h = cc
-listed_built i (Built e refs ∷ past) p h = elim (one_of (is_listed (reports i past) p) (is_listed (zip (outputs_of i e) refs) p) (sym (listed_both (reports i past) (zip (outputs_of i e) refs) p) ∙ h)) [
+listed_built i (Built e refs ∷ past) p h = elim (or_cases (is_listed (reports i past) p) (is_listed (zip (outputs_of i e) refs) p) (sym (listed_both (reports i past) (zip (outputs_of i e) refs) p) ∙ h)) [
   | inl before ↦ built_on i past (Built e refs) p (listed_built i past p before)
   | inr new ↦ just_built i past e refs p (record { listed = zip_outputs (outputs_of i e) refs p new })
 ]

@@ -1,7 +1,7 @@
 -- In a legal history no derivation is started twice: what was started is leased and started until it is built or has failed.
 use Rattle.std.proofs.Common.{◌≡◌, ◌⊎◌, ℕ, ◌≤◌, Bool, true, false, not, ◌==◌, ◌&&◌, ◌||◌, if◌then◌else◌, List, [], ◌∷◌, count_by, refl, sym, ◌∙◌, subst, arith, eq-eqb, ◌+◌, inl, inr}
 use Rattle.std.proofs.lemmas.Grind.{common_steps}
-use Rattle.std.proofs.lemmas.Bool.{cases_eq, ne_eqb, false_from_ne_true}
+use Rattle.std.proofs.lemmas.Bool.{cases_eq, ne_eqb, false_from_ne_true, or_right}
 use Rattle.std.specs.List.{list_any}
 use Rattle.nd_history.specs.declared.entry.Entry.{Entry}
 use Rattle.nd_history.specs.declared.entry.Entry.TheVariants.{Chosen, NoBuilder, Started, Down, Built, Failed, Stop, Drain, Enable}
@@ -12,7 +12,6 @@ use Rattle.nd_history.specs.Legal.{IsLegal}
 use Rattle.nd_history.specs.Headline.{starts, StartsAreOnce}
 use Rattle.nd_history.proofs.Legality.{gone, leased_fresh}
 use Rattle.nd_history.proofs.Provisions.{leased_by}
-use Rattle.nd_history.proofs.Reported.{or_true}
 use Rattle.nd_history.proofs.Slots.{count_cons, none_counted, same_of}
 
 -- what has become of a derivation that was started: its lease goes on, or it is built, or it failed
@@ -34,8 +33,8 @@ still past d e leased started was =
     elim was.ways [
       | inl lease ↦ goes_on (e ∷ past) d (leased lease.0) (started lease.1)
       | inr ended ↦ elim ended [
-        | inl built ↦ was_built (e ∷ past) d (or_true (builds d e) (is_built d past) built)
-        | inr failed ↦ has_failed (e ∷ past) d (or_true (fails d e) (is_failed d past) failed)
+        | inl built ↦ was_built (e ∷ past) d (or_right (builds d e) (is_built d past) built)
+        | inr failed ↦ has_failed (e ∷ past) d (or_right (fails d e) (is_failed d past) failed)
       ]
     ]
 
@@ -86,7 +85,7 @@ under_way i (Started e paths ∷ past) legal d h =
           let is : (d == e) ≡ true = rw same (eq-eqb e e refl) in
           goes_on (Started e paths ∷ past) d (subst P (sym same) leased) (or_first (d == e) (is_started d past) is)
       | inr other ↦
-          still past d (Started e paths) (λ k. k) (λ k. or_true (d == e) (is_started d past) k)
+          still past d (Started e paths) (λ k. k) (λ k. or_right (d == e) (is_started d past) k)
           (under_way i past legal.1 d (started_first (d == e) (list_any (starts d) past) (ne_eqb d e other) h))
     ]
 under_way i (Chosen e m s ∷ past) legal d h =
@@ -97,7 +96,7 @@ under_way i (Chosen e m s ∷ past) legal d h =
           let free = legal.0.may.ready.waiting.free in
           absurd (not_open past e (subst P same was) free.unleased free.unbuilt free.unfailed)
       | inr other ↦
-          still past d (Chosen e m s) (λ k. or_true (d == e) (is_leased d past) k) (λ k. chosen_other (d == e) (is_started d past) (ne_eqb d e other) k) was
+          still past d (Chosen e m s) (λ k. or_right (d == e) (is_leased d past) k) (λ k. chosen_other (d == e) (is_started d past) (ne_eqb d e other) k) was
     ]
 under_way i (Down e ∷ past) legal d h =
     let was = under_way i past legal.1 d h in

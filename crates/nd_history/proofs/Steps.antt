@@ -103,6 +103,10 @@ place_ranged i past d p best =
           absurd (subst P gone.1 best.best.candidate.meant)
     ]
 
+-- .. so that of a decision is
+pub decided_ranged : (i : Premises) (past : List Entry) (d p : ℕ) → HasDecision i past d (Remote p) → p < length i.machines
+decided_ranged i past d p decided = place_ranged i past d p (remote_best i past d p decided)
+
 -- a machine that was read has so many jobs
 pub jobs_read : (machines : List Builder) (p : ℕ) (m : Builder) → p < length machines → m ≡ get_or machines p m → jobs_at machines p ≡ m.jobs
 jobs_read machines p m lt is = ap (λ (o : Option Builder). option_map_or (λ machine. machine.jobs) o 0) (slice_get_read machines (length machines) p m refl lt is)

@@ -86,25 +86,22 @@ same_leased Built h = cc
 same_leased Failed h = cc
 same_leased Cancelled h = cc
 
+-- a status that is counted is some derivation's
+counted_somewhere : (i : Premises) (past : List Entry) (counts : Counts) → (are : AreCountsIn i past counts) → (s : Status) → 0 < count_of s are.statuses → ((t : Status) → same_status s t ≡ true → t ≡ s) → ((d : ℕ) → d < drvs_in i → HasStatusIn i past d s → ⊥) → ⊥
+counted_somewhere i past counts are s some same none =
+    let long = are.of_drvs.one_each in
+    let at = passes_somewhere (same_status s) are.statuses some in
+    let lt : at.0 < drvs_in i = omega (arith, at.1) in
+    let P : Status → Type 0 = λ t. HasStatusIn i past at.0 t in
+    none at.0 lt (subst P (same (get_or are.statuses at.0 Waiting) (at.2 Waiting)) (are.of_drvs.right at.0 lt))
+
 -- something waits
 unfinished_waiting : (i : Premises) (past : List Entry) (counts : Counts) → AreCountsIn i past counts → 0 < counts.waiting → IsFinished i past → ⊥
-unfinished_waiting i past counts are some finished =
-    let tally = are.tally.waiting in
-    let long = are.of_drvs.one_each in
-    let at = passes_somewhere (same_status Waiting) are.statuses (omega arith) in
-    let lt : at.0 < drvs_in i = omega (arith, at.1) in
-    let P : Status → Type 0 = λ s. HasStatusIn i past at.0 s in
-    finished.none_waits at.0 lt (subst P (same_waiting (get_or are.statuses at.0 Waiting) (at.2 Waiting)) (are.of_drvs.right at.0 lt))
+unfinished_waiting i past counts are some finished = counted_somewhere i past counts are Waiting (subst (λ (n : ℕ). 0 < n) are.tally.waiting some) same_waiting finished.none_waits
 
 -- something is leased
 unfinished_leased : (i : Premises) (past : List Entry) (counts : Counts) → AreCountsIn i past counts → 0 < counts.leased → IsFinished i past → ⊥
-unfinished_leased i past counts are some finished =
-    let tally = are.tally.leased in
-    let long = are.of_drvs.one_each in
-    let at = passes_somewhere (same_status Leased) are.statuses (omega arith) in
-    let lt : at.0 < drvs_in i = omega (arith, at.1) in
-    let P : Status → Type 0 = λ s. HasStatusIn i past at.0 s in
-    finished.none_leased at.0 lt (subst P (same_leased (get_or are.statuses at.0 Waiting) (at.2 Waiting)) (are.of_drvs.right at.0 lt))
+unfinished_leased i past counts are some finished = counted_somewhere i past counts are Leased (subst (λ (n : ℕ). 0 < n) are.tally.leased some) same_leased finished.none_leased
 
 -- ---- whether the run is over
 

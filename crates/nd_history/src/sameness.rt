@@ -7,8 +7,8 @@ use crate::entry::{Entry, Why};
 use nd_bytes::ByteString;
 use nd_closure::Refs;
 use nd_eligible::{Local, Need};
-use nd_machines::{FeatureSet, Machine};
 use nd_graph::{Graph, Input};
+use nd_machines::{FeatureSet, Machine};
 use nd_path::{PathSet, StorePath};
 
 /// Values of which it can be told whether they are the same.

@@ -9,6 +9,7 @@ use Rattle.nd_graph.specs.Graphs.{Nodes, nodes_of, IsSound}
 use Rattle.nd_history.specs.Premises.{Premises, premises}
 use Rattle.nd_history.specs.References.{sources_of, outputs_of, inputs_at, IsSource, IsNeededBy}
 use Rattle.nd_provision.specs.Stored.{AreSources, AreNeeded, named_outputs}
+use Rattle.nd_provision.proofs.Gains.{read_there}
 use Rattle.nd_history.proofs.Closing.{node_needed}
 use Rattle.nd_history.proofs.Reported.{nothing_in, contains_here, contains_there, contains_cases}
 
@@ -106,6 +107,10 @@ needed_more i d n input places outputs lt is at of =
     ∙ ap (λ (xs : List (List ℕ)). (sources_of i d ++ flat_map (named_outputs i.graph) (take n (inputs_at i d))) ++ map (λ k. get_or xs k []) input.outputs) of
     ∙ flat_map_more (named_outputs i.graph) (sources_of i d) (take n (inputs_at i d)) input
     ∙ ap (λ (xs : List Input). sources_of i d ++ flat_map (named_outputs i.graph) xs) (sym (take_more (inputs_at i d) n input lt ∙ ap (λ (x : Input). take n (inputs_at i d) ++ x ∷ []) (sym is)))
+
+-- an input that was read is one of the derivation's
+pub input_there : (i : Premises) (d : ℕ) (items : List Input) (k : ℕ) (input : Input) → items ≡ inputs_at i d → k < length items → input ≡ get_or items k input → Contains (inputs_at i d) input
+input_there i d items k input is lt at = subst (λ (xs : List Input). Contains xs input) is (read_there items k input lt at)
 
 -- the node of an input is there
 pub node_there : (i : Premises) (d : ℕ) (input : Input) → IsSound i.graph → Contains (inputs_at i d) input → input.node < length i.graph.paths

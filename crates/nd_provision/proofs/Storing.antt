@@ -3,7 +3,7 @@ use Rattle.std.proofs.Common.{◌≡◌, ◌≢◌, ◌⊎◌, ℕ, zero, suc, �
 use Rattle.std.specs.Prelude.{◌↔◌}
 use Rattle.std.specs.Bool.{MatchBool}
 use Rattle.std.specs.List.{Contains, find, list_any, zip}
-use Rattle.std.proofs.lemmas.Bool.{cases_Bool, cases_eq, cases_lt, ne_eqb, eqb-true}
+use Rattle.std.proofs.lemmas.Bool.{cases_Bool, cases_eq, cases_lt, ne_eqb, eqb-true, or_cases, or_right}
 use Rattle.std.proofs.lemmas.Grind.{common_steps}
 use Rattle.std.specs.Cmp.Lexicographic.{nat_list_eq_equiv}
 use Rattle.std.proofs.lemmas.List.{append-nil, append_assoc, get_or_past}
@@ -35,8 +35,9 @@ use Rattle.nd_history.specs.References.{IsAlong, outputs_of, IsGiven, reports, R
 use Rattle.nd_history.specs.References.IsAlong.{seed, step}
 use Rattle.nd_history.specs.References.Refers.{listed, reported}
 use Rattle.nd_provision.specs.Stored.{Stored, LooksLike, IsGivenTable, AreReferences, HoldsReferences, AreStored, is_quiet, IsSameStored, AreGivenEntries, AreNeeded, AreSeeds, AreSeedsIn, AreSources, IsClosureBy, IsMissingBy, ArePathsRightBy, IsPathsFaultBy, AreReferencesRightBy, IsCovered, IsBare, IsOutside, AreAllWithin, IsStray, paths_on, seeds_of, AreNamed, Lacks, entry_of, HasEntered, HasGained, HasTaken, AreStartAdditions, AreBuiltAdditions}
+use Rattle.nd_history.proofs.Legality.{rest_true}
 use Rattle.nd_history.proofs.Slots.{lease_once, count_cons}
-use Rattle.nd_history.proofs.Reported.{rest_true, or_true, one_of, nothing_in, contains_cases, refs_first, refs_second, built_on}
+use Rattle.nd_history.proofs.Reported.{nothing_in, contains_cases, refs_first, refs_second, built_on}
 use Rattle.nd_history.proofs.Closing.{along_more, along_within, refers_alike}
 use Rattle.nd_history.proofs.Provisions.{IsKept, held_known, known_held, adding, leased_there}
 use Rattle.nd_provision.proofs.Whole.{local_whole, first_whole, start_whole, built_whole, grown_to, to_grown}
@@ -147,6 +148,13 @@ right_by i s d m closure paths within close covers lie = record {
     ];
   };
 }
+
+-- what holds of what lies in the tables holds of what is seen of them
+pub seen_on : (P : List (List ℕ) → List (List ℕ) → List ℕ → Type 0) (inside now : Stored) (m : ℕ) (hold : Hold) (read closure : List (List ℕ)) → inside ≡ now → hold ≡ hold_of inside.stocks m → read ≡ closure
+    → P read inside.numbers.paths hold.numbers → P closure now.numbers.paths (hold_of now.stocks m).numbers
+seen_on P inside now m hold read closure is held same holds =
+    subst (λ (xs : List (List ℕ)). P xs now.numbers.paths (hold_of now.stocks m).numbers) same
+    (subst (λ (s : Stored). P read s.numbers.paths (hold_of s.stocks m).numbers) is (subst (λ (h : Hold). P read inside.numbers.paths h.numbers) held holds))
 
 pub uncovered_by : (i : Premises) (s : Stored) (d m : ℕ) (closure paths : List (List ℕ)) → m < length s.stocks → IsClosureBy i s d closure → (AreNamed s.numbers.paths (hold_of s.stocks m).numbers → IsBare closure (paths_on s m) paths) → IsPathsFaultBy i s d m paths Uncovered
 uncovered_by i s d m closure paths within close is_bare = record {
@@ -409,9 +417,9 @@ none_passes p (x ∷ xs) h = grind (arith, common_steps, count_cons p x xs, none
 -- what passes both tests passes the second
 any_second : {X : Type 0} → (q p : X → Bool) (xs : List X) → list_any (λ x. q x && p x) xs ≡ true → list_any p xs ≡ true
 any_second q p [] h = cc
-any_second q p (x ∷ xs) h = elim (one_of (q x && p x) (list_any (λ y. q y && p y) xs) h) [
+any_second q p (x ∷ xs) h = elim (or_cases (q x && p x) (list_any (λ y. q y && p y) xs) h) [
   | inl here ↦ ap (λ (b : Bool). b || list_any p xs) (and_right (q x) (p x) here)
-  | inr later ↦ or_true (p x) (list_any p xs) (any_second q p xs later)
+  | inr later ↦ or_right (p x) (list_any p xs) (any_second q p xs later)
 ]
 
 only_step : (b : Bool) (m : ℕ) (x t : Ticket) (n : ℕ) (rest_found : Option Ticket) (rest_any : Bool) → cond b (n + 1) n ≤ 1 → cond b (Some x) rest_found ≡ Some t → (((m == x.machine) && b) || rest_any) ≡ true
@@ -420,7 +428,7 @@ only_step true m x t n rest_found rest_any few found there none rest =
     let same : x ≡ t = cc in
     let left : n ≡ 0 = omega arith in
     let empty : rest_any ≡ false = none left in
-    elim (one_of ((m == x.machine) && true) rest_any there) [
+    elim (or_cases ((m == x.machine) && true) rest_any there) [
       | inl here ↦ eqb-true m x.machine (and_left (m == x.machine) true here) ∙ ap (λ (u : Ticket). u.machine) same
       | inr later ↦ cc
     ]

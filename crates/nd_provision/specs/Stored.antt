@@ -3,7 +3,7 @@
 -- Public clauses cite this, but `AreGivenEntries`, `AreNeeded`, `AreNeededIn`, `IsSeedRow`, `AreSeedsIn`, `IsClosureBy`, `IsCovered`, `IsBare`,
 -- `IsOutside`, `AreAllWithin`, `IsStray`, `IsOnMachine`, `IsCoveredBy`, `AreRowsCovered`,
 -- `AreListingsCovered`, `Lacks`, `HasEntered`, `IsNumberedGiven`, `IsNumberedBuild` and `HasRoomFor` serve private
--- clauses alone, and `is_quiet`, `named_outputs` and `AreSources` serve proofs alone.
+-- clauses alone, as `is_quiet` does in `nd_ledger`, and `named_outputs` and `AreSources` serve proofs alone.
 use Rattle.std.specs.Prelude.{◌≡◌, ◌≢◌, ℕ, ◌<◌, ◌≤◌, ◌↔◌, ◌⊎◌, IsTrue, Bool, true, false, List, [], ◌∷◌, ◌++◌, length, map, ◌==◌, ◌&&◌, if◌then◌else◌}
 use Rattle.std.specs.List.{Contains, slice_index_or, zip}
 use Rattle.std.specs.Bool.{MatchBool}

@@ -16,7 +16,8 @@ use Rattle.nd_hook.specs.declared.kinds.Decision.TheVariants.{Wait}
 use Rattle.nd_failure.specs.Progress as board
 use Rattle.nd_failure.specs.Progress.{Progress}
 use Rattle.nd_kinds.specs.declared.kind.Kind.{Kind}
-use Rattle.nd_kinds.specs.Kinds.{Kinded, IsKindOf, number_of}
+use Rattle.nd_kinds.specs.Kinds.{AreKinds, Kinded, IsKindOf, number_of}
+use Rattle.nd_kinds.proofs.KindFacts.{kind_suits}
 use Rattle.nd_queue.specs.Grouped.{group_in}
 use Rattle.nd_queue.specs.Queues.{Queued, IsDue, IsLeastDue}
 use Rattle.nd_history.specs.declared.entry.Entry.{Entry}
@@ -177,6 +178,12 @@ listed_within i past p t d sound was due =
 pub kind_ranged : (i : Premises) (need : Need) (kind : Kind) → IsKindOf i.machines i.local need kind → All (λ p. p < length i.machines) kind.places
 kind_ranged i need kind fits =
     All-from_get_or (λ (p : ℕ). p < length i.machines) kind.places 0 (λ k lt. eligible_within i.machines need (get_or kind.places k 0) ((fits.eligible.exact (get_or kind.places k 0)).0 (Contains-get_or kind.places k 0 lt)))
+
+-- the kind that stands under a derivation's number is that of its need
+pub kind_named : (i : Premises) (inside now : Turned) (d : ℕ) (need : Need) (kind : Kind) → inside ≡ now → AreKinds i.machines i.local i.graph.needs now.kinds → slice_get i.graph.needs d ≡ Some need → slice_get inside.kinds.kinds (number_of inside.kinds d) ≡ Some kind
+    → IsKindOf i.machines i.local need kind
+kind_named i inside now d need kind is are is_need at =
+    kind_suits i.machines i.local i.graph.needs inside.kinds d need kind (subst (λ (t : Turned). AreKinds i.machines i.local i.graph.needs t.kinds) (sym is) are) is_need at
 
 -- the kind of a derivation that is due wasn't passed over, and builders are looked at before it is
 pub left_waiting : (i : Premises) (past : List Entry) (p : Progress) (t mid new : Turned) (d : ℕ) → IsSound i.graph → AreTurns i past p t → IsDue t.queue d → HasSearched i past t mid

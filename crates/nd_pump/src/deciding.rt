@@ -9,7 +9,8 @@ ghost use Rattle.nd_pump.specs.Vacancies.{AreVacant};
 
 use crate::few::Few;
 use crate::vacancies::Vacancies;
-use nd_history::{Book, Inputs, deciding::builder_loads, deciding::builder_ups};
+use nd_history::deciding::{builder_loads, builder_ups};
+use nd_history::{Book, Inputs};
 use nd_hook::{Decision, Reply, decide_among, decide_in, reply_in};
 use nd_kinds::Kind;
 

@@ -11,7 +11,8 @@ ghost use Rattle.nd_pump.specs.Taking.{IsTaken};
 
 use crate::turns::Turns;
 use nd_failure::Board;
-use nd_history::{Book, Entry, Inputs, stepping::step_for};
+use nd_history::stepping::step_for;
+use nd_history::{Book, Entry, Inputs};
 
 /// The step of derivation `drv`, whose turn it is. Where it isn't ready, or is to wait, there is none,
 /// and its turn is over.

@@ -1,28 +1,23 @@
 use Rattle.std.proofs.Common.{◌≡◌, ◌<◌, ◌≤◌, List, ℕ, [], ◌++◌, length, map, get_or, sym, ap, ◌∙◌, subst}
-use Rattle.std.specs.List.{Contains, flat_map}
+use Rattle.std.specs.List.{flat_map}
 use Rattle.std.proofs.lemmas.List.{take_all}
 use Rattle.nd_graph.specs.declared.graph.Input.{Input}
 use Rattle.nd_history.specs.References.{sources_of, inputs_at}
 use Rattle.nd_provision.specs.Stored.{AreNeededIn, named_outputs}
-use Rattle.nd_provision.proofs.Gains.{read_there}
-use Rattle.nd_provision.proofs.Joined.{with_graph, needed_more, node_there, places_there}
+use Rattle.nd_provision.proofs.Joined.{with_graph, input_there, needed_more, node_there, places_there}
 use Rattle.nd_provision.proofs.Seeding.{needed_in}
 use Rattle.nd_provision.proofs.needs.needed_by.Goals as goal
 
 pub outputs-outputs-requires : goal.outputs-outputs-requires
 outputs-outputs-requires c =
     let i = with_graph c.args.graph.now in
-    let there : Contains (inputs_at i c.args.drv) c.input-item.result =
-    subst (λ (xs : List Input). Contains xs c.input-item.result) c.inputs-input-items.ensures.inputs
-    (read_there c.inputs-input-items.result.now c.loop-input.input-index c.input-item.result c.loop-input-test.true c.input-item.is) in
+    let there = input_there i c.args.drv c.inputs-input-items.result.now c.loop-input.input-index c.input-item.result c.inputs-input-items.ensures.inputs c.loop-input-test.true c.input-item.is in
     node_there i c.args.drv c.input-item.result c.learn_graph.ensures there
 
 pub add_named-requires : goal.add_named-requires
 add_named-requires c =
     let i = with_graph c.args.graph.now in
-    let there : Contains (inputs_at i c.args.drv) c.input-item.result =
-    subst (λ (xs : List Input). Contains xs c.input-item.result) c.inputs-input-items.ensures.inputs
-    (read_there c.inputs-input-items.result.now c.loop-input.input-index c.input-item.result c.loop-input-test.true c.input-item.is) in
+    let there = input_there i c.args.drv c.inputs-input-items.result.now c.loop-input.input-index c.input-item.result c.inputs-input-items.ensures.inputs c.loop-input-test.true c.input-item.is in
     places_there i c.args.drv c.input-item.result c.as_slice.result.now c.outputs-outputs.result.now c.learn_graph.ensures there c.as_slice.ensures c.outputs-outputs.ensures
 
 pub loop-input-preserved : goal.loop-input-preserved

@@ -1,29 +1,19 @@
-use Rattle.std.proofs.Common.{reverse, sym, subst}
-use Rattle.nd_kinds.specs.Kinds.{AreKinds}
-use Rattle.nd_kinds.proofs.KindFacts.{kind_suits}
+use Rattle.std.proofs.Common.{reverse}
 use Rattle.nd_history.specs.Premises.{premises_of}
-use Rattle.nd_pump.specs.Turned.{Turned}
 use Rattle.nd_pump.proofs.Waiting.{kind_decides}
-use Rattle.nd_pump.proofs.Taking.{kind_ranged}
+use Rattle.nd_pump.proofs.Taking.{kind_named, kind_ranged}
 use Rattle.nd_pump.proofs.turns.Turns.decide_by_kind.Goals as goal
 
 pub decide_kind-requires-clause-rising : goal.decide_kind-requires-clause-rising
-decide_kind-requires-clause-rising c =
-    let i = c.args.inputs.now in
-    let kinds = subst (λ (t : Turned). AreKinds i.machines i.local i.graph.needs t.kinds) (sym c.self.view_is) c.requires.kinds in
-    (kind_suits i.machines i.local i.graph.needs c.self.inside.kinds c.args.drv c.need-need.result.now c.kind_of-kind.result.now kinds c.need-need.ensures c.kind_of-kind.ensures).eligible.rising
+decide_kind-requires-clause-rising c = (kind_named (premises_of c.args.inputs.now) _ _ c.args.drv c.need-need.result.now c.kind_of-kind.result.now c.self.view_is c.requires.kinds c.need-need.ensures c.kind_of-kind.ensures).eligible.rising
 
 pub decide_kind-requires-clause-ranged : goal.decide_kind-requires-clause-ranged
 decide_kind-requires-clause-ranged c =
-    let i = c.args.inputs.now in
-    let kinds = subst (λ (t : Turned). AreKinds i.machines i.local i.graph.needs t.kinds) (sym c.self.view_is) c.requires.kinds in
-    kind_ranged (premises_of i) c.need-need.result.now c.kind_of-kind.result.now
-    (kind_suits i.machines i.local i.graph.needs c.self.inside.kinds c.args.drv c.need-need.result.now c.kind_of-kind.result.now kinds c.need-need.ensures c.kind_of-kind.ensures)
+    kind_ranged (premises_of c.args.inputs.now) c.need-need.result.now c.kind_of-kind.result.now
+    (kind_named (premises_of c.args.inputs.now) _ _ c.args.drv c.need-need.result.now c.kind_of-kind.result.now c.self.view_is c.requires.kinds c.need-need.ensures c.kind_of-kind.ensures)
 
 pub returns-clause-decision : goal.returns-clause-decision
 returns-clause-decision c =
-    let i = c.args.inputs.now in
-    let kinds = subst (λ (t : Turned). AreKinds i.machines i.local i.graph.needs t.kinds) (sym c.self.view_is) c.requires.kinds in
-    kind_decides (premises_of i) (reverse c.args.book.now.entries) c.args.drv c.need-need.result.now c.kind_of-kind.result.now c.decide_kind.result c.need-need.ensures
-    (kind_suits i.machines i.local i.graph.needs c.self.inside.kinds c.args.drv c.need-need.result.now c.kind_of-kind.result.now kinds c.need-need.ensures c.kind_of-kind.ensures)
+    kind_decides (premises_of c.args.inputs.now) (reverse c.args.book.now.entries) c.args.drv c.need-need.result.now c.kind_of-kind.result.now c.decide_kind.result c.need-need.ensures
+    (kind_named (premises_of c.args.inputs.now) _ _ c.args.drv c.need-need.result.now c.kind_of-kind.result.now c.self.view_is c.requires.kinds c.need-need.ensures c.kind_of-kind.ensures)
     c.decide_kind.ensures.decision
