@@ -2,14 +2,9 @@
 -- Public clauses cite this.
 use Rattle.std.specs.Prelude.{◌≡◌, ℕ, ◌<◌, ◌≤◌, List, length, Result, MatchResult}
 use Rattle.nd_aterm.specs.declared.records.Parts.{Parts}
-use Rattle.nd_aterm.specs.declared.derivations.Derivation.{Derivation}
 use Rattle.nd_aterm.specs.declared.fault.AtermError.{AtermError}
 use Rattle.nd_aterm.specs.declared.fault.AtermError.TheVariants.{TooLong, NotDerivation, Order, Memory}
 use Rattle.nd_aterm.specs.Derivations.{Loose, Text}
-
--- a derivation's parts
-abbrev pub parts_of : Derivation → Parts
-parts_of d = record { outputs = d.outputs; input_drvs = d.input_drvs; input_srcs = d.input_srcs; platform = d.platform; builder = d.builder; args = d.args; env = d.env }
 
 -- the longest text, in bytes: this project's own choice
 abbrev pub text_limit : ℕ

@@ -5,13 +5,14 @@ ghost use Rattle.nd_aterm.specs.declared.records.Parts.{Parts};
 ghost use Rattle.nd_aterm.specs.Derivations.{derivation, Loose, Text};
 ghost use Rattle.nd_aterm.specs.Refusals.{Refuses};
 ghost use Rattle.nd_aterm.specs.Sections.{paths, command, joined};
-ghost use Rattle.nd_aterm.specs.Texts.{parts_of, text_limit, IsRefused, IsUnwritten, OkUnlessMemory};
+ghost use Rattle.nd_aterm.specs.Texts.{text_limit, IsRefused, IsUnwritten, OkUnlessMemory};
 
 use crate::derivations::Derivation;
 use crate::fault::AtermError;
 use crate::leaf::Leaf;
 use crate::orders::is_view_in_order;
 use crate::part::{field, put_field, two_fields};
+use crate::records::Parts;
 use crate::views::{EnvEntryView, InputDrvView, OutputView, PartsView};
 use nd_bytes::Items;
 use std::alloc::{AllocError, Global};
@@ -172,10 +173,10 @@ pub fn parse_view(alloc: Global, bytes: &[u8]) -> Result<PartsView<'_>, AtermErr
 #[tactic(auto, using(crate::specs::DerivationsOnce::derivation_once))]
 pub fn parse(alloc: Global, bytes: &[u8]) -> Result<Derivation, AtermError>
     // What is read has this text.
-    ensures found { IfOk result (λ d. (length bytes.now ≤ text_limit) × Text (parts_of d) bytes.now) }
+    ensures found { IfOk result (λ d. (length bytes.now ≤ text_limit) × Text d.parts bytes.now) }
     // What has this text is read, unless memory runs out.
     ensures exactly { (p : Parts) → length bytes.now ≤ text_limit → Text p bytes.now
-        → OkUnlessMemory result (λ d. parts_of d ≡ p) }
+        → OkUnlessMemory result (λ d. d.parts ≡ p) }
     // When each refusal comes.
     ensures refused { IfErr result (IsRefused bytes.now) }
     ensures too_long { text_limit < length bytes.now → result ≡ Err AtermError.TooLong }
@@ -184,23 +185,24 @@ pub fn parse(alloc: Global, bytes: &[u8]) -> Result<Derivation, AtermError>
         Ok(view) => view,
         Err(fault) => return Err(fault),
     };
-    Ok(Derivation::of_ordered(view.into_parts(alloc)?))
+    let parts = view.into_parts(alloc)?;
+    Ok(Derivation { parts })
 }
 
-/// Writes a derivation's text at the end.
+/// Writes at the end the text of the derivation with these parts.
 #[tactic(auto, unfolding(crate::specs::Derivations::derivation))]
-fn put_derivation(drv: &Derivation, out: &mut Vec<u8>) -> Result<(), AllocError>
+fn put_derivation(parts: &Parts, out: &mut Vec<u8>) -> Result<(), AllocError>
     ensures { OnOk result ((rest : List ℕ)
-        → out.new.items ++ rest ≡ out.old.items ++ derivation (parts_of drv.now) rest) }
+        → out.new.items ++ rest ≡ out.old.items ++ derivation parts.now rest) }
 {
     out.extend_from_slice(b"Derive(")?;
-    put_field(&drv.outputs, b',', out)?;
-    put_field(&drv.input_drvs, b',', out)?;
-    put_field(&drv.input_srcs, b',', out)?;
-    put_field(&drv.platform, b',', out)?;
-    put_field(&drv.builder, b',', out)?;
-    put_field(&drv.args, b',', out)?;
-    put_field(&drv.env, b')', out)?;
+    put_field(&parts.outputs, b',', out)?;
+    put_field(&parts.input_drvs, b',', out)?;
+    put_field(&parts.input_srcs, b',', out)?;
+    put_field(&parts.platform, b',', out)?;
+    put_field(&parts.builder, b',', out)?;
+    put_field(&parts.args, b',', out)?;
+    put_field(&parts.env, b')', out)?;
     Ok(())
 }
 
@@ -209,16 +211,16 @@ fn put_derivation(drv: &Derivation, out: &mut Vec<u8>) -> Result<(), AllocError>
 pub fn write(alloc: Global, derivation: &Derivation) -> Result<Vec<u8>, AtermError>
     // What is written is the derivation's text.
     ensures written { IfOk result (λ text.
-        (length text.items ≤ text_limit) × Text (parts_of derivation.now) text.items) }
+        (length text.items ≤ text_limit) × Text derivation.now.parts text.items) }
     // A text that isn't too long is written, unless memory runs out.
     ensures exactly { (bytes : List ℕ) → length bytes ≤ text_limit
-        → Text (parts_of derivation.now) bytes
+        → Text derivation.now.parts bytes
         → OkUnlessMemory result (λ text. text.items ≡ bytes) }
     // When each refusal comes.
-    ensures refused { IfErr result (IsUnwritten (parts_of derivation.now)) }
+    ensures refused { IfErr result (IsUnwritten derivation.now.parts) }
 {
     let mut text = Vec::new(alloc);
-    put_derivation(derivation, &mut text)?;
+    put_derivation(&derivation.parts, &mut text)?;
     if text.len() > TEXT_LIMIT {
         return Err(AtermError::TooLong);
     }

@@ -10,7 +10,7 @@ use Rattle.nd_bundle.specs.Whole.{AllNumbered, AreInputsThere, AreNumbered, AreO
 use Rattle.nd_bundle.specs.declared.fault.GraphError.{GraphError}
 use Rattle.nd_bundle.specs.declared.fault.GraphError.TheVariants.{Duplicate, MissingInput, MissingOutput, Cycle, TooMany, Memory}
 use Rattle.nd_graph.specs.declared.graph.Input.{Input}
-use Rattle.nd_bundle.specs.declared.line.NamedInput.{NamedInput}
+use Rattle.nd_line.specs.declared.line.NamedInput.{NamedInput}
 
 -- ---- what is there once has one place
 

@@ -13,8 +13,8 @@ use Rattle.nd_bundle.specs.declared.columns.Columns.{Columns}
 use Rattle.nd_graph.specs.declared.fault.OrderError.{OrderError}
 use Rattle.nd_graph.specs.declared.fault.OrderError.TheVariants.{Cycle, Memory}
 use Rattle.nd_graph.specs.declared.graph.Input.{Input}
-use Rattle.nd_bundle.specs.declared.line.LineNode.{LineNode}
-use Rattle.nd_bundle.specs.declared.line.NamedInput.{NamedInput}
+use Rattle.nd_line.specs.declared.line.LineNode.{LineNode}
+use Rattle.nd_line.specs.declared.line.NamedInput.{NamedInput}
 use Rattle.nd_bundle.proofs.Linked.{rows_have}
 use Rattle.nd_graph.proofs.Rows.{row_of, rows_length}
 use Rattle.nd_bundle.proofs.Zipped.{zip_at, zip_length}

@@ -1,9 +1,9 @@
 -- What was read of each line, line by line.
 use Rattle.std.proofs.Common.{ℕ, List, [], ◌∷◌, map, Bool, Result, Bor}
 use Rattle.std.specs.List.{AllZip}
-use Rattle.nd_bundle.specs.Reads.{Reads}
-use Rattle.nd_bundle.specs.declared.line.LineNode.{LineNode}
-use Rattle.nd_bundle.specs.declared.refusal.LineError.{LineError}
+use Rattle.nd_line.specs.Reads.{Reads}
+use Rattle.nd_line.specs.declared.line.LineNode.{LineNode}
+use Rattle.nd_line.specs.declared.refusal.LineError.{LineError}
 
 -- r is what reading the line that a reference shows answers
 abbrev pub ReadsShown : Bool → Bor (List ℕ) → Result LineNode LineError → Type 0

@@ -14,7 +14,7 @@ use Rattle.nd_bundle.specs.Numbering.{IsNumberFault}
 use Rattle.nd_bundle.specs.Whole.{AllNumbered, AreInputsThere, AreNumbered, HasInputs, IsWholeFault, LacksOutput, Links}
 use Rattle.nd_bundle.specs.declared.fault.GraphError.{GraphError}
 use Rattle.nd_bundle.specs.declared.fault.GraphError.TheVariants as bundle
-use Rattle.nd_bundle.specs.declared.line.NamedInput.{NamedInput}
+use Rattle.nd_line.specs.declared.line.NamedInput.{NamedInput}
 use Rattle.nd_bundle.specs.declared.link_error.LinkError.{LinkError}
 use Rattle.nd_bundle.specs.declared.link_error.LinkError.TheVariants.{NoInput, NoOutput, Memory}
 use Rattle.nd_bundle.proofs.Linked.{taken, is_item, numbered_reach, output_missing, rows_reach}

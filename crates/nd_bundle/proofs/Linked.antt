@@ -9,7 +9,7 @@ use Rattle.nd_bundle.specs.Linking.{HasPath, Known, LacksPath}
 use Rattle.nd_bundle.specs.Numbering.{LacksItem}
 use Rattle.nd_bundle.specs.Whole.{AllNumbered, AreInputsThere, AreNumbered, AreOutputsThere, ArePlaces, HasInputs, HasOutputs, IsMissingOutput, IsNumbered, LacksInput, LacksName, LacksOutput}
 use Rattle.nd_graph.specs.declared.graph.Input.{Input}
-use Rattle.nd_bundle.specs.declared.line.NamedInput.{NamedInput}
+use Rattle.nd_line.specs.declared.line.NamedInput.{NamedInput}
 use Rattle.nd_bundle.proofs.Zipped.{zip_push, zip_length, zip_at}
 
 -- one more item of a list that is walked through

@@ -6,11 +6,11 @@ use Rattle.nd_bundle.specs.Bundles.{IsFirstFault}
 use Rattle.nd_bundle.specs.Columned.{HasColumns, IsTakeFault, SayColumns, TakesIn, said, of_line, of_memory}
 use Rattle.nd_bundle.specs.Lines.{lines}
 use Rattle.nd_bundle.specs.Numbered.{fault_at}
-use Rattle.nd_bundle.specs.Reads.{IsLine, Reads}
+use Rattle.nd_line.specs.Reads.{IsLine, Reads}
 use Rattle.nd_bundle.specs.declared.columns.Columns.{Columns}
 use Rattle.nd_bundle.specs.declared.fault.GraphError.{GraphError}
-use Rattle.nd_bundle.specs.declared.line.LineNode.{LineNode}
-use Rattle.nd_bundle.specs.declared.refusal.LineError.{LineError}
+use Rattle.nd_line.specs.declared.line.LineNode.{LineNode}
+use Rattle.nd_line.specs.declared.refusal.LineError.{LineError}
 use Rattle.nd_bundle.proofs.Told.{first_refused, nodes_say}
 use Rattle.nd_bundle.proofs.Newlines.{shown}
 use Rattle.rayon.proofs.ListFacts.{AllZip-append}

@@ -9,17 +9,17 @@ use Rattle.nd_graph.specs.Walks.{IsAcyclic}
 use Rattle.nd_bundle.specs.declared.columns.Columns.{Columns}
 use Rattle.nd_bundle.specs.Lines.{lines}
 use Rattle.nd_bundle.specs.Numbered.{fault_at}
-use Rattle.nd_bundle.specs.Reads.{IsFaulty, IsLine, Reads}
+use Rattle.nd_line.specs.Reads.{IsFaulty, IsLine, Reads}
 use Rattle.nd_bundle.specs.Columned.{HasColumns, SayColumns, said}
 use Rattle.nd_bundle.specs.Settled.{links_in, AllNamesRise, AreFit, ArePaired, AreSized, IsFit, IsGraphOfColumns}
 use Rattle.nd_bundle.specs.Whole.{links_of, AllNumbered, IsGraphOf, IsWholeFault, Links}
 use Rattle.nd_bundle.specs.declared.fault.GraphError.{GraphError}
 use Rattle.nd_bundle.specs.declared.fault.GraphError.TheVariants as bundle
-use Rattle.nd_bundle.specs.declared.line.LineNode.{LineNode}
-use Rattle.nd_bundle.specs.declared.refusal.LineError.{LineError}
-use Rattle.nd_bundle.specs.declared.refusal.LineError.TheVariants.{BadLine, BadPath, BadDerivation, UnknownOutput, BadAttribute, WrongPath, Memory}
+use Rattle.nd_line.specs.declared.line.LineNode.{LineNode}
+use Rattle.nd_line.specs.declared.refusal.LineError.{LineError}
+use Rattle.nd_line.specs.declared.refusal.LineError.TheVariants.{BadLine, BadPath, BadDerivation, UnknownOutput, BadAttribute, WrongPath, Memory}
 use Rattle.nd_bundle.proofs.Assembled.{columns_paired, columns_rising, columns_sized}
-use Rattle.nd_bundle.proofs.Rising.{names_rise}
+use Rattle.nd_line.proofs.Rising.{names_rise}
 use Rattle.nd_bundle.proofs.Zipped.{zip_at, zip_length}
 use Rattle.rayon.proofs.ListFacts.{AllZip-append}
 

@@ -2,14 +2,14 @@
 -- line come first, the first such line's; then those over the whole. Cited by the readers' clauses.
 use Rattle.std.specs.Prelude.{◌≡◌, ℕ, ◌+◌, Bool, List, ◌∷◌, ◌++◌, length, Result, Ok, Err}
 use Rattle.std.specs.List.{AllZip}
-use Rattle.nd_bundle.specs.declared.line.LineNode.{LineNode}
-use Rattle.nd_bundle.specs.declared.refusal.LineError.{LineError}
-use Rattle.nd_bundle.specs.declared.refusal.LineError.TheVariants as line_error
+use Rattle.nd_line.specs.declared.line.LineNode.{LineNode}
+use Rattle.nd_line.specs.declared.refusal.LineError.{LineError}
+use Rattle.nd_line.specs.declared.refusal.LineError.TheVariants as line_error
 use Rattle.nd_bundle.specs.declared.fault.GraphError.{GraphError}
 use Rattle.nd_bundle.specs.declared.fault.GraphError.TheVariants.{BadLine, BadPath, BadDerivation, UnknownOutput, BadAttribute, WrongPath, Duplicate, MissingInput, MissingOutput, Cycle, TooMany, Memory}
 use Rattle.nd_graph.specs.Graphs.{Nodes, rows_of, IsSound}
 use Rattle.nd_bundle.specs.Lines.{lines}
-use Rattle.nd_bundle.specs.Reads.{IsLine, IsFaulty}
+use Rattle.nd_line.specs.Reads.{IsLine, IsFaulty}
 use Rattle.nd_graph.specs.Walks.{IsAcyclic}
 use Rattle.nd_bundle.specs.Whole.{links_of, IsGraphOf, IsWholeFault}
 

@@ -2,10 +2,10 @@
 use Rattle.std.specs.Prelude.{◌≡◌, ℕ, ◌+◌, Bool, List, ◌∷◌, ◌++◌, length, map, Result, Ok, Err}
 use Rattle.std.specs.List.{AllZip}
 use Rattle.nd_bundle.specs.Numbered.{fault_at}
-use Rattle.nd_bundle.specs.Reads.{IsLine}
-use Rattle.nd_bundle.specs.declared.line.LineNode.{LineNode}
+use Rattle.nd_line.specs.Reads.{IsLine}
+use Rattle.nd_line.specs.declared.line.LineNode.{LineNode}
 use Rattle.nd_bundle.specs.declared.columns.Columns.{Columns}
-use Rattle.nd_bundle.specs.declared.refusal.LineError.{LineError}
+use Rattle.nd_line.specs.declared.refusal.LineError.{LineError}
 use Rattle.nd_bundle.specs.declared.fault.GraphError.{GraphError}
 use Rattle.nd_bundle.specs.declared.fault.GraphError.TheVariants.{Memory}
 

@@ -3,17 +3,6 @@ use Rattle.std.specs.Prelude.{ℕ, List, ◌++◌, codes}
 use Rattle.std.specs.Fmt.{decimal}
 use Rattle.nd_bundle.specs.declared.fault.GraphError.{GraphError}
 use Rattle.nd_bundle.specs.declared.fault.GraphError.TheVariants.{BadLine, BadPath, BadDerivation, UnknownOutput, BadAttribute, WrongPath, Duplicate, MissingInput, MissingOutput, Cycle, TooMany, Memory}
-use Rattle.nd_bundle.specs.declared.refusal.LineError.{LineError}
-
--- why a line is refused
-abbrev pub fault_name : LineError → List ℕ
-fault_name LineError.BadLine = codes "BadLine"
-fault_name LineError.BadPath = codes "BadPath"
-fault_name LineError.BadDerivation = codes "BadDerivation"
-fault_name LineError.UnknownOutput = codes "UnknownOutput"
-fault_name LineError.BadAttribute = codes "BadAttribute"
-fault_name LineError.WrongPath = codes "WrongPath"
-fault_name LineError.Memory = codes "Memory"
 
 -- why a bundle is refused, with its line where there is one
 abbrev pub refusal_text : GraphError → List ℕ

@@ -1,9 +1,9 @@
--- A line's refusal as one of the bundle, and a graph's. Cited by the clauses of `LineError::at` and of `From<OrderError>`.
+-- A line's refusal as one of the bundle, and a graph's. Cited by the clauses of `GraphError::of_line` and of `From<OrderError>`.
 use Rattle.std.specs.Prelude.{ℕ}
 use Rattle.nd_graph.specs.declared.fault.OrderError.{OrderError}
 use Rattle.nd_graph.specs.declared.fault.OrderError.TheVariants as order
-use Rattle.nd_bundle.specs.declared.refusal.LineError.{LineError}
-use Rattle.nd_bundle.specs.declared.refusal.LineError.TheVariants.{BadLine, BadPath, BadDerivation, UnknownOutput, BadAttribute, WrongPath, Memory}
+use Rattle.nd_line.specs.declared.refusal.LineError.{LineError}
+use Rattle.nd_line.specs.declared.refusal.LineError.TheVariants.{BadLine, BadPath, BadDerivation, UnknownOutput, BadAttribute, WrongPath, Memory}
 use Rattle.nd_bundle.specs.declared.fault.GraphError.{GraphError}
 use Rattle.nd_bundle.specs.declared.fault.GraphError.TheVariants as bundle
 

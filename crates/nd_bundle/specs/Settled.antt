@@ -3,8 +3,8 @@ use Rattle.std.specs.Prelude.{◌≡◌, ℕ, ◌<◌, List, [], length, Contain
 use Rattle.std.specs.List.{slice_index_or}
 use Rattle.std.specs.List.Sorted.{IsStrictlySortedBy}
 use Rattle.nd_bytes.specs.Compared.{bytes_cmp}
-use Rattle.nd_bundle.specs.declared.line.LineNode.{LineNode}
-use Rattle.nd_bundle.specs.declared.line.NamedInput.{NamedInput}
+use Rattle.nd_line.specs.declared.line.LineNode.{LineNode}
+use Rattle.nd_line.specs.declared.line.NamedInput.{NamedInput}
 use Rattle.nd_bundle.specs.declared.fault.GraphError.{GraphError}
 use Rattle.nd_bundle.specs.declared.fault.GraphError.TheVariants.{MissingInput, MissingOutput, Memory}
 use Rattle.nd_bundle.specs.declared.columns.Columns.{Columns}

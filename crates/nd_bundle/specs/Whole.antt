@@ -3,8 +3,8 @@
 -- readers' clauses, through what a bundle is.
 use Rattle.std.specs.Prelude.{◌≡◌, ℕ, ◌+◌, ◌<◌, List, [], ◌∷◌, ◌++◌, length, map, Contains}
 use Rattle.std.specs.List.{slice_index_or, AllZip}
-use Rattle.nd_bundle.specs.declared.line.NamedInput.{NamedInput}
-use Rattle.nd_bundle.specs.declared.line.LineNode.{LineNode}
+use Rattle.nd_line.specs.declared.line.NamedInput.{NamedInput}
+use Rattle.nd_line.specs.declared.line.LineNode.{LineNode}
 use Rattle.nd_graph.specs.declared.graph.Input.{Input}
 use Rattle.nd_bundle.specs.declared.fault.GraphError.{GraphError}
 use Rattle.nd_bundle.specs.declared.fault.GraphError.TheVariants.{Duplicate, MissingInput, MissingOutput, Cycle, TooMany, Memory}

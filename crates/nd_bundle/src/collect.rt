@@ -5,14 +5,12 @@ ghost use Rattle.std.specs.List.{AllZip};
 ghost use Rattle.nd_bundle.specs.Bundles.{IsFirstFault};
 ghost use Rattle.nd_bundle.specs.Columned.{IsTakeFault, SayColumns, TakesIn};
 ghost use Rattle.nd_bundle.specs.Lines.{lines};
-ghost use Rattle.nd_bundle.specs.Reads.{Reads};
+ghost use Rattle.nd_line.specs.Reads.{Reads};
 
 use crate::columns::Columns;
 use crate::cutting::cut_lines;
 use crate::fault::GraphError;
-use crate::line::LineView;
-use crate::reading::read_line;
-use crate::refusal::LineError;
+use nd_line::{LineError, LineView, read_line};
 use rayon::prelude::*;
 use std::alloc::{AllocError, Global};
 use std::thread::Threads;

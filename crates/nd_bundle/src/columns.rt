@@ -2,14 +2,13 @@
 
 ghost use Rattle.std.specs.Prelude.{◌++◌, ◌∷◌, [], List, IfErr, IfOk, OnOk};
 ghost use Rattle.nd_bundle.specs.Columned.{HasColumns, IsTakeFault, TakesIn};
-ghost use Rattle.nd_bundle.specs.declared.line.LineNode.{LineNode};
+ghost use Rattle.nd_line.specs.declared.line.LineNode.{LineNode};
 
 use crate::fault::GraphError;
-use crate::line::{InputView, LineView};
-use crate::refusal::LineError;
 use nd_aterm::Leaf;
 use nd_bytes::Items;
 use nd_eligible::Need;
+use nd_line::{InputView, LineError, LineView};
 use nd_path::StorePath;
 use std::alloc::{AllocError, Global};
 
@@ -79,7 +78,7 @@ impl<'t> Columns<'t> {
                 self.push(node)?;
                 Ok(())
             }
-            Err(fault) => Err(fault.at(self.paths.len() + 1)),
+            Err(fault) => Err(GraphError::of_line(fault, self.paths.len() + 1)),
         }
     }
 }

@@ -4,6 +4,7 @@ ghost use Rattle.std.specs.Prelude.{◌≡◌};
 ghost use Rattle.nd_bundle.specs.declared.fault.GraphError.TheVariants.{Memory};
 
 use nd_graph::OrderError;
+use nd_line::LineError;
 use std::alloc::{AllocError, AllocFailed};
 use std::error::Error;
 use std::fmt;
@@ -37,6 +38,25 @@ pub enum GraphError {
     TooMany,
     /// 12: there was not enough memory.
     Memory,
+}
+
+impl GraphError {
+    ghost use Rattle.nd_bundle.specs.Numbered.{fault_at};
+
+    /// The refusal of a bundle whose line with this number is refused so.
+    pub(crate) fn of_line(refusal: LineError, line: usize) -> GraphError
+        ensures { result ≡ fault_at refusal line }
+    {
+        match refusal {
+            LineError::BadLine => GraphError::BadLine(line),
+            LineError::BadPath => GraphError::BadPath(line),
+            LineError::BadDerivation => GraphError::BadDerivation(line),
+            LineError::UnknownOutput => GraphError::UnknownOutput(line),
+            LineError::BadAttribute => GraphError::BadAttribute(line),
+            LineError::WrongPath => GraphError::WrongPath(line),
+            LineError::Memory => GraphError::Memory,
+        }
+    }
 }
 
 impl fmt::Display for GraphError {

@@ -1,12 +1,6 @@
-//! What follows from the definitions of a line and of a bundle alone.
+//! What follows from the definition of a bundle alone.
 
-ghost use Rattle.nd_bundle.specs.OneReading.{NeverBoth, OneBundle, OneGraph, OneReading};
-
-/// A line has one reading: its refusals exclude one another and a node, and it has one node. So
-/// readers that keep to the definition answer alike, unless one of them wants memory.
-pub fn one_reading()
-    ensures { OneReading }
-{}
+ghost use Rattle.nd_bundle.specs.OneBundle.{NeverBoth, OneBundle, OneGraph};
 
 /// A bundle has one reading: its refusals exclude one another and a graph, and it has one graph. So
 /// readers that keep to the definition, as `read_bundle` and `plain::read_bundle`, answer alike,

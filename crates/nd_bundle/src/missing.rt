@@ -5,11 +5,11 @@ ghost use Rattle.nd_bundle.specs.Linking.{input_fault, HasPath, HaveInputs, IsFi
 ghost use Rattle.nd_bundle.specs.Whole.{HasInputs, LacksInput};
 
 use crate::fault::GraphError;
-use crate::line::InputView;
 use crate::link_error::LinkError;
 use crate::register::Register;
 use nd_bytes::Items;
 use nd_graph::Input;
+use nd_line::InputView;
 
 /// Refuses with `MissingInput` and the first line, from 1, with an input derivation that has no line,
 /// and with `Memory` where memory was wanting on a line before it.

@@ -9,13 +9,13 @@ ghost use Rattle.nd_bundle.specs.Whole.{AreNumbered, ArePlaces, IsNumbered, IsWh
 
 use crate::columns::Columns;
 use crate::fault::GraphError;
-use crate::line::InputView;
 use crate::link_error::LinkError;
 use crate::missing::has_inputs;
 use crate::register::Register;
 use nd_aterm::Leaf;
 use nd_bytes::Items;
 use nd_graph::{Input, Places};
+use nd_line::InputView;
 use rayon::prelude::*;
 use std::alloc::{AllocError, Global};
 use std::thread::Threads;

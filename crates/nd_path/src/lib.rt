@@ -10,5 +10,5 @@ mod texts;
 pub use encoding::{base32, fold};
 pub use path_error::PathError;
 pub use path_set::PathSet;
-pub use store_path::{StorePath, is_drv_store_path, is_store_path};
+pub use store_path::{StorePath, is_drv_store_path, is_path_name, is_store_path};
 pub use texts::text_path;

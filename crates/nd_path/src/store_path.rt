@@ -316,8 +316,8 @@ fn is_dash_then_name(bytes: &[u8]) -> bool
     }
 }
 
-/// Whether the bytes are a store path's name.
-pub(crate) fn is_path_name(name: &[u8]) -> bool
+/// Whether the bytes are a store path's name: 1 to 211 of those that a name may have.
+pub fn is_path_name(name: &[u8]) -> bool
     ensures { result ≡ is_name name.now }
 {
     if name.is_empty() {

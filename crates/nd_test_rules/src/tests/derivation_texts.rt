@@ -53,8 +53,8 @@ fn is_written(alloc: Global, derivation: &Derivation, text: &[u8]) -> bool {
 fn is_smallest(alloc: Global, answer: Result<Derivation, AtermError>) -> bool {
     match answer {
         Ok(derivation) => {
-            let is_so = derivation.platform.as_slice() == b"s".as_slice()
-                && derivation.builder.as_slice() == b"b".as_slice()
+            let is_so = derivation.parts.platform.as_slice() == b"s".as_slice()
+                && derivation.parts.builder.as_slice() == b"b".as_slice()
                 && is_written(alloc, &derivation, SMALLEST);
             drop(derivation);
             is_so
@@ -137,7 +137,7 @@ fn push_value(alloc: Global, env: &mut Vec<EnvEntry>) -> Result<(), AllocError> 
 
 /// Whether a derivation has an environment of one entry, which has the value.
 fn has_one_value(derivation: &Derivation) -> bool {
-    match derivation.env.as_slice() {
+    match derivation.parts.env.as_slice() {
         [entry] => entry.value.as_slice() == VALUE.as_slice(),
         _ => false,
     }
@@ -231,7 +231,7 @@ fn long_text(alloc: Global, platform: &[u8]) -> Result<Vec<u8>, AllocError> {
 fn is_longest(alloc: Global, answer: Result<Derivation, AtermError>, text: &[u8]) -> bool {
     match answer {
         Ok(derivation) => {
-            let is_so = derivation.platform.len() == 16_777_187
+            let is_so = derivation.parts.platform.len() == 16_777_187
                 && is_written(alloc, &derivation, text);
             drop(derivation);
             is_so

@@ -2,7 +2,7 @@ use Rattle.std.proofs.Common.{ap, subst, ◌∙◌, Bool, Bor, List, ℕ, map}
 use Rattle.rayon.proofs.ListFacts.{IfOk-then}
 use Rattle.rayon.proofs.ToStd.{slice-AllZip}
 use Rattle.std.specs.List.{AllZip}
-use Rattle.nd_bundle.specs.Reads.{Reads}
+use Rattle.nd_line.specs.Reads.{Reads}
 use Rattle.nd_bundle.proofs.Collecting.{ReadsShown, shown_read}
 use Rattle.nd_bundle.proofs.collect.read_each.Goals as goal
 

@@ -1,7 +1,7 @@
 use Rattle.std.proofs.Common.{ap, subst, ◌∙◌, Bor, List, ℕ, map}
 use Rattle.std.specs.List.{AllZip}
 use Rattle.std.proofs.lemmas.Result.{err_from_is_err_and}
-use Rattle.nd_bundle.specs.Reads.{Reads}
+use Rattle.nd_line.specs.Reads.{Reads}
 use Rattle.nd_bundle.proofs.Taken.{text_fault, text_says}
 use Rattle.nd_bundle.proofs.collect.read_lines_in_parallel.Goals as goal
 

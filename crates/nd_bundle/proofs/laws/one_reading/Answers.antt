@@ -1,5 +1,0 @@
-use Rattle.nd_bundle.proofs.Once.{one_reading}
-use Rattle.nd_bundle.proofs.laws.one_reading.Goals as goal
-
-pub returns : goal.returns
-returns c = one_reading

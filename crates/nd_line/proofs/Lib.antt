@@ -1,0 +1,4 @@
+pub mod Once
+pub mod Rising
+mod Sayings
+mod Strings

@@ -1,0 +1,11 @@
+pub mod Attributes
+pub mod Derived
+pub mod Found
+pub mod Kinds
+pub mod Names
+pub mod OneReading
+pub mod Reads
+pub mod Refused
+pub mod Structured
+pub mod Wanting
+pub mod Wishes
