@@ -1,25 +1,22 @@
 use Rattle.std.proofs.Common.{reverse}
 use Rattle.nd_history.specs.Premises.{premises_of}
-use Rattle.nd_ledger.specs.Refusals.{IsLive}
 use Rattle.nd_history.specs.References.{AreReferencesRight}
 use Rattle.nd_ledger.proofs.Tickets.{live_in_book, live_in_graph, live_in_park, right_then}
 use Rattle.nd_ledger.proofs.moving.prepare_end.Goals as goal
 
 pub is_started-requires : goal.is_started-requires
 is_started-requires c =
-    let found : IsLive (reverse c.args.book.now.entries) c.args.ticket = c.is_live.ensures.0 c.if-not-is_live.false in
-    live_in_book (premises_of c.args.inputs.now) c.args.book.now c.args.ticket c.requires.fit found
+    live_in_book (premises_of c.args.inputs.now) c.args.book.now c.args.ticket c.requires.fit (c.is_live.ensures.0 c.if-not-is_live.false)
 
 pub check_references-requires : goal.check_references-requires
 check_references-requires c =
-    let found : IsLive (reverse c.args.book.now.entries) c.args.ticket = c.is_live.ensures.0 c.if-not-is_live.false in
-    live_in_graph (premises_of c.args.inputs.now) c.args.book.now c.args.ticket c.requires.fit found
+    live_in_graph (premises_of c.args.inputs.now) c.args.book.now c.args.ticket c.requires.fit (c.is_live.ensures.0 c.if-not-is_live.false)
 
 pub prepare_built-requires : goal.prepare_built-requires
 prepare_built-requires c =
     let i = premises_of c.args.inputs.now in
     let past = reverse c.args.book.now.entries in
-    let found : IsLive past c.args.ticket = c.is_live.ensures.0 c.if-not-is_live.false in
+    let found = c.is_live.ensures.0 c.if-not-is_live.false in
     record {
       drv = live_in_graph i c.args.book.now c.args.ticket c.requires.fit found;
       machine = live_in_park i c.args.book.now c.args.stores.now c.args.ticket c.requires.fit c.requires.stored found;
