@@ -42,7 +42,7 @@ pub fn run_kept_engine<T: Transport, J: Journal + Send + Drop, R: Threads + Wait
     report: bool,
     output: &mut Told<W>,
 ) -> KeptEnd<J>
-    requires manned { AreManned opened.dispatch.inputs (map (λ w. (w.machine, w.slot)) workers.items) }
+    requires manned { AreManned opened.dispatch.inputs (map (λ w. w.place) workers.items) }
     requires held { HoldsDurably (J.stored journal) (journal_text (not (opened.kept == 0)) opened.dispatch.history) }
     requires writer { output.old.is_marked ≡ false }
     ensures answer { IfOk result.answer (RunsKeptTo opened.dispatch report (J.stored result.journal) W.contents output.old output.new) }
@@ -73,7 +73,7 @@ fn run_written<T: Transport, J: Journal + Send + Drop, R: Threads + Wait + Sync,
     report: bool,
     output: &mut Told<W>,
 ) -> KeptEnd<J>
-    requires manned { AreManned dispatch.inputs (map (λ w. (w.machine, w.slot)) workers.items) }
+    requires manned { AreManned dispatch.inputs (map (λ w. w.place) workers.items) }
     requires handed { IsFrontOf scribe.handed.entries dispatch.history }
     requires durable { IsFrontOf scribe.kept.entries dispatch.history }
     requires writer { output.old.is_marked ≡ false }

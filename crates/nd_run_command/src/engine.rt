@@ -32,7 +32,7 @@ pub fn run_engine<T: Transport, R: Threads + Wait + Sync, W: Write>(
     report: bool,
     output: &mut Told<W>,
 ) -> Result<u8, CliFault>
-    requires manned { AreManned dispatch.inputs (map (λ w. (w.machine, w.slot)) workers.items) }
+    requires manned { AreManned dispatch.inputs (map (λ w. w.place) workers.items) }
     requires writer { output.old.is_marked ≡ false }
     ensures answer { IfOk result (λ status. RunsTo dispatch report status (W.contents output.old.device) (W.contents output.new.device)) }
     ensures fault { IfErr result (IsRunFault dispatch (vec_len workers) report W.contents output.old output.new) }

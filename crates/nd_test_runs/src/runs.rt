@@ -4,7 +4,7 @@ use crate::parks::{close_refused, close_run, dispatch, ran, stand_at, stand_in, 
 use nd_closure::Refs;
 use nd_ledger::Dispatch;
 use nd_path::{PathSet, StorePath};
-use nd_receipts::Receipt;
+use nd_receipts::{ParkPlace, Receipt};
 use nd_run_desk::abandon;
 use nd_script::Rule;
 use nd_test_fixtures::bundles::{CHAIN, PLAIN_1, PLAIN_2, S3};
@@ -97,7 +97,7 @@ fn rule_of(alloc: Global, stand: Stand) -> Option<Rule> {
 fn push_worker(
     alloc: Global,
     seats: &mut Vec<Seat<StandIn>>,
-    place: (u32, u32),
+    place: ParkPlace,
     stand: Stand,
 ) -> Option<()> {
     let passes = match stand {
@@ -105,13 +105,11 @@ fn push_worker(
         _ => None,
     };
     let rule = rule_of(alloc, stand)?;
-    seats
-        .push(stand_at(alloc, place.0, place.1, rule, passes)?)
-        .ok()
+    seats.push(stand_at(alloc, place, rule, passes)?).ok()
 }
 
 /// Workers on these places, whose stand-ins do so; fewer where memory is wanting.
-fn workers(alloc: Global, places: &[(u32, u32)], stand: Stand) -> Vec<Seat<StandIn>> {
+fn workers(alloc: Global, places: &[ParkPlace], stand: Stand) -> Vec<Seat<StandIn>> {
     let mut seats = Vec::new(alloc);
     for place in places {
         push_worker(alloc, &mut seats, *place, stand);
@@ -119,11 +117,23 @@ fn workers(alloc: Global, places: &[(u32, u32)], stand: Stand) -> Vec<Seat<Stand
     seats
 }
 
+/// The first slot of machine 1.
+const FIRST: ParkPlace = ParkPlace {
+    machine: 1,
+    slot: 0,
+};
+
+/// The first slot of machine 2.
+const SECOND: ParkPlace = ParkPlace {
+    machine: 2,
+    slot: 0,
+};
+
 /// The one place of a park with one slot.
-const ONE: &[(u32, u32)] = &[(1, 0)];
+const ONE: &[ParkPlace] = &[FIRST];
 
 /// The places of two machines with a slot each.
-const TWO: &[(u32, u32)] = &[(1, 0), (2, 0)];
+const TWO: &[ParkPlace] = &[FIRST, SECOND];
 
 /// Whether a run ended without a fault and with these lines.
 fn is_end(alloc: Global, end: Ran<StandIn>, lines: &str) -> bool {
@@ -137,7 +147,7 @@ fn gives<R: Threads + Wait + Sync>(
     rt: &R,
     alloc: Global,
     opened: Option<Dispatch>,
-    places: &[(u32, u32)],
+    places: &[ParkPlace],
     stand: Stand,
     lines: &str,
 ) -> bool {
@@ -232,8 +242,7 @@ fn stored_run(rt: HostRuntime) -> Result<(), Fail> {
     let stand = stand_in(alloc, 1, Vec::new(alloc))?;
     let transport: Box<dyn Transport + Send> = Box::new(alloc, stand)?;
     let worker = Seat {
-        machine: 1,
-        slot: 0,
+        place: FIRST,
         transport,
     };
     let workers = vec![in alloc; worker]?;
@@ -316,7 +325,7 @@ fn refused_run(rt: HostRuntime) {
     let alloc = rt.alloc();
     let none = workers(alloc, &[], Stand::Plain);
     assert!(rt; refuses(&rt, alloc, "m", none, RunError::Slots));
-    let twice = workers(alloc, &[(1, 0), (1, 0)], Stand::Plain);
+    let twice = workers(alloc, &[FIRST, FIRST], Stand::Plain);
     assert!(rt; refuses(&rt, alloc, "m", twice, RunError::Slots));
     let many = stands(alloc, 1025);
     assert!(rt; refuses(&rt, alloc, "m - - 1025", many, RunError::TooManySlots));
