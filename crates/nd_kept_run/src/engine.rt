@@ -18,7 +18,7 @@ use nd_ledger::Dispatch;
 use nd_run_command::{exit_status, refusal, write_end};
 use nd_serve_command::{Opened, ServeFault};
 use nd_transports::Transport;
-use nd_workers::{NotWritten, RunFault, Seat, Written, run_kept_with};
+use nd_workers::{NotWritten, RunFault, Seat, Written, run_kept};
 use std::io::Write;
 use std::mem;
 use std::sync::Wait;
@@ -83,7 +83,7 @@ fn run_written<T: Transport, J: Journal + Send + Drop, R: Threads + Wait + Sync,
 {
     // What comes back is left to the system: the process ends with the command, and to let go of a large dispatch
     // takes long.
-    match run_kept_with(rt, dispatch, workers, scribe) {
+    match run_kept(rt, dispatch, workers, scribe) {
         Ok(written) => {
             let Written { run, scribe } = written;
             let answer = write_and_answer(&run.dispatch, run.fault, report, output);

@@ -10,7 +10,7 @@ use nd_cli::CliFault;
 use nd_devices::Told;
 use nd_ledger::Dispatch;
 use nd_transports::Transport;
-use nd_workers::{RunFault, Seat, run_with};
+use nd_workers::{RunFault, Seat, run};
 use std::io::Write;
 use std::mem;
 use std::sync::Wait;
@@ -40,7 +40,7 @@ pub fn run_engine<T: Transport, R: Threads + Wait + Sync, W: Write>(
 {
     // What comes back is left to the system: the process ends with the command, and to let go of a large dispatch
     // takes long.
-    match run_with(rt, dispatch, workers) {
+    match run(rt, dispatch, workers) {
         Ok(end) => {
             let answer = write_and_answer(&end.dispatch, end.fault, report, output);
             mem::forget(end);

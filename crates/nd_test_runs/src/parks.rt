@@ -5,7 +5,7 @@ use nd_receipts::ParkPlace;
 use nd_script::Rule;
 use nd_test_fixtures::parks::{builders_alone, close, dispatch_of};
 use nd_transports::{RuleBook, StandIn, Transport};
-use nd_workers::{NotRun, Ran, Seat, run_with};
+use nd_workers::{NotRun, Ran, Seat, run};
 use std::alloc::{AllocError, Global};
 use std::sync::Wait;
 use std::thread::Threads;
@@ -75,7 +75,7 @@ pub(crate) fn ran<T: Transport, R: Threads + Wait + Sync>(
     opened: Dispatch,
     seats: Vec<Seat<T>>,
 ) -> Result<Ran<T>, NotRun<T>> {
-    run_with(rt, opened, seats)
+    run(rt, opened, seats)
 }
 
 /// Lets go of what came back of a run.

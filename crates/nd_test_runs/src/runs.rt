@@ -11,7 +11,7 @@ use nd_test_fixtures::bundles::{CHAIN, PLAIN_1, PLAIN_2, S3};
 use nd_test_fixtures::entries::told;
 use nd_test_fixtures::parks::close;
 use nd_transports::{StandIn, Transport};
-use nd_workers::{NotRun, Ran, RunEnd, RunError, Seat, Worker, run};
+use nd_workers::{NotRun, Ran, RunError, Seat};
 use std::alloc::Global;
 use std::sync::Wait;
 use std::test::Fail;
@@ -201,8 +201,11 @@ fn gives_receipts<R: Threads + Wait + Sync>(
 const STORED: &str =
     "chosen 0 1 0\nstarted 0 s1\nbuilt 0 o\nchosen 1 1 0\nstarted 1\nbuilt 1 o\nchosen 2 1 0\nstarted 2\nbuilt 2 o\n";
 
+/// A transport of whatever type.
+type AnyTransport = Box<dyn Transport + Send>;
+
 /// Whether a run ended with the stored run's history, and with the receipts that belong to it.
-fn is_stored(alloc: Global, end: RunEnd) -> bool {
+fn is_stored(alloc: Global, end: Ran<AnyTransport>) -> bool {
     let Ran {
         dispatch,
         workers: _,
@@ -223,11 +226,15 @@ fn is_stored(alloc: Global, end: RunEnd) -> bool {
 }
 
 /// Whether the stored run by this worker gives its history, and the receipts that belong to it.
-fn gives_stored<R: Threads + Wait + Sync>(rt: &R, alloc: Global, workers: Vec<Worker>) -> bool {
+fn gives_stored<R: Threads + Wait + Sync>(
+    rt: &R,
+    alloc: Global,
+    workers: Vec<Seat<AnyTransport>>,
+) -> bool {
     let Some(opened) = dispatch(alloc, CHAIN, "m") else {
         return false;
     };
-    match run(rt, opened, workers) {
+    match ran(rt, opened, workers) {
         Ok(end) => is_stored(alloc, end),
         Err(refused) => {
             close(refused.dispatch);
@@ -240,7 +247,7 @@ fn gives_stored<R: Threads + Wait + Sync>(rt: &R, alloc: Global, workers: Vec<Wo
 fn stored_run(rt: HostRuntime) -> Result<(), Fail> {
     let alloc = rt.alloc();
     let stand = stand_in(alloc, 1, Vec::new(alloc))?;
-    let transport: Box<dyn Transport + Send> = Box::new(alloc, stand)?;
+    let transport: AnyTransport = Box::new(alloc, stand)?;
     let worker = Seat {
         place: FIRST,
         transport,

@@ -1,7 +1,6 @@
 //! The workers, each with its place in the park and its transport.
 
 use nd_receipts::ParkPlace;
-use nd_transports::Transport;
 
 /// A place in the park, and the transport that serves it.
 #[derive(Drop)]
@@ -11,6 +10,3 @@ pub struct Seat<T> {
     /// The way to the machine.
     pub transport: T,
 }
-
-/// A seat with whatever transport.
-pub type Worker = Seat<Box<dyn Transport + Send>>;
