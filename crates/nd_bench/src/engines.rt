@@ -93,7 +93,7 @@ fn run_seated<R: Threads + Wait + Sync>(
     dispatch: Dispatch,
     seats: Vec<Seat<StandIn>>,
 ) -> Option<Vec<u8>>
-    requires manned { AreManned dispatch.inputs (map (λ w. (w.machine, w.slot)) seats.items) }
+    requires manned { AreManned dispatch.inputs (map (λ w. w.place) seats.items) }
 {
     let mut output = Told::new(Vec::new(alloc));
     match run_engine(rt, dispatch, seats, true, &mut output) {

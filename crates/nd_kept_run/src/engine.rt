@@ -18,7 +18,7 @@ use nd_ledger::Dispatch;
 use nd_run_command::{exit_status, refusal, write_end};
 use nd_serve_command::{Opened, ServeFault};
 use nd_transports::Transport;
-use nd_workers::{NotWritten, RunFault, Seat, Written, run_kept_with};
+use nd_workers::{NotWritten, RunFault, Seat, Written, run_kept};
 use std::io::Write;
 use std::mem;
 use std::sync::Wait;
@@ -42,7 +42,7 @@ pub fn run_kept_engine<T: Transport, J: Journal + Send + Drop, R: Threads + Wait
     report: bool,
     output: &mut Told<W>,
 ) -> KeptEnd<J>
-    requires manned { AreManned opened.dispatch.inputs (map (λ w. (w.machine, w.slot)) workers.items) }
+    requires manned { AreManned opened.dispatch.inputs (map (λ w. w.place) workers.items) }
     requires held { HoldsDurably (J.stored journal) (journal_text (not (opened.kept == 0)) opened.dispatch.history) }
     requires writer { output.old.is_marked ≡ false }
     ensures answer { IfOk result.answer (RunsKeptTo opened.dispatch report (J.stored result.journal) W.contents output.old output.new) }
@@ -73,7 +73,7 @@ fn run_written<T: Transport, J: Journal + Send + Drop, R: Threads + Wait + Sync,
     report: bool,
     output: &mut Told<W>,
 ) -> KeptEnd<J>
-    requires manned { AreManned dispatch.inputs (map (λ w. (w.machine, w.slot)) workers.items) }
+    requires manned { AreManned dispatch.inputs (map (λ w. w.place) workers.items) }
     requires handed { IsFrontOf scribe.handed.entries dispatch.history }
     requires durable { IsFrontOf scribe.kept.entries dispatch.history }
     requires writer { output.old.is_marked ≡ false }
@@ -83,7 +83,7 @@ fn run_written<T: Transport, J: Journal + Send + Drop, R: Threads + Wait + Sync,
 {
     // What comes back is left to the system: the process ends with the command, and to let go of a large dispatch
     // takes long.
-    match run_kept_with(rt, dispatch, workers, scribe) {
+    match run_kept(rt, dispatch, workers, scribe) {
         Ok(written) => {
             let Written { run, scribe } = written;
             let answer = write_and_answer(&run.dispatch, run.fault, report, output);

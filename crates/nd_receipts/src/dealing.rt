@@ -4,6 +4,7 @@ ghost use Rattle.std.specs.Prelude.{◌≡◌, ◌+◌, ◌^◌, ◌<◌, ℕ, L
 ghost use Rattle.nd_receipts.specs.Dealt.{made_as, AreApart, IsOnPlace, AreReceipted};
 ghost use Rattle.nd_receipts.specs.Walks.{Follows, AreUnknown, IsMet, AreAllMet, IsDealtBetween, IsNoPlace, IsNobodys, AreWithin, Knows, Tracks, TracksOn, IsUnmet, IsDealtOnBetween, IsUndealt, AreUnmet, AreUndealt};
 
+use crate::place::ParkPlace;
 use crate::receipt::{Kind, Receipt};
 use crate::tables::Tables;
 use nd_history::{Entry, Why};
@@ -32,13 +33,12 @@ fn made_as(entry: &Entry) -> Option<(u32, Kind)>
 
 /// The worker on this place.
 #[tactic(auto, using(crate::proofs::Refusals::no_place_first, crate::proofs::Refusals::no_place_more, crate::proofs::Refusals::no_place_last))]
-fn worker_on(places: &[(u32, u32)], machine: u32, slot: u32) -> Option<usize>
-    ensures found { IfSome result (λ worker. slice_get places.now worker ≡ Some (machine, slot)) }
-    ensures none { IfNone result (IsNoPlace places.now machine slot) }
+fn worker_on(places: &[ParkPlace], wanted: ParkPlace) -> Option<usize>
+    ensures found { IfSome result (λ worker. slice_get places.now worker ≡ Some wanted) }
+    ensures none { IfNone result (IsNoPlace places.now wanted.0 wanted.1) }
 {
     for worker in 0..places.len() {
-        let place = places[worker];
-        if machine == place.0 && slot == place.1 {
+        if places[worker] == wanted {
             return Some(worker);
         }
     }
@@ -57,7 +57,7 @@ fn put(numbers: &mut Vec<usize>, place: usize, number: usize)
 /// Follows over one more entry on which worker's place each derivation was leased last. The number behind
 /// the last worker is put for a lease on the place of none, and the answer is no.
 #[tactic(auto, using(crate::proofs::Crossings::walks, crate::proofs::Refusals::stops))]
-fn follow(choices: &mut Vec<usize>, places: &[(u32, u32)], entry: &Entry) -> bool
+fn follow(choices: &mut Vec<usize>, places: &[ParkPlace], entry: &Entry) -> bool
     ensures follows { Follows places.now choices.old.items choices.new.items entry.now }
     ensures tracks { TracksOn places.now choices.old.items choices.new.items entry.now }
     ensures placed { result ≡ true → IsOnPlace places.now entry.now }
@@ -65,7 +65,11 @@ fn follow(choices: &mut Vec<usize>, places: &[(u32, u32)], entry: &Entry) -> boo
 {
     match entry {
         Entry::Chosen { drv, machine, slot } => {
-            let Some(worker) = worker_on(places, *machine, *slot) else {
+            let place = ParkPlace {
+                machine: *machine,
+                slot: *slot,
+            };
+            let Some(worker) = worker_on(places, place) else {
                 put(choices, *drv as usize, places.len());
                 return false;
             };
@@ -85,7 +89,7 @@ fn follow(choices: &mut Vec<usize>, places: &[(u32, u32)], entry: &Entry) -> boo
 
 /// Follows over the entries before the run, in which a lease may be on the place of none.
 #[tactic(auto, using(crate::proofs::Crossings::walks))]
-fn follow_all(choices: &mut Vec<usize>, places: &[(u32, u32)], old: &[Entry])
+fn follow_all(choices: &mut Vec<usize>, places: &[ParkPlace], old: &[Entry])
     requires apart { AreApart places.now }
     requires choices { AreUnknown (length places.now) choices.old.items }
     ensures knows { Knows places.now choices.new.items (reverse old.now) }
@@ -133,7 +137,7 @@ fn meet(
 #[tactic(auto, using(crate::proofs::Crossings::walks, crate::proofs::Refusals::dealings))]
 fn deal(
     tables: &mut Tables,
-    places: &[(u32, u32)],
+    places: &[ParkPlace],
     rows: &[Vec<Receipt>],
     index: usize,
     entry: &Entry,
@@ -186,7 +190,7 @@ pub fn are_dealt(
     old: &[Entry],
     new: &[Entry],
     opening: usize,
-    places: &[(u32, u32)],
+    places: &[ParkPlace],
     rows: &[Vec<Receipt>],
     tables: Tables,
 ) -> bool

@@ -8,8 +8,8 @@ ghost use Rattle.nd_run_command.specs.Ran.{IsRefusedAs};
 
 use nd_cli::CliFault;
 use nd_devices::{Told, WriteError};
-use nd_ledger::Dispatch;
 use nd_history_text::write_history;
+use nd_ledger::Dispatch;
 use nd_report::write_report;
 use nd_workers::{RunError, RunFault};
 use std::io::Write;

@@ -10,7 +10,7 @@ use nd_cli::CliFault;
 use nd_devices::Told;
 use nd_ledger::Dispatch;
 use nd_transports::Transport;
-use nd_workers::{RunFault, Seat, run_with};
+use nd_workers::{RunFault, Seat, run};
 use std::io::Write;
 use std::mem;
 use std::sync::Wait;
@@ -32,7 +32,7 @@ pub fn run_engine<T: Transport, R: Threads + Wait + Sync, W: Write>(
     report: bool,
     output: &mut Told<W>,
 ) -> Result<u8, CliFault>
-    requires manned { AreManned dispatch.inputs (map (λ w. (w.machine, w.slot)) workers.items) }
+    requires manned { AreManned dispatch.inputs (map (λ w. w.place) workers.items) }
     requires writer { output.old.is_marked ≡ false }
     ensures answer { IfOk result (λ status. RunsTo dispatch report status (W.contents output.old.device) (W.contents output.new.device)) }
     ensures fault { IfErr result (IsRunFault dispatch (vec_len workers) report W.contents output.old output.new) }
@@ -40,7 +40,7 @@ pub fn run_engine<T: Transport, R: Threads + Wait + Sync, W: Write>(
 {
     // What comes back is left to the system: the process ends with the command, and to let go of a large dispatch
     // takes long.
-    match run_with(rt, dispatch, workers) {
+    match run(rt, dispatch, workers) {
         Ok(end) => {
             let answer = write_and_answer(&end.dispatch, end.fault, report, output);
             mem::forget(end);

@@ -7,6 +7,7 @@ ghost use Rattle.nd_run_command.specs.Seats.{AreTooMany, stand_in_on};
 
 use nd_cli::CliFault;
 use nd_ledger::Dispatch;
+use nd_receipts::ParkPlace;
 use nd_run_desk::{jobs_on, machine_count};
 use nd_script::Rule;
 use nd_transports::{RuleBook, StandIn};
@@ -25,9 +26,9 @@ pub fn stand_ins(
     dispatch: &Dispatch,
     rules: Vec<Rule>,
 ) -> Result<Vec<Seat<StandIn>>, CliFault>
-    ensures placed { IfOk result (λ seats. map (λ w. (w.machine, w.slot)) seats.items ≡ places_of dispatch.now.inputs) }
+    ensures placed { IfOk result (λ seats. map (λ w. w.place) seats.items ≡ places_of dispatch.now.inputs) }
     ensures ruled { IfOk result (λ seats. map (λ w. w.transport) seats.items ≡ map (stand_in_on rules.items) (places_of dispatch.now.inputs)) }
-    ensures manned { IfOk result (λ seats. AreManned dispatch.now.inputs (map (λ w. (w.machine, w.slot)) seats.items)) }
+    ensures manned { IfOk result (λ seats. AreManned dispatch.now.inputs (map (λ w. w.place) seats.items)) }
     ensures refused { IfErr result (AreTooMany (places_of dispatch.now.inputs)) }
 {
     let places = match places(alloc, dispatch) {
@@ -43,10 +44,10 @@ pub fn stand_ins(
 /// A stand-in with these rules on each of these places.
 fn seats(
     alloc: Global,
-    places: Vec<(u32, u32)>,
+    places: Vec<ParkPlace>,
     rules: Vec<Rule>,
 ) -> Result<Vec<Seat<StandIn>>, AllocError>
-    ensures placed { IfOk result (λ seats. map (λ w. (w.machine, w.slot)) seats.items ≡ places.items) }
+    ensures placed { IfOk result (λ seats. map (λ w. w.place) seats.items ≡ places.items) }
     ensures ruled { IfOk result (λ seats. map (λ w. w.transport) seats.items ≡ map (stand_in_on rules.items) places.items) }
 {
     let book = RuleBook::new(rules)?;
@@ -56,30 +57,29 @@ fn seats(
 /// A stand-in on each of these places, which has the rules of this book.
 fn seats_by(
     alloc: Global,
-    places: Vec<(u32, u32)>,
+    places: Vec<ParkPlace>,
     book: &RuleBook,
 ) -> Result<Vec<Seat<StandIn>>, AllocError>
-    ensures placed { IfOk result (λ seats. map (λ w. (w.machine, w.slot)) seats.items ≡ places.items) }
+    ensures placed { IfOk result (λ seats. map (λ w. w.place) seats.items ≡ places.items) }
     ensures ruled { IfOk result (λ seats. map (λ w. w.transport) seats.items ≡ map (stand_in_on book.now) places.items) }
 {
     let mut seats = Vec::new(alloc);
-    for (machine, slot) in places {
+    for place in places {
         let seat = Seat {
-            machine,
-            slot,
-            transport: StandIn::new(alloc, machine, book.try_clone()?),
+            place,
+            transport: StandIn::new(alloc, place.machine, book.try_clone()?),
         };
         seats.push(seat)?;
     }
     Ok(seats)
 }
 
-/// The places of the park, machines with slots of theirs, in the order of the machines and their slots.
+/// The places of the park, in the order of the machines and their slots.
 /// A run by a worker on each has a worker for each slot.
 ///
 /// `TooManySlots`: there are more than 1,024. `Memory`.
 #[tactic(auto, using(crate::proofs::Seated::none_yet, crate::proofs::Seated::one_machine, crate::proofs::Seated::too_many, crate::proofs::Seated::all_places))]
-pub fn places(alloc: Global, dispatch: &Dispatch) -> Result<Vec<(u32, u32)>, CliFault>
+pub fn places(alloc: Global, dispatch: &Dispatch) -> Result<Vec<ParkPlace>, CliFault>
     ensures found { IfOk result (λ places. places.items ≡ places_of dispatch.now.inputs) }
     ensures manned { IfOk result (λ places. AreManned dispatch.now.inputs places.items) }
     ensures few { IfOk result (λ places. length places.items ≤ 1024) }
@@ -100,7 +100,7 @@ pub fn places(alloc: Global, dispatch: &Dispatch) -> Result<Vec<(u32, u32)>, Cli
 fn add_machine(
     dispatch: &Dispatch,
     machine: u32,
-    places: &mut Vec<(u32, u32)>,
+    places: &mut Vec<ParkPlace>,
 ) -> Result<(), CliFault>
     requires { length places.old.items ≤ 1024 }
     ensures added { OnOk result (places.new.items ≡ places.old.items ++ places_on dispatch.now.inputs machine) }
@@ -111,7 +111,7 @@ fn add_machine(
         if places.len() >= MOST {
             return Err(CliFault::TooManySlots);
         }
-        match places.push((machine, slot)) {
+        match places.push(ParkPlace { machine, slot }) {
             Ok(()) => {}
             Err(_) => return Err(CliFault::Memory),
         }

@@ -12,7 +12,7 @@ use crate::keeping::{Progress, Writing};
 use crate::opened::Opened;
 use nd_keeping::{Journal, Scribe};
 use nd_ledger::Dispatch;
-use nd_receipts::Misreports;
+use nd_receipts::{Misreports, ParkPlace};
 use std::alloc::Global;
 use std::sync::ledger::{Book, Share};
 
@@ -34,7 +34,7 @@ impl<L: Opened> Desk<L> {
     pub fn open<J: Journal>(
         alloc: Global,
         dispatch: Dispatch,
-        manned: Vec<(u32, u32)>,
+        manned: Vec<ParkPlace>,
         book: Book<L>,
         scribe: &Scribe<J>,
     ) -> Desk<L>

@@ -16,7 +16,7 @@ use nd_history::{Entry, Why};
 use nd_leases::Ticket;
 use nd_ledger::{Dispatch, Job, Refusal, Refused};
 use nd_path::PathSet;
-use nd_receipts::{Misreports, is_started};
+use nd_receipts::{Misreports, ParkPlace, is_started};
 use std::alloc::{AllocError, Global};
 use std::sync::ledger::{Book, Share};
 
@@ -27,7 +27,7 @@ pub struct Desk<L: Opened> {
     /// The leases and their history.
     pub dispatch: Dispatch,
     pub(crate) book: Book<L>,
-    pub(crate) manned: Vec<(u32, u32)>,
+    pub(crate) manned: Vec<ParkPlace>,
     pub(crate) misreports: Misreports,
     pub(crate) progress: Progress<L>,
     /// How many entries the history had when the run began.
@@ -227,9 +227,8 @@ impl<L: Opened> Desk<L> {
     }
 
     /// The worker of this place leaves for want of memory, and nothing more is begun.
-    pub fn leave(&mut self, machine: u32, slot: u32) {
-        self.manned
-            .retain(|place| machine != place.0 || slot != place.1);
+    pub fn leave(&mut self, place: ParkPlace) {
+        self.manned.retain(|one| *one != place);
         self.begin_no_more();
     }
 
@@ -240,12 +239,12 @@ impl<L: Opened> Desk<L> {
     }
 
     /// What there is to do for the worker of this place.
-    pub fn next(&mut self, alloc: Global, machine: u32, slot: u32) -> Next {
+    pub fn next(&mut self, alloc: Global, place: ParkPlace) -> Next {
         self.pump();
         if self.dispatch.finished() {
             return Next::Finished;
         }
-        let Some(ticket) = self.dispatch.current(machine, slot) else {
+        let Some(ticket) = self.dispatch.current(place.machine, place.slot) else {
             return Next::Wait;
         };
         let again = self.was_started(ticket);

@@ -106,7 +106,7 @@ fn run_seated<R: Threads + Wait + Sync>(
     seats: Vec<Seat<StandIn>>,
     journal: MemoryJournal,
 ) -> Option<Seen>
-    requires manned { AreManned opened.dispatch.inputs (map (λ w. (w.machine, w.slot)) seats.items) }
+    requires manned { AreManned opened.dispatch.inputs (map (λ w. w.place) seats.items) }
     requires held { HoldsDurably (Some (record { bytes = journal.bytes.items; durable = journal.durable })) (journal_text (not (opened.kept == 0)) opened.dispatch.history) }
 {
     let mut output = Told::new(Vec::new(alloc));

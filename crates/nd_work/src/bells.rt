@@ -3,6 +3,7 @@
 
 use nd_history::Entry;
 use nd_ledger::Dispatch;
+use nd_receipts::ParkPlace;
 use nd_run_desk::{jobs_on, machine_count};
 use std::alloc::{AllocError, Global};
 use std::sync::Condvar;
@@ -28,11 +29,11 @@ impl Bells {
     }
 
     /// The bell of this place.
-    pub(crate) fn of(&self, machine: u32, slot: u32) -> &Condvar {
-        let Some(slots) = self.machines.get(machine as usize) else {
+    pub(crate) fn of(&self, place: ParkPlace) -> &Condvar {
+        let Some(slots) = self.machines.get(place.machine as usize) else {
             return &self.other;
         };
-        slots.get(slot as usize).unwrap_or(&self.other)
+        slots.get(place.slot as usize).unwrap_or(&self.other)
     }
 
     /// Rings for each place for which one of these entries makes a choice.
@@ -44,7 +45,11 @@ impl Bells {
                 slot,
             } = entry
             {
-                self.of(*machine, *slot).notify_one();
+                let place = ParkPlace {
+                    machine: *machine,
+                    slot: *slot,
+                };
+                self.of(place).notify_one();
             }
         }
     }

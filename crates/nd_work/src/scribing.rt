@@ -7,6 +7,7 @@ ghost use Rattle.nd_run_desk.specs.Leaves.{Allows};
 use crate::floor::Floor;
 use nd_keeping::Journal;
 use nd_leases::Ticket;
+use nd_receipts::ParkPlace;
 use nd_run_desk::{Found, Leave, Opened, Step, Writing};
 use std::sync::Wait;
 use std::thread::yield_now;
@@ -108,6 +109,10 @@ impl<'a, L: Opened, R: Wait> Floor<'a, L, R> {
         if !self.shared.keeps {
             return Some(self.shared.free_leave());
         }
+        let place = ParkPlace {
+            machine: ticket.machine,
+            slot: ticket.slot,
+        };
         let mut desk = self.shared.desk.lock(self.rt);
         for _ in self.rt.forever() {
             if let Some(leave) = desk.leave_for(step, ticket) {
@@ -117,11 +122,7 @@ impl<'a, L: Opened, R: Wait> Floor<'a, L, R> {
                 return None;
             }
             self.shared.tell();
-            desk = self
-                .shared
-                .bells
-                .of(ticket.machine, ticket.slot)
-                .wait(self.rt, desk);
+            desk = self.shared.bells.of(place).wait(self.rt, desk);
         }
         unreachable!()
     }

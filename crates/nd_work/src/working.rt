@@ -9,6 +9,7 @@ use crate::floor::Floor;
 use crate::hand::Hand;
 use crate::leasing::uncalled;
 use nd_history::Why;
+use nd_receipts::ParkPlace;
 use nd_run_desk::{Desk, Next, Opened, entries_since};
 use nd_transports::Transport;
 use std::sync::Wait;
@@ -28,19 +29,19 @@ pub enum End {
 
 impl<'a, L: Opened, R: Wait> Floor<'a, L, R> {
     /// What there is to do for the worker of this place. The bells of all places that get a lease ring.
-    fn look(&self, desk: &mut Desk<L>, machine: u32, slot: u32) -> Next {
+    fn look(&self, desk: &mut Desk<L>, place: ParkPlace) -> Next {
         let before = desk.dispatch.history().len();
-        let next = desk.next(self.alloc, machine, slot);
+        let next = desk.next(self.alloc, place);
         let news = entries_since(&desk.dispatch, before);
         self.shared.bells.ring_for(news);
         next
     }
 
     /// Waits until there is something to do for the worker of this place.
-    fn take(&self, machine: u32, slot: u32) -> Next {
+    fn take(&self, place: ParkPlace) -> Next {
         let mut desk = self.shared.desk.lock(self.rt);
         for _ in self.rt.forever() {
-            match self.look(&mut *desk, machine, slot) {
+            match self.look(&mut *desk, place) {
                 Next::Wait => self.shared.tell(),
                 Next::Finished => {
                     // Those who wait may not know yet.
@@ -50,15 +51,15 @@ impl<'a, L: Opened, R: Wait> Floor<'a, L, R> {
                 Next::Serve(job, again) => return Next::Serve(job, again),
                 Next::Short(ticket, again) => return Next::Short(ticket, again),
             }
-            desk = self.shared.bells.of(machine, slot).wait(self.rt, desk);
+            desk = self.shared.bells.of(place).wait(self.rt, desk);
         }
         unreachable!()
     }
 
     /// The worker of this place leaves, and nothing more is begun.
-    fn leave(&self, machine: u32, slot: u32) {
+    fn leave(&self, place: ParkPlace) {
         let mut desk = self.shared.desk.lock(self.rt);
-        desk.leave(machine, slot);
+        desk.leave(place);
         self.shared.bells.ring_all();
     }
 
@@ -75,19 +76,18 @@ impl<'a, L: Opened, R: Wait> Floor<'a, L, R> {
         &self,
         hand: &mut Hand<L>,
         transport: &mut Guarded<T>,
-        machine: u32,
-        slot: u32,
+        place: ParkPlace,
     ) -> End
         ensures { EndsWell result (track_of hand.old.notes transport.old) (track_of hand.new.notes transport.new) }
     {
         if hand.make_room().is_err() {
-            self.leave(machine, slot);
+            self.leave(place);
             return End::Left;
         }
-        let next = self.take(machine, slot);
+        let next = self.take(place);
         let end = self.attend(hand, transport, next);
         if end == End::Refused || end == End::Left {
-            self.leave(machine, slot);
+            self.leave(place);
         }
         end
     }
@@ -127,13 +127,12 @@ impl<'a, L: Opened, R: Wait> Floor<'a, L, R> {
         &self,
         hand: &mut Hand<L>,
         transport: &mut Guarded<T>,
-        machine: u32,
-        slot: u32,
+        place: ParkPlace,
     ) -> End
         ensures { EndsWell result (track_of hand.old.notes transport.old) (track_of hand.new.notes transport.new) }
     {
         'serving: for _ in self.rt.forever() {
-            let end = self.turn(hand, transport, machine, slot);
+            let end = self.turn(hand, transport, place);
             if end != End::Again {
                 return end;
             }

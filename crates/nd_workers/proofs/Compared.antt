@@ -28,8 +28,7 @@ served_in opened history before after how notes receipts good all served same =
     let Q : List Entry → Type 0 = λ es. AllZip (IsNotedIn opened history) notes.receipts es in
     let R : List Receipt → Type 0 = λ rs. AreCallsIn opened history rs on.calls in
     record {
-      machine = served.machine;
-      slot = served.slot;
+      place = served.place;
       calls = on.calls;
       grown = on.calls_are;
       agree = subst R (sym same) (subst R (sym on.receipts_are) (calls_in opened history on.receipts on.copies on.calls on.agree (subst P on.receipts_are (subst Q on.copies_are all))));

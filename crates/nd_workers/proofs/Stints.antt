@@ -16,8 +16,7 @@ use Rattle.nd_workers.specs.Served.{Seated, IsServed, HaveServed, places_served}
 -- a worker that did nothing
 pub served_idle : (b : Seated) (notes : Noted) → notes.receipts ≡ [] → notes.copies ≡ [] → IsServed b Left b notes
 served_idle b notes rs es = record {
-  machine = refl;
-  slot = refl;
+  place = refl;
   goes = record {
     receipts = [];
     copies = [];
@@ -30,11 +29,11 @@ served_idle b notes rs es = record {
 }
 
 -- a worker that began without receipts
-pub served_by : (b a : Seated) (how : End) (old notes : Noted) → old.receipts ≡ [] → old.copies ≡ [] → EndsWell how (track old b.calls) (track notes a.calls) → a.machine ≡ b.machine → a.slot ≡ b.slot → IsServed b how a notes
-served_by b a how old notes rs es ends machine slot =
+pub served_by : (b a : Seated) (how : End) (old notes : Noted) → old.receipts ≡ [] → old.copies ≡ [] → EndsWell how (track old b.calls) (track notes a.calls) → a.place ≡ b.place → IsServed b how a notes
+served_by b a how old notes rs es ends place =
     let P : List Receipt → Type 0 = λ r. EndsWell how (record { receipts = r; copies = old.copies; calls = b.calls }) (track notes a.calls) in
     let Q : List Entry → Type 0 = λ e. EndsWell how (record { receipts = []; copies = e; calls = b.calls }) (track notes a.calls) in
-    record { machine = machine; slot = slot; goes = subst Q es (subst P rs ends) }
+    record { place = place; goes = subst Q es (subst P rs ends) }
 
 pub ruleset servings = (served_idle, served_by)
 
@@ -43,4 +42,4 @@ pub places_kept : {T : Type 0} (state : T → State) (workers : List (Seat T)) (
 places_kept state [] [] all = refl
 places_kept state [] (x ∷ stints) all = absurd all
 places_kept state (w ∷ workers) [] all = absurd all
-places_kept state (w ∷ workers) (x ∷ stints) all = let rest = places_kept state workers stints all.1 in λ i. (all.0.machine i, all.0.slot i) ∷ rest i
+places_kept state (w ∷ workers) (x ∷ stints) all = let rest = places_kept state workers stints all.1 in λ i. all.0.place i ∷ rest i

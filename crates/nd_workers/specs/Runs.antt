@@ -55,8 +55,7 @@ pub record IsOver (opening now : World) : Type 0 where
 -- a worker kept its place, and its transport's calls since then are those of its receipts, in a run that began behind the first `opened`
 -- entries of the history
 pub record IsServedIn (opened : ℕ) (history : List Entry) (before after : Seated) (receipts : List Receipt) : Type 0 where
-  pub machine : after.machine ≡ before.machine
-  pub slot : after.slot ≡ before.slot
+  pub place : after.place ≡ before.place
   pub calls : List Call
   pub grown : after.calls ≡ before.calls ++ calls
   pub agree : AreCallsIn opened history receipts calls

@@ -14,22 +14,20 @@ use Rattle.nd_work.specs.Ends.{EndsWell}
 
 -- a worker's place, and the calls of its transport
 pub record Seated : Type 0 where
-  pub machine : ℕ
-  pub slot : ℕ
+  pub place : ℕ × ℕ
   pub calls : List Call
 
 -- .. where this is the state of a transport
 abbrev pub seat_of : {T : Type 0} → (T → State) → Seat T → Seated
-seat_of state w = record { machine = w.machine; slot = w.slot; calls = (state w.transport).calls }
+seat_of state w = record { place = w.place; calls = (state w.transport).calls }
 
--- the places that these workers serve, machines with slots of theirs
+-- the places that these workers serve
 abbrev pub places_served : {T : Type 0} → List (Seat T) → List (ℕ × ℕ)
-places_served workers = map (λ w. (w.machine, w.slot)) workers
+places_served workers = map (λ w. w.place) workers
 
 -- a worker ended so, on the same place, with these notes
 pub record IsServed (before : Seated) (how : End) (after : Seated) (notes : Noted) : Type 0 where
-  pub machine : after.machine ≡ before.machine
-  pub slot : after.slot ≡ before.slot
+  pub place : after.place ≡ before.place
   pub goes : EndsWell how (record { receipts = []; copies = []; calls = before.calls }) (track notes after.calls)
 
 -- this came back of the worker

@@ -16,7 +16,8 @@ use crate::threads::Stint;
 use nd_history::Entry;
 use nd_ledger::Dispatch;
 use nd_receipts::{
-    Receipt, Standing, Tables, are_dealt, are_rows_judged, are_rows_noted, has_stop, is_quiet,
+    ParkPlace, Receipt, Standing, Tables, are_dealt, are_rows_judged, are_rows_noted, has_stop,
+    is_quiet,
 };
 use nd_run_desk::entries_since;
 use nd_transports::Transport;
@@ -51,7 +52,7 @@ pub(crate) fn count_threads<T: Transport>(stints: &[Stint<T>]) -> usize
 fn are_receipted(
     opened: usize,
     dispatch: &Dispatch,
-    places: &[(u32, u32)],
+    places: &[ParkPlace],
     receipts: &[Vec<Receipt>],
     tables: Tables,
 ) -> bool
@@ -110,7 +111,7 @@ fn is_halted(dispatch: &Dispatch, kept: bool) -> bool
 pub(crate) fn is_alike(
     opened: usize,
     dispatch: &Dispatch,
-    places: &[(u32, u32)],
+    places: &[ParkPlace],
     receipts: &[Vec<Receipt>],
     evidence: &Evidence,
     tables: Tables,

@@ -12,10 +12,7 @@ mod settling;
 mod threads;
 mod writing;
 
-pub use run_end::{
-    Evidence, NotRun, NotWritten, Ran, Refused, RefusedKept, RunEnd, RunError, RunFault, RunKept,
-    Written,
-};
-pub use running::{MOST_SLOTS, run, run_with};
-pub use seat::{Seat, Worker};
-pub use writing::{run_kept, run_kept_with};
+pub use run_end::{Evidence, NotRun, NotWritten, Ran, RunError, RunFault, Written};
+pub use running::{MOST_SLOTS, run};
+pub use seat::Seat;
+pub use writing::run_kept;

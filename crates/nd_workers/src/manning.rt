@@ -7,25 +7,23 @@ ghost use Rattle.nd_workers.specs.Served.{places_served};
 
 use crate::seat::Seat;
 use nd_ledger::Dispatch;
+use nd_receipts::ParkPlace;
 use nd_run_desk::{jobs_on, machine_count};
 use std::alloc::{AllocError, Global};
 
 /// How many of these places are this one.
-fn count_at(places: &[(u32, u32)], machine: u32, slot: u32) -> usize
-    ensures { result ≡ count_by (is_at machine slot) places.now }
+fn count_at(places: &[ParkPlace], place: ParkPlace) -> usize
+    ensures { result ≡ count_by (is_at place.0 place.1) places.now }
 {
-    places
-        .iter()
-        .filter(|place| machine == place.0 && slot == place.1)
-        .count()
+    places.iter().filter(|one| place == **one).count()
 }
 
 /// Whether each slot of this machine is one of the places, and only once.
-fn is_machine_manned(dispatch: &Dispatch, places: &[(u32, u32)], machine: u32) -> bool
+fn is_machine_manned(dispatch: &Dispatch, places: &[ParkPlace], machine: u32) -> bool
     ensures { IsTrue result ↔ IsMachineManned dispatch.now.inputs places.now machine }
 {
     for slot in 0..jobs_on(dispatch, machine) {
-        if count_at(places, machine, slot) != 1 {
+        if count_at(places, ParkPlace { machine, slot }) != 1 {
             return false;
         }
     }
@@ -33,21 +31,21 @@ fn is_machine_manned(dispatch: &Dispatch, places: &[(u32, u32)], machine: u32) -
 }
 
 /// Whether each of the places is one of the park.
-fn are_in_park(dispatch: &Dispatch, places: &[(u32, u32)]) -> bool
+fn are_in_park(dispatch: &Dispatch, places: &[ParkPlace]) -> bool
     ensures { result ≡ list_all (is_in_park dispatch.now.inputs) places.now }
 {
     places.iter().all(|place| is_in_park(dispatch, *place))
 }
 
 /// Whether the place is one of the park.
-fn is_in_park(dispatch: &Dispatch, place: (u32, u32)) -> bool
+fn is_in_park(dispatch: &Dispatch, place: ParkPlace) -> bool
     ensures { result ≡ is_in_park dispatch.now.inputs place }
 {
-    place.0 < machine_count(dispatch) && place.1 < jobs_on(dispatch, place.0)
+    place.machine < machine_count(dispatch) && place.slot < jobs_on(dispatch, place.machine)
 }
 
 /// Whether there is one worker for each slot of the park, and each worker is on one.
-pub(crate) fn are_manned(dispatch: &Dispatch, places: &[(u32, u32)]) -> bool
+pub(crate) fn are_manned(dispatch: &Dispatch, places: &[ParkPlace]) -> bool
     ensures { IsTrue result ↔ AreManned dispatch.now.inputs places.now }
 {
     if !are_in_park(dispatch, places) {
@@ -62,11 +60,8 @@ pub(crate) fn are_manned(dispatch: &Dispatch, places: &[(u32, u32)]) -> bool
 }
 
 /// The places of these workers.
-pub(crate) fn places_of<T>(alloc: Global, seats: &[Seat<T>]) -> Result<Vec<(u32, u32)>, AllocError>
+pub(crate) fn places_of<T>(alloc: Global, seats: &[Seat<T>]) -> Result<Vec<ParkPlace>, AllocError>
     ensures { IfOk result (λ v. v.items ≡ places_served seats.now) }
 {
-    seats
-        .iter()
-        .map(|seat| (seat.machine, seat.slot))
-        .collect(alloc)
+    seats.iter().map(|seat| seat.place).collect(alloc)
 }

@@ -14,14 +14,14 @@ use crate::running::MOST_SLOTS;
 use crate::seat::Seat;
 use crate::settling::Plan;
 use nd_ledger::Dispatch;
-use nd_receipts::{Standing, Tables};
+use nd_receipts::{ParkPlace, Standing, Tables};
 use nd_work::Bells;
 use std::alloc::{AllocError, Global};
 
 /// The places that workers serve, and the bells of all places.
 #[derive(Drop)]
 pub(crate) struct Posts {
-    pub(crate) manned: Vec<(u32, u32)>,
+    pub(crate) manned: Vec<ParkPlace>,
     pub(crate) bells: Bells,
 }
 
@@ -31,7 +31,7 @@ fn accepted_places<T>(
     alloc: Global,
     dispatch: &Dispatch,
     seats: &[Seat<T>],
-) -> Result<Vec<(u32, u32)>, RunError>
+) -> Result<Vec<ParkPlace>, RunError>
     ensures refused { IfErr result (IsRunRefused dispatch.now.inputs (places_served seats.now)) }
     ensures places { IfOk result (λ v. v.items ≡ places_served seats.now) }
     ensures manned { OnOk result (AreManned dispatch.now.inputs (places_served seats.now)) }
@@ -53,11 +53,7 @@ fn accepted_places<T>(
 }
 
 /// What the end of a run of this dispatch by workers on these places is compared with.
-fn make_plan(
-    alloc: Global,
-    dispatch: &Dispatch,
-    places: Vec<(u32, u32)>,
-) -> Result<Plan, AllocError>
+fn make_plan(alloc: Global, dispatch: &Dispatch, places: Vec<ParkPlace>) -> Result<Plan, AllocError>
     requires { AreApart places.items }
     ensures opened { IfOk result (λ p. p.opened ≡ length dispatch.now.history) }
     ensures places { IfOk result (λ p. p.places.items ≡ places.items) }

@@ -5,7 +5,6 @@ use nd_history::Entry;
 use nd_keeping::{Journal, Scribe};
 use nd_ledger::Dispatch;
 use nd_receipts::{Misreports, Receipt};
-use nd_transports::Transport;
 
 /// Why a run was refused: the first cause that stands, but `Memory` may come at any point.
 #[derive(Clone, Copy, Debug, PartialEq, Eq)]
@@ -83,12 +82,6 @@ pub struct Ran<T> {
     pub fault: Option<RunFault>,
 }
 
-/// The end of a run with whatever transports.
-pub type RunEnd = Ran<Box<dyn Transport + Send>>;
-
-/// A refused run with whatever transports.
-pub type Refused = NotRun<Box<dyn Transport + Send>>;
-
 /// The end of a run that keeps its history in a journal.
 #[derive(Drop)]
 pub struct Written<T, J: Journal> {
@@ -106,9 +99,3 @@ pub struct NotWritten<T, J: Journal> {
     /// The scribe with the journal, of which nothing was changed.
     pub scribe: Scribe<J>,
 }
-
-/// The end of a run that keeps its history, with whatever transports.
-pub type RunKept<J> = Written<Box<dyn Transport + Send>, J>;
-
-/// A refused run with a journal, with whatever transports.
-pub type RefusedKept<J> = NotWritten<Box<dyn Transport + Send>, J>;

@@ -17,8 +17,8 @@ ghost use Rattle.nd_run_desk.specs.Steps.{RunsOn, StopsAreTold};
 ghost use Rattle.nd_run_desk.specs.Written.{IsWritten, IsWrittenWhole};
 
 use crate::preparing::{Posts, prepare};
-use crate::run_end::{NotRun, NotWritten, Ran, Refused, RunEnd, RunError, RunFault, Written};
-use crate::seat::{Seat, Worker};
+use crate::run_end::{NotRun, NotWritten, Ran, RunError, RunFault, Written};
+use crate::seat::Seat;
 use crate::settling::{Back, Plan, Served, make_back, settle};
 use crate::threads::{Ended, Joined, Ready, Running, Stint, in_scope};
 use nd_keeping::{Journal, NoJournal, Scribe};
@@ -300,7 +300,7 @@ fn run_named<
     Ok(run_in(rt, alloc, dispatch, seats, posts, plan, room, blank, paper))
 }
 
-/// As [`run`], by workers with transports of one type, where a run that `keeps` its history does so by the scribe.
+/// As [`run`], where a run that `keeps` its history does so by the scribe.
 pub(crate) fn run_by<T: Transport, J: Journal + Send + Drop, R: Threads + Wait + Sync>(
     rt: &R,
     dispatch: Dispatch,
@@ -344,8 +344,28 @@ pub(crate) fn run_by<T: Transport, J: Journal + Send + Drop, R: Threads + Wait +
     }
 }
 
-/// As [`run`], by workers with transports of one type.
-pub fn run_with<T: Transport, R: Threads + Wait + Sync>(
+/// Runs the dispatch by one worker for each slot of the park, each in a thread of its own. Each worker, with
+/// the lock free, copies and builds through its transport, and under the lock records what came of it.
+/// Unless the fault is `Receipts`, nothing waits and nothing is leased any more in the end.
+///
+/// Refuses with `Slots` (1) where there isn't exactly one worker for each slot of the park, then with
+/// `TooManySlots` (2) where there are more than 1,024, and with `Memory` (3) where an allocation is
+/// refused before the first thread starts. What was handed in comes back then.
+///
+/// It may end with a fault, which [`RunFault`] lists with its cause: the fault is the one whose cause stands, and
+/// there is none where none does; `Journal` (4) doesn't come. After `Thread` (1) and `Memory` (2) a stop is in the history; as without a
+/// fault, each worker's calls are those of its receipts, the receipts are the entries that workers made, and a
+/// build failed for its references only where those that it reported aren't those that it may have, by what
+/// stands before that entry. `Receipts` (3) says that this isn't so, or that the run isn't over. However it ends,
+/// the workers that come back are on the places of those that were handed in, in their order, each with a list
+/// of receipts; each choice since the opening is the pump's step of its place in the history, and no machine was
+/// drained or enabled.
+///
+/// A lease that is live at the start is taken up by the worker of its slot as any other. Where it was started
+/// before, no second start is recorded: its build is asked for again, and the lease ends as that build says. Where
+/// its machine isn't reached then, or the copy fails, it fails as `Lost`, since it can't be given back. Such an end
+/// has a receipt with `again`, and no other has.
+pub fn run<T: Transport, R: Threads + Wait + Sync>(
     rt: &R,
     dispatch: Dispatch,
     workers: Vec<Seat<T>>,
@@ -381,53 +401,4 @@ pub fn run_with<T: Transport, R: Threads + Wait + Sync>(
             Err(run)
         }
     }
-}
-
-/// Runs the dispatch by one worker for each slot of the park, each in a thread of its own. Each worker, with
-/// the lock free, copies and builds through its transport, and under the lock records what came of it.
-/// Unless the fault is `Receipts`, nothing waits and nothing is leased any more in the end.
-///
-/// Refuses with `Slots` (1) where there isn't exactly one worker for each slot of the park, then with
-/// `TooManySlots` (2) where there are more than 1,024, and with `Memory` (3) where an allocation is
-/// refused before the first thread starts. What was handed in comes back then.
-///
-/// It may end with a fault, which [`RunFault`] lists with its cause: the fault is the one whose cause stands, and
-/// there is none where none does; `Journal` (4) doesn't come. After `Thread` (1) and `Memory` (2) a stop is in the history; as without a
-/// fault, each worker's calls are those of its receipts, the receipts are the entries that workers made, and a
-/// build failed for its references only where those that it reported aren't those that it may have, by what
-/// stands before that entry. `Receipts` (3) says that this isn't so, or that the run isn't over. However it ends,
-/// the workers that come back are on the places of those that were handed in, in their order, each with a list
-/// of receipts; each choice since the opening is the pump's step of its place in the history, and no machine was
-/// drained or enabled.
-///
-/// A lease that is live at the start is taken up by the worker of its slot as any other. Where it was started
-/// before, no second start is recorded: its build is asked for again, and the lease ends as that build says. Where
-/// its machine isn't reached then, or the copy fails, it fails as `Lost`, since it can't be given back. Such an end
-/// has a receipt with `again`, and no other has.
-pub fn run<R: Threads + Wait + Sync>(
-    rt: &R,
-    dispatch: Dispatch,
-    workers: Vec<Worker>,
-) -> Result<RunEnd, Refused>
-    ensures dispatch { IfErr result (λ r. r.dispatch ≡ dispatch) }
-    ensures workers { IfErr result (λ r. r.workers ≡ workers) }
-    ensures refused { IfErr result (λ r. IsRunRefused dispatch.inputs (places_served workers.items) r.why) }
-    ensures manned { IfOk result (λ e. AreManned dispatch.inputs (places_served workers.items)) }
-    ensures few { IfOk result (λ e. vec_len workers ≤ 1024) }
-    ensures places { IfOk result (λ e. places_served e.workers.items ≡ places_served workers.items) }
-    ensures count { IfOk result (λ e. vec_len e.receipts ≡ vec_len workers) }
-    ensures total { IfOk result (λ e. made e.dispatch.history ≡ made dispatch.history + sum_by (λ v. vec_len v) e.receipts.items) }
-    ensures runs { IfOk result (λ e. RunsOn dispatch e.dispatch) }
-    ensures goes_on { IfOk result (λ e. Agrees e.fault → IsOver dispatch e.dispatch) }
-    ensures receipted { IfOk result (λ e. Agrees e.fault → AreReceiptedSince dispatch e.dispatch (places_served workers.items) e.receipts.items) }
-    ensures quiet { IfOk result (λ e. e.fault ≡ None → list_all is_quiet (since dispatch e.dispatch) ≡ true) }
-    ensures thread { IfOk result (λ e. e.fault ≡ Some RunFault.Thread → list_any is_stop e.dispatch.history ≡ true) }
-    ensures memory { IfOk result (λ e. e.fault ≡ Some RunFault.Memory → list_any is_stop e.dispatch.history ≡ true) }
-    ensures unkept { IfOk result (λ e. e.fault ≡ Some RunFault.Journal → ⊥) }
-    ensures calls { IfOk result (λ e. Agrees e.fault → AreServed state dispatch e.dispatch workers.items e.workers.items e.receipts.items) }
-    ensures judged { IfOk result (λ e. Agrees e.fault → AreAllWrong e.dispatch.inputs e.dispatch.history e.receipts.items) }
-    ensures misreports { IfOk result (λ e. AreMisreports e.dispatch.inputs e.dispatch.history e.evidence.misreports) }
-    ensures fault { IfOk result (λ e. IsFaultOf dispatch e.dispatch (places_served workers.items) e.receipts.items e.evidence e.fault) }
-{
-    run_with(rt, dispatch, workers)
 }

@@ -15,7 +15,7 @@ use crate::seat::Seat;
 use crate::threads::Stint;
 use nd_history::Entry;
 use nd_ledger::Dispatch;
-use nd_receipts::{Misreports, Receipt, Standing, Tables};
+use nd_receipts::{Misreports, ParkPlace, Receipt, Standing, Tables};
 use nd_transports::Transport;
 use std::alloc::{AllocError, Global};
 
@@ -23,7 +23,7 @@ use std::alloc::{AllocError, Global};
 #[derive(Drop)]
 pub(crate) struct Plan {
     pub(crate) opened: usize,
-    pub(crate) places: Vec<(u32, u32)>,
+    pub(crate) places: Vec<ParkPlace>,
     pub(crate) tables: Tables,
     pub(crate) standing: Standing,
     ghost apart: { AreApart places.items },

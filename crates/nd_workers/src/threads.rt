@@ -36,21 +36,15 @@ fn work<L: Opened, T: Transport, R: Wait>(
     seat: Seat<T>,
 ) -> Done<L, T>
     ensures goes { EndsWell result.end (track_of hand.notes (T.state seat.transport)) (track_of result.hand.notes (T.state result.seat.transport)) }
-    ensures machine { result.seat.machine ≡ seat.machine }
-    ensures slot { result.seat.slot ≡ seat.slot }
+    ensures place { result.seat.place ≡ seat.place }
 {
-    let Seat {
-        machine,
-        slot,
-        transport,
-    } = seat;
+    let Seat { place, transport } = seat;
     let mut hand = hand;
     let mut guarded = Guarded::new(transport);
-    let end = floor.work(&mut hand, &mut guarded, machine, slot);
+    let end = floor.work(&mut hand, &mut guarded, place);
     Done {
         seat: Seat {
-            machine,
-            slot,
+            place,
             transport: guarded.into_inner(),
         },
         hand,

@@ -15,6 +15,7 @@ use nd_agents::Agent;
 use nd_cli::CliFault;
 use nd_command_line::placed;
 use nd_explain::{Failure, Source};
+use nd_receipts::ParkPlace;
 use nd_run_command::places;
 use nd_serve_command::Opened;
 use nd_workers::Seat;
@@ -77,7 +78,7 @@ fn run_placed<'a, R: Files<File = File> + Print + AllocGlobal + Threads + Wait +
     rt: &R,
     alloc: Global,
     opened: Opened,
-    places: Vec<(u32, u32)>,
+    places: Vec<ParkPlace>,
     folder: &'a str,
     journal: Kept<'a, File>,
     report: bool,
@@ -102,24 +103,20 @@ fn agents_on<'a, R: Files<File = File>>(
     rt: &R,
     alloc: Global,
     folder: &'a str,
-    places: Vec<(u32, u32)>,
+    places: Vec<ParkPlace>,
 ) -> Result<Vec<Seat<FileAgent>>, Failure<'a>>
-    ensures { IfOk result (λ seats. map (λ w. (w.machine, w.slot)) seats.items ≡ places.items) }
+    ensures { IfOk result (λ seats. map (λ w. w.place) seats.items ≡ places.items) }
 {
     let mut seats = Vec::new(alloc);
-    for (machine, slot) in places {
-        let transport = match agent_at(rt, alloc, folder, machine, slot) {
+    for place in places {
+        let transport = match agent_at(rt, alloc, folder, place) {
             Ok(agent) => agent,
             Err(failure) => {
                 mem::forget(seats);
                 return Err(failure);
             }
         };
-        let seat = Seat {
-            machine,
-            slot,
-            transport,
-        };
+        let seat = Seat { place, transport };
         if seats.push(seat).is_err() {
             mem::forget(seats);
             return Err(Failure::of(CliFault::Memory));
@@ -128,7 +125,7 @@ fn agents_on<'a, R: Files<File = File>>(
     Ok(seats)
 }
 
-/// The agent of this machine's slot, which is called by its file `M.S.calls` and answers by `M.S.answers`.
+/// The agent of this place, machine M's slot S, which is called by its file `M.S.calls` and answers by `M.S.answers`.
 /// They are opened in this order, and for pipes each waits until the other end is opened.
 ///
 /// `Read`: one of them can't be opened. `Memory`.
@@ -136,15 +133,14 @@ fn agent_at<'a, R: Files<File = File>>(
     rt: &R,
     alloc: Global,
     folder: &'a str,
-    machine: u32,
-    slot: u32,
+    place: ParkPlace,
 ) -> Result<FileAgent, Failure<'a>> {
     let mut writing = OpenOptions::new();
     let _ = writing.write(true);
-    let calls = agent_file(rt, alloc, folder, machine, slot, "calls", &writing)?;
+    let calls = agent_file(rt, alloc, folder, place, "calls", &writing)?;
     let mut reading = OpenOptions::new();
     let _ = reading.read(true);
-    let answers = match agent_file(rt, alloc, folder, machine, slot, "answers", &reading) {
+    let answers = match agent_file(rt, alloc, folder, place, "answers", &reading) {
         Ok(answers) => answers,
         Err(failure) => {
             drop(calls);
@@ -167,11 +163,11 @@ fn agent_file<'a, R: Files<File = File>>(
     rt: &R,
     alloc: Global,
     folder: &'a str,
-    machine: u32,
-    slot: u32,
+    place: ParkPlace,
     kind: &str,
     how: &OpenOptions,
 ) -> Result<File, Failure<'a>> {
+    let ParkPlace { machine, slot } = place;
     let Ok(name) = format!(in alloc; "{folder}/{machine}.{slot}.{kind}") else {
         return Err(Failure::of(CliFault::Memory));
     };

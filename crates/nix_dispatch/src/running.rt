@@ -31,7 +31,7 @@ pub(crate) fn run_workers<'a, T: Transport, R: Print + AllocGlobal + Threads + W
     journal: Kept<'a, File>,
     report: bool,
 ) -> Result<u8, Ending<'a>>
-    requires manned { AreManned opened.dispatch.inputs (map (λ w. (w.machine, w.slot)) workers.items) }
+    requires manned { AreManned opened.dispatch.inputs (map (λ w. w.place) workers.items) }
 {
     let Ok(buffer) = BufWriter::new(alloc, io::writer(rt)) else {
         // The process ends with the command.

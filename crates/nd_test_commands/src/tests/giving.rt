@@ -3,6 +3,7 @@
 use nd_bytes::ByteString;
 use nd_cli::{CliFault, ParkOptions};
 use nd_devices::Told;
+use nd_receipts::ParkPlace;
 use nd_run_command::{RunInputs, places, run_inputs};
 use nd_script::Rule;
 use nd_test_fixtures::printing::is_printed;
@@ -24,7 +25,7 @@ pub struct Seen {
     /// How many derivations, builders and entries there are.
     pub sizes: (usize, usize, usize),
     pub rules: Vec<Rule>,
-    pub places: Result<Vec<(u32, u32)>, CliFault>,
+    pub places: Result<Vec<ParkPlace>, CliFault>,
 }
 
 /// A byte string with this text, or an empty one where there is no memory.

@@ -2,9 +2,15 @@
 
 use crate::tests::giving::{Words, given, is_refused};
 use nd_cli::CliFault;
+use nd_receipts::ParkPlace;
 use nd_test_fixtures::bundles::PLAIN_1;
 use std::alloc::Global;
 use std::thread::Threads;
+
+/// This slot of this machine.
+fn at(machine: u32, slot: u32) -> ParkPlace {
+    ParkPlace { machine, slot }
+}
 
 /// The places of the park with these builders and local jobs.
 fn places_with<R: Threads + Sync>(
@@ -12,7 +18,7 @@ fn places_with<R: Threads + Sync>(
     alloc: Global,
     builders: &str,
     jobs: u16,
-) -> Result<Vec<(u32, u32)>, CliFault> {
+) -> Result<Vec<ParkPlace>, CliFault> {
     let words = Words {
         builders,
         jobs,
@@ -26,7 +32,7 @@ fn places_with<R: Threads + Sync>(
 }
 
 /// Whether these are the places.
-fn are(places: Result<Vec<(u32, u32)>, CliFault>, wanted: &[(u32, u32)]) -> bool {
+fn are(places: Result<Vec<ParkPlace>, CliFault>, wanted: &[ParkPlace]) -> bool {
     match places {
         Ok(places) => places.as_slice() == wanted,
         Err(_) => false,
@@ -34,7 +40,7 @@ fn are(places: Result<Vec<(u32, u32)>, CliFault>, wanted: &[(u32, u32)]) -> bool
 }
 
 /// Whether there are so many places.
-fn are_so_many(places: Result<Vec<(u32, u32)>, CliFault>, wanted: usize) -> bool {
+fn are_so_many(places: Result<Vec<ParkPlace>, CliFault>, wanted: usize) -> bool {
     match places {
         Ok(places) => places.len() == wanted,
         Err(_) => false,
@@ -45,7 +51,7 @@ fn are_so_many(places: Result<Vec<(u32, u32)>, CliFault>, wanted: usize) -> bool
 #[test]
 fn places_of_a_park(rt: HostRuntime) {
     let places = places_with(&rt, rt.alloc(), "m - - 2;n - - 0;o", 1);
-    assert!(rt; are(places, &[(0, 0), (1, 0), (1, 1), (3, 0)]));
+    assert!(rt; are(places, &[at(0, 0), at(1, 0), at(1, 1), at(3, 0)]));
     let none = places_with(&rt, rt.alloc(), "", 0);
     assert!(rt; are(none, &[]));
 }

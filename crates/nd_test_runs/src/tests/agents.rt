@@ -1,6 +1,6 @@
 //! Runs whose machines are agents, with the calls and the answers as bytes in memory.
 
-use crate::tests::parks::{close_refused, close_run, dispatch, ran};
+use crate::tests::parks::{at, close_refused, close_run, dispatch, ran};
 use crate::tests::runs::{blown, has_lines};
 use nd_agents::Agent;
 use nd_ledger::Dispatch;
@@ -40,8 +40,7 @@ fn agent_at(alloc: Global, machine: u32, script: Script) -> Seat<Spoken> {
     let answers = CountedReader::new(script.answers, 1, script.reads);
     let calls = CountedWriter::new(alloc, 4096, script.writes, false);
     Seat {
-        machine,
-        slot: 0,
+        place: at(machine, 0),
         transport: Agent::new(alloc, answers, calls),
     }
 }

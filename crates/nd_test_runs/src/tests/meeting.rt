@@ -3,9 +3,10 @@
 ghost use Rattle.std.specs.Prelude.{◌≡◌};
 ghost use Rattle.nd_transports.specs.Calls.{Builds};
 
-use crate::tests::parks::{dispatch, ran, stand_in};
+use crate::tests::parks::{at, dispatch, ran, stand_in};
 use nd_closure::Refs;
 use nd_ledger::Job;
+use nd_receipts::ParkPlace;
 use nd_test_fixtures::bundles::PLAIN_3;
 use nd_test_fixtures::parks::close;
 use nd_transports::{Ended, Phase, StandIn, Transport};
@@ -93,15 +94,13 @@ impl Transport for Meets {
 /// Puts a worker whose transport meets the others on this place.
 fn push_seat(
     seats: &mut Vec<Seat<Meets>>,
-    machine: u32,
-    slot: u32,
+    place: ParkPlace,
     stand: StandIn,
     meeting: Arc<Meeting, Global>,
 ) -> bool {
     seats
         .push(Seat {
-            machine,
-            slot,
+            place,
             transport: Meets { stand, meeting },
         })
         .is_ok()
@@ -113,10 +112,10 @@ fn push_seats(
     seats: &mut Vec<Seat<Meets>>,
     meeting: &Arc<Meeting, Global>,
 ) -> Option<()> {
-    for place in [(1, 0), (1, 1), (2, 0)] {
+    for place in [at(1, 0), at(1, 1), at(2, 0)] {
         let known = Arc::try_clone(meeting).ok()?;
-        let stand = stand_in(alloc, place.0, Vec::new(alloc)).ok()?;
-        push_seat(seats, place.0, place.1, stand, known);
+        let stand = stand_in(alloc, place.machine, Vec::new(alloc)).ok()?;
+        push_seat(seats, place, stand, known);
     }
     Some(())
 }

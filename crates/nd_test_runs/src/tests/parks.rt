@@ -1,10 +1,11 @@
 //! The dispatches of the examples, and their workers.
 
 use nd_ledger::Dispatch;
+use nd_receipts::ParkPlace;
 use nd_script::Rule;
 use nd_test_fixtures::parks::{builders_alone, close, dispatch_of};
 use nd_transports::{RuleBook, StandIn, Transport};
-use nd_workers::{NotRun, Ran, Seat, run_with};
+use nd_workers::{NotRun, Ran, Seat, run};
 use std::alloc::{AllocError, Global};
 use std::sync::Wait;
 use std::thread::Threads;
@@ -26,25 +27,25 @@ pub(crate) fn stand_in(
     Ok(StandIn::new(alloc, machine, RuleBook::new(rules)?))
 }
 
-/// A worker with a stand-in that follows this rule and, where there is a fuse, lets so many calls pass.
+/// This slot of this machine.
+pub(crate) fn at(machine: u32, slot: u32) -> ParkPlace {
+    ParkPlace { machine, slot }
+}
+
+/// A worker on this place with a stand-in that follows this rule and, where there is a fuse, lets so many calls pass.
 pub(crate) fn stand_at(
     alloc: Global,
-    machine: u32,
-    slot: u32,
+    place: ParkPlace,
     rule: Rule,
     passes: Option<u32>,
 ) -> Option<Seat<StandIn>> {
     let mut rules = Vec::new(alloc);
     rules.push(rule).ok()?;
-    let mut transport = stand_in(alloc, machine, rules).ok()?;
+    let mut transport = stand_in(alloc, place.machine, rules).ok()?;
     if let Some(passes) = passes {
         transport.fuse(passes);
     }
-    Some(Seat {
-        machine,
-        slot,
-        transport,
-    })
+    Some(Seat { place, transport })
 }
 
 /// So many workers on the slots of machine 1; fewer where memory is wanting.
@@ -62,8 +63,7 @@ pub(crate) fn stands(alloc: Global, count: u32) -> Vec<Seat<StandIn>> {
 fn push_stand(seats: &mut Vec<Seat<StandIn>>, slot: u32, transport: StandIn) -> bool {
     seats
         .push(Seat {
-            machine: 1,
-            slot,
+            place: at(1, slot),
             transport,
         })
         .is_ok()
@@ -75,7 +75,7 @@ pub(crate) fn ran<T: Transport, R: Threads + Wait + Sync>(
     opened: Dispatch,
     seats: Vec<Seat<T>>,
 ) -> Result<Ran<T>, NotRun<T>> {
-    run_with(rt, opened, seats)
+    run(rt, opened, seats)
 }
 
 /// Lets go of what came back of a run.

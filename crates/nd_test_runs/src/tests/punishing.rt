@@ -1,7 +1,8 @@
 //! Two inputs that punish a shortcut, at a small size: each derivation needs a feature of its own, which
 //! one machine of several has; and groups that all wait for one slot while another machine frees many.
 
-use crate::tests::parks::{close_refused, close_run, dispatch, ran, stand_at};
+use crate::tests::parks::{at, close_refused, close_run, dispatch, ran, stand_at};
+use nd_receipts::ParkPlace;
 use nd_script::Rule;
 use nd_transports::StandIn;
 use nd_workers::{Ran, Seat};
@@ -36,10 +37,10 @@ fn bundle(alloc: Global, count: u32, needy: u32) -> Option<String> {
 }
 
 /// Workers on these places with plain stand-ins; fewer where memory is wanting.
-fn workers(alloc: Global, places: &[(u32, u32)]) -> Vec<Seat<StandIn>> {
+fn workers(alloc: Global, places: &[ParkPlace]) -> Vec<Seat<StandIn>> {
     let mut seats = Vec::new(alloc);
     for place in places {
-        if let Some(seat) = stand_at(alloc, place.0, place.1, Rule::NoConnect(9), None) {
+        if let Some(seat) = stand_at(alloc, *place, Rule::NoConnect(9), None) {
             let _ = seats.push(seat);
         }
     }
@@ -60,7 +61,7 @@ fn built<R: Threads + Wait + Sync>(
     alloc: Global,
     bundle: &str,
     builders: &str,
-    places: &[(u32, u32)],
+    places: &[ParkPlace],
 ) -> Option<usize> {
     let opened = dispatch(alloc, bundle, builders)?;
     match ran(rt, opened, workers(alloc, places)) {
@@ -85,7 +86,7 @@ fn a_feature_for_each(rt: HostRuntime) {
             alloc,
             text.as_str(),
             FEATURES,
-            &[(1, 0), (2, 0), (3, 0), (4, 0)],
+            &[at(1, 0), at(2, 0), at(3, 0), at(4, 0)],
         ),
         None => None,
     };
@@ -104,7 +105,7 @@ fn groups_wait_for_one_slot(rt: HostRuntime) {
             alloc,
             text.as_str(),
             GROUPS,
-            &[(1, 0), (2, 0), (2, 1), (2, 2)],
+            &[at(1, 0), at(2, 0), at(2, 1), at(2, 2)],
         ),
         None => None,
     };

@@ -4,14 +4,14 @@ use crate::tests::parks::{close_refused, close_run, dispatch, ran, stand_at, sta
 use nd_closure::Refs;
 use nd_ledger::Dispatch;
 use nd_path::{PathSet, StorePath};
-use nd_receipts::Receipt;
+use nd_receipts::{ParkPlace, Receipt};
 use nd_run_desk::abandon;
 use nd_script::Rule;
 use nd_test_fixtures::bundles::{CHAIN, PLAIN_1, PLAIN_2, S3};
 use nd_test_fixtures::entries::told;
 use nd_test_fixtures::parks::close;
 use nd_transports::{StandIn, Transport};
-use nd_workers::{NotRun, Ran, RunEnd, RunError, Seat, Worker, run};
+use nd_workers::{NotRun, Ran, RunError, Seat};
 use std::alloc::Global;
 use std::sync::Wait;
 use std::test::Fail;
@@ -97,7 +97,7 @@ fn rule_of(alloc: Global, stand: Stand) -> Option<Rule> {
 fn push_worker(
     alloc: Global,
     seats: &mut Vec<Seat<StandIn>>,
-    place: (u32, u32),
+    place: ParkPlace,
     stand: Stand,
 ) -> Option<()> {
     let passes = match stand {
@@ -105,13 +105,11 @@ fn push_worker(
         _ => None,
     };
     let rule = rule_of(alloc, stand)?;
-    seats
-        .push(stand_at(alloc, place.0, place.1, rule, passes)?)
-        .ok()
+    seats.push(stand_at(alloc, place, rule, passes)?).ok()
 }
 
 /// Workers on these places, whose stand-ins do so; fewer where memory is wanting.
-fn workers(alloc: Global, places: &[(u32, u32)], stand: Stand) -> Vec<Seat<StandIn>> {
+fn workers(alloc: Global, places: &[ParkPlace], stand: Stand) -> Vec<Seat<StandIn>> {
     let mut seats = Vec::new(alloc);
     for place in places {
         push_worker(alloc, &mut seats, *place, stand);
@@ -119,11 +117,23 @@ fn workers(alloc: Global, places: &[(u32, u32)], stand: Stand) -> Vec<Seat<Stand
     seats
 }
 
+/// The first slot of machine 1.
+const FIRST: ParkPlace = ParkPlace {
+    machine: 1,
+    slot: 0,
+};
+
+/// The first slot of machine 2.
+const SECOND: ParkPlace = ParkPlace {
+    machine: 2,
+    slot: 0,
+};
+
 /// The one place of a park with one slot.
-const ONE: &[(u32, u32)] = &[(1, 0)];
+const ONE: &[ParkPlace] = &[FIRST];
 
 /// The places of two machines with a slot each.
-const TWO: &[(u32, u32)] = &[(1, 0), (2, 0)];
+const TWO: &[ParkPlace] = &[FIRST, SECOND];
 
 /// Whether a run ended without a fault and with these lines.
 fn is_end(alloc: Global, end: Ran<StandIn>, lines: &str) -> bool {
@@ -137,7 +147,7 @@ fn gives<R: Threads + Wait + Sync>(
     rt: &R,
     alloc: Global,
     opened: Option<Dispatch>,
-    places: &[(u32, u32)],
+    places: &[ParkPlace],
     stand: Stand,
     lines: &str,
 ) -> bool {
@@ -191,8 +201,11 @@ fn gives_receipts<R: Threads + Wait + Sync>(
 const STORED: &str =
     "chosen 0 1 0\nstarted 0 s1\nbuilt 0 o\nchosen 1 1 0\nstarted 1\nbuilt 1 o\nchosen 2 1 0\nstarted 2\nbuilt 2 o\n";
 
+/// A transport of whatever type.
+type AnyTransport = Box<dyn Transport + Send>;
+
 /// Whether a run ended with the stored run's history, and with the receipts that belong to it.
-fn is_stored(alloc: Global, end: RunEnd) -> bool {
+fn is_stored(alloc: Global, end: Ran<AnyTransport>) -> bool {
     let Ran {
         dispatch,
         workers: _,
@@ -213,11 +226,15 @@ fn is_stored(alloc: Global, end: RunEnd) -> bool {
 }
 
 /// Whether the stored run by this worker gives its history, and the receipts that belong to it.
-fn gives_stored<R: Threads + Wait + Sync>(rt: &R, alloc: Global, workers: Vec<Worker>) -> bool {
+fn gives_stored<R: Threads + Wait + Sync>(
+    rt: &R,
+    alloc: Global,
+    workers: Vec<Seat<AnyTransport>>,
+) -> bool {
     let Some(opened) = dispatch(alloc, CHAIN, "m") else {
         return false;
     };
-    match run(rt, opened, workers) {
+    match ran(rt, opened, workers) {
         Ok(end) => is_stored(alloc, end),
         Err(refused) => {
             close(refused.dispatch);
@@ -230,10 +247,9 @@ fn gives_stored<R: Threads + Wait + Sync>(rt: &R, alloc: Global, workers: Vec<Wo
 fn stored_run(rt: HostRuntime) -> Result<(), Fail> {
     let alloc = rt.alloc();
     let stand = stand_in(alloc, 1, Vec::new(alloc))?;
-    let transport: Box<dyn Transport + Send> = Box::new(alloc, stand)?;
+    let transport: AnyTransport = Box::new(alloc, stand)?;
     let worker = Seat {
-        machine: 1,
-        slot: 0,
+        place: FIRST,
         transport,
     };
     let workers = vec![in alloc; worker]?;
@@ -316,7 +332,7 @@ fn refused_run(rt: HostRuntime) {
     let alloc = rt.alloc();
     let none = workers(alloc, &[], Stand::Plain);
     assert!(rt; refuses(&rt, alloc, "m", none, RunError::Slots));
-    let twice = workers(alloc, &[(1, 0), (1, 0)], Stand::Plain);
+    let twice = workers(alloc, &[FIRST, FIRST], Stand::Plain);
     assert!(rt; refuses(&rt, alloc, "m", twice, RunError::Slots));
     let many = stands(alloc, 1025);
     assert!(rt; refuses(&rt, alloc, "m - - 1025", many, RunError::TooManySlots));

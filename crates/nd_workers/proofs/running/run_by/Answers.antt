@@ -8,13 +8,13 @@ use Rattle.nd_workers.proofs.running.run_by.Goals as goal
 
 pub returns-in-Ok-clause-receipted : goal.returns-in-Ok-clause-receipted
 returns-in-Ok-clause-receipted g c =
-    let place : Seat g.row.T.Denot → ℕ × ℕ = λ w. (w.machine, w.slot) in
+    let place : Seat g.row.T.Denot → ℕ × ℕ = λ w. w.place in
     let same : c.in-Ok.prepared.1.places.items ≡ map place c.args.workers.items = c.in-Ok.ensures.places ∙ ap (map place) c.as_slice.ensures.value in
     rw (← same) c.run_named.ensures.receipted
 
 pub returns-in-Ok-clause-fault : goal.returns-in-Ok-clause-fault
 returns-in-Ok-clause-fault g c =
-    let place : Seat g.row.T.Denot → ℕ × ℕ = λ w. (w.machine, w.slot) in
+    let place : Seat g.row.T.Denot → ℕ × ℕ = λ w. w.place in
     let same : c.in-Ok.prepared.1.places.items ≡ map place c.args.workers.items = c.in-Ok.ensures.places ∙ ap (map place) c.as_slice.ensures.value in
     rw (← same) c.run_named.ensures.fault
 

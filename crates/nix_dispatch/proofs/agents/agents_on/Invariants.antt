@@ -1,5 +1,5 @@
 use Rattle.std.proofs.Common.{◌≡◌, map}
 use Rattle.nix_dispatch.proofs.agents.agents_on.Given as goal
 
-abbrev pub invariant-loop-machine : goal.invariant-loop-machine
-invariant-loop-machine g l = map (λ w. (w.machine, w.slot)) l.seats.items ≡ l.yielded
+abbrev pub invariant-loop-place : goal.invariant-loop-place
+invariant-loop-place g l = map (λ w. w.place) l.seats.items ≡ l.yielded

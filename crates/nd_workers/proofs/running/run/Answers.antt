@@ -1,4 +1,4 @@
-use Rattle.nd_workers.proofs.running.run_with.Goals as goal
+use Rattle.nd_workers.proofs.running.run.Goals as goal
 
 pub returns-in-Ok-clause-receipted : goal.returns-in-Ok-clause-receipted
 returns-in-Ok-clause-receipted g c = c.in-Ok.ensures.receipted

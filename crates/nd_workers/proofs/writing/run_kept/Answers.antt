@@ -1,6 +1,6 @@
 use Rattle.std.proofs.Common.{refl}
 use Rattle.std.proofs.lemmas.Result.{IfOk-weaker}
-use Rattle.nd_workers.proofs.writing.run_kept_with.Goals as goal
+use Rattle.nd_workers.proofs.writing.run_kept.Goals as goal
 
 pub returns-clause-written : goal.returns-clause-written
 returns-clause-written g c = IfOk-weaker c.run_by.result _ _ (λ e h. h.written refl) c.run_by.ensures.written
