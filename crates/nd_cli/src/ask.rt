@@ -44,17 +44,8 @@ pub fn ask_engine<R: Read, W: Write>(
     ensures untouched { IfErr result (λ e. is_write_fault e ≡ false → output.new ≡ output.old) }
     ensures partly { IfErr result (LeavesAsk options.now R.remaining input.old input.new W.contents output.old output.new) }
 {
-    let text = match read_input(alloc, input) {
-        Ok(text) => text,
-        Err(fault) => return Err(fault),
-    };
-    let park = match read_park(rt, alloc, options, text.as_slice()) {
-        Ok(park) => park,
-        Err(fault) => {
-            drop(text);
-            return Err(fault);
-        }
-    };
+    let text = read_input(alloc, input)?;
+    let park = read_park(rt, alloc, options, text.as_slice())?;
     drop(text);
     let written = write_replies(
         alloc,

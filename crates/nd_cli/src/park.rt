@@ -48,10 +48,8 @@ pub fn read_park(
     ensures refused { IfErr result (IsParkFault options.now text.now) }
     ensures exactly { AnswersAcceptedPark options.now text.now result }
 {
-    let graph = match read_graph(rt, alloc, options, text) {
-        Ok(graph) => graph,
-        Err(fault) => return Err(fault),
-    };
+    let graph = read_graph(rt, alloc, options, text)?;
+    // For the proof: what was read before a refusal is let go by calls, and not in each goal of that exit.
     let machines = match read_builders(alloc, options) {
         Ok(machines) => machines,
         Err(fault) => {

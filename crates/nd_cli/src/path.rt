@@ -40,10 +40,8 @@ pub fn path_engine<R: Read, W: Write>(
     ensures exactly { (text path : List ℕ) → R.remaining input.old.device ≡ Some text → HasPath name.now text path → RefusesNoInput result }
     ensures untouched { IfErr result (λ e. is_write_fault e ≡ false → output.new ≡ output.old) }
 {
-    let text = match read_input(alloc, input) {
-        Ok(text) => text,
-        Err(fault) => return Err(fault),
-    };
+    let text = read_input(alloc, input)?;
+    // For the proof: with `?` the search doesn't find that the path is the one that is written.
     let path = match derivation_path(alloc, name, text.as_slice()) {
         Ok(path) => path,
         Err(fault) => {

@@ -19,7 +19,11 @@ use Rattle.nd_cli.specs.Inputs.{ReadsWhole, IsReadFault, is_write_fault, is_writ
 use Rattle.nd_cli.specs.Parks.{AreSameParts, HasPark, IsParkFault, local_of}
 use Rattle.nd_cli.specs.Statuses.{exit_status}
 use Rattle.nd_cli.specs.declared.options.ParkOptions.{ParkOptions}
+use Rattle.nd_bundle.specs.declared.fault.GraphError.{GraphError}
+use Rattle.nd_closure.specs.declared.info_error.InfoError.{InfoError}
+use Rattle.nd_machines.specs.declared.machine_error.MachineError.{MachineError}
 use Rattle.nd_cli.specs.declared.fault.CliFault.{CliFault}
+use Rattle.nd_cli.specs.declared.fault.Place.{Place}
 use Rattle.nd_cli.specs.declared.fault.CliFault.TheVariants.{Derivation, Drvs, Builders, Info, Script, Stand, History, TooLarge, TooManySlots, Read, Write, Memory, Thread, Receipts}
 use Rattle.nd_history.specs.Standing.{drvs_in}
 use Rattle.nd_sim.specs.declared.fault.SimFault.{SimFault}
@@ -122,6 +126,50 @@ park_read options unread left text graph machines local info read has is_local =
   has = record { park = has; local = is_local; keep_going = refl };
 }
 
+-- ---- by the faults that a reading has
+
+-- what holds of a refused read and of want of memory holds of what an input wasn't read for
+by_read : (P : CliFault → Type 0) (marked : Bool) (e : CliFault) → IsReadFault marked e → (marked ≡ true → P Read) → P Memory → P e
+by_read P marked Read fault read memory = read fault
+by_read P marked Memory fault read memory = memory
+by_read P marked (Derivation e) fault read memory = absurd fault
+by_read P marked (Drvs e) fault read memory = absurd fault
+by_read P marked (Builders e) fault read memory = absurd fault
+by_read P marked (Info e) fault read memory = absurd fault
+by_read P marked (Script e) fault read memory = absurd fault
+by_read P marked (Stand e) fault read memory = absurd fault
+by_read P marked (History e) fault read memory = absurd fault
+by_read P marked (TooLarge place) fault read memory = absurd fault
+by_read P marked Write fault read memory = absurd fault
+by_read P marked TooManySlots fault read memory = absurd fault
+by_read P marked Thread fault read memory = absurd fault
+by_read P marked Receipts fault read memory = absurd fault
+
+-- none of the three readers of a park
+neither : {A B C X : Type 0} → ⊥ ⊎ ((A × ⊥) ⊎ (B × C × ⊥)) → X
+neither (inl a) = absurd a
+neither (inr (inl b)) = absurd b.1
+neither (inr (inr c)) = absurd c.2
+
+-- what holds of each refusal of a park and of want of memory holds of what a park was refused for
+by_park : (P : CliFault → Type 0) (options : ParkOptions) (text : List ℕ) (e : CliFault) → IsParkFault options text e
+    → ((f : GraphError) → IsParkFault options text (Drvs f) → P (Drvs f)) → ((f : MachineError) → IsParkFault options text (Builders f) → P (Builders f))
+    → ((f : InfoError) → IsParkFault options text (Info f) → P (Info f)) → ((place : Place) → IsParkFault options text (TooLarge place) → P (TooLarge place)) → P Memory → P e
+by_park P options text (Drvs f) fault drvs builders info large memory = drvs f fault
+by_park P options text (Builders f) fault drvs builders info large memory = builders f fault
+by_park P options text (Info f) fault drvs builders info large memory = info f fault
+by_park P options text (TooLarge place) fault drvs builders info large memory = large place fault
+by_park P options text Memory fault drvs builders info large memory = memory
+by_park P options text (Derivation f) fault drvs builders info large memory = neither fault
+by_park P options text (Script f) fault drvs builders info large memory = neither fault
+by_park P options text (Stand f) fault drvs builders info large memory = neither fault
+by_park P options text (History f) fault drvs builders info large memory = neither fault
+by_park P options text Read fault drvs builders info large memory = neither fault
+by_park P options text Write fault drvs builders info large memory = neither fault
+by_park P options text TooManySlots fault drvs builders info large memory = neither fault
+by_park P options text Thread fault drvs builders info large memory = neither fault
+by_park P options text Receipts fault drvs builders info large memory = neither fault
+
 -- ---- a simulation
 
 pub sim_given : {R : Type 0} (options : ParkOptions) (script : List ℕ) (remaining : R → Option (List ℕ)) (reader reader_after : Watched R) (text : List ℕ) (dispatch : World) (commands : List Command) → ReadsWhole (remaining reader.device) (remaining reader_after.device) text
@@ -156,37 +204,15 @@ sim_begun options script remaining reader reader_after contents writer writer_af
 -- the input wasn't read
 pub sim_unread : {R : Type 0} (options : ParkOptions) (script : List ℕ) (remaining : R → Option (List ℕ)) (reader reader_after : Watched R) (writer_marked : Bool) (e : CliFault) → IsReadFault reader_after.is_marked e
     → IsSimFault options script remaining reader reader_after writer_marked e
-sim_unread options script remaining reader reader_after writer_marked (Derivation e) fault = absurd fault
-sim_unread options script remaining reader reader_after writer_marked (Drvs e) fault = absurd fault
-sim_unread options script remaining reader reader_after writer_marked (Builders e) fault = absurd fault
-sim_unread options script remaining reader reader_after writer_marked (Info e) fault = absurd fault
-sim_unread options script remaining reader reader_after writer_marked (Script e) fault = absurd fault
-sim_unread options script remaining reader reader_after writer_marked (History e) fault = absurd fault
-sim_unread options script remaining reader reader_after writer_marked (TooLarge place) fault = absurd fault
-sim_unread options script remaining reader reader_after writer_marked Read fault = fault
-sim_unread options script remaining reader reader_after writer_marked Write fault = absurd fault
-sim_unread options script remaining reader reader_after writer_marked (Stand e) fault = absurd fault
-sim_unread options script remaining reader reader_after writer_marked TooManySlots fault = absurd fault
-sim_unread options script remaining reader reader_after writer_marked Thread fault = absurd fault
-sim_unread options script remaining reader reader_after writer_marked Receipts fault = absurd fault
-sim_unread options script remaining reader reader_after writer_marked Memory fault = tt
+sim_unread options script remaining reader reader_after writer_marked e fault =
+    by_read (IsSimFault options script remaining reader reader_after writer_marked) reader_after.is_marked e fault (λ marked. marked) tt
 
 pub sim_park_refused : {R : Type 0} (options : ParkOptions) (script : List ℕ) (remaining : R → Option (List ℕ)) (reader reader_after : Watched R) (writer_marked : Bool) (text : List ℕ) (e : CliFault) → ReadsWhole (remaining reader.device) (remaining reader_after.device) text
     → IsParkFault options text e → IsSimFault options script remaining reader reader_after writer_marked e
-sim_park_refused options script remaining reader reader_after writer_marked text (Derivation e) read fault = elim fault [ inl a ↦ absurd a | inr b ↦ elim b [ inl c ↦ absurd c.1 | inr d ↦ absurd d.2 ] ]
-sim_park_refused options script remaining reader reader_after writer_marked text (Drvs e) read fault = record { text = text; read = read; refused = fault }
-sim_park_refused options script remaining reader reader_after writer_marked text (Builders e) read fault = record { text = text; read = read; refused = fault }
-sim_park_refused options script remaining reader reader_after writer_marked text (Info e) read fault = record { text = text; read = read; refused = fault }
-sim_park_refused options script remaining reader reader_after writer_marked text (Script e) read fault = elim fault [ inl a ↦ absurd a | inr b ↦ elim b [ inl c ↦ absurd c.1 | inr d ↦ absurd d.2 ] ]
-sim_park_refused options script remaining reader reader_after writer_marked text (History e) read fault = elim fault [ inl a ↦ absurd a | inr b ↦ elim b [ inl c ↦ absurd c.1 | inr d ↦ absurd d.2 ] ]
-sim_park_refused options script remaining reader reader_after writer_marked text (TooLarge place) read fault = inl (record { text = text; read = read; refused = fault })
-sim_park_refused options script remaining reader reader_after writer_marked text Read read fault = elim fault [ inl a ↦ absurd a | inr b ↦ elim b [ inl c ↦ absurd c.1 | inr d ↦ absurd d.2 ] ]
-sim_park_refused options script remaining reader reader_after writer_marked text Write read fault = elim fault [ inl a ↦ absurd a | inr b ↦ elim b [ inl c ↦ absurd c.1 | inr d ↦ absurd d.2 ] ]
-sim_park_refused options script remaining reader reader_after writer_marked text (Stand e) read fault = elim fault [ inl a ↦ absurd a | inr b ↦ elim b [ inl c ↦ absurd c.1 | inr d ↦ absurd d.2 ] ]
-sim_park_refused options script remaining reader reader_after writer_marked text TooManySlots read fault = elim fault [ inl a ↦ absurd a | inr b ↦ elim b [ inl c ↦ absurd c.1 | inr d ↦ absurd d.2 ] ]
-sim_park_refused options script remaining reader reader_after writer_marked text Thread read fault = elim fault [ inl a ↦ absurd a | inr b ↦ elim b [ inl c ↦ absurd c.1 | inr d ↦ absurd d.2 ] ]
-sim_park_refused options script remaining reader reader_after writer_marked text Receipts read fault = elim fault [ inl a ↦ absurd a | inr b ↦ elim b [ inl c ↦ absurd c.1 | inr d ↦ absurd d.2 ] ]
-sim_park_refused options script remaining reader reader_after writer_marked text Memory read fault = tt
+sim_park_refused options script remaining reader reader_after writer_marked text e read fault =
+    by_park (IsSimFault options script remaining reader reader_after writer_marked) options text e fault (λ f refused. record { text = text; read = read; refused = refused })
+    (λ f refused. record { text = text; read = read; refused = refused }) (λ f refused. record { text = text; read = read; refused = refused })
+    (λ place refused. inl (record { text = text; read = read; refused = refused })) tt
 
 pub script_fault : {R : Type 0} (options : ParkOptions) (script : List ℕ) (remaining : R → Option (List ℕ)) (reader reader_after : Watched R) (writer_marked : Bool) (text : List ℕ) (dispatch : World) (e : CliFault) → ReadsWhole (remaining reader.device) (remaining reader_after.device) text
     → IsOpened options text dispatch → IsScriptFault dispatch.inputs script e → IsSimFault options script remaining reader reader_after writer_marked e
@@ -294,37 +320,15 @@ audit_begun options history remaining reader reader_after contents writer writer
 
 pub audit_unread : {R : Type 0} (options : ParkOptions) (history : List ℕ) (remaining : R → Option (List ℕ)) (reader reader_after : Watched R) (writer_marked : Bool) (e : CliFault) → IsReadFault reader_after.is_marked e
     → IsAuditFault options history remaining reader reader_after writer_marked e
-audit_unread options history remaining reader reader_after writer_marked (Derivation e) fault = absurd fault
-audit_unread options history remaining reader reader_after writer_marked (Drvs e) fault = absurd fault
-audit_unread options history remaining reader reader_after writer_marked (Builders e) fault = absurd fault
-audit_unread options history remaining reader reader_after writer_marked (Info e) fault = absurd fault
-audit_unread options history remaining reader reader_after writer_marked (Script e) fault = absurd fault
-audit_unread options history remaining reader reader_after writer_marked (History e) fault = absurd fault
-audit_unread options history remaining reader reader_after writer_marked (TooLarge place) fault = absurd fault
-audit_unread options history remaining reader reader_after writer_marked Read fault = fault
-audit_unread options history remaining reader reader_after writer_marked Write fault = absurd fault
-audit_unread options history remaining reader reader_after writer_marked (Stand e) fault = absurd fault
-audit_unread options history remaining reader reader_after writer_marked TooManySlots fault = absurd fault
-audit_unread options history remaining reader reader_after writer_marked Thread fault = absurd fault
-audit_unread options history remaining reader reader_after writer_marked Receipts fault = absurd fault
-audit_unread options history remaining reader reader_after writer_marked Memory fault = tt
+audit_unread options history remaining reader reader_after writer_marked e fault =
+    by_read (IsAuditFault options history remaining reader reader_after writer_marked) reader_after.is_marked e fault (λ marked. marked) tt
 
 pub audit_park_refused : {R : Type 0} (options : ParkOptions) (history : List ℕ) (remaining : R → Option (List ℕ)) (reader reader_after : Watched R) (writer_marked : Bool) (text : List ℕ) (e : CliFault) → ReadsWhole (remaining reader.device) (remaining reader_after.device) text
     → IsParkFault options text e → IsAuditFault options history remaining reader reader_after writer_marked e
-audit_park_refused options history remaining reader reader_after writer_marked text (Derivation e) read fault = elim fault [ inl a ↦ absurd a | inr b ↦ elim b [ inl c ↦ absurd c.1 | inr d ↦ absurd d.2 ] ]
-audit_park_refused options history remaining reader reader_after writer_marked text (Drvs e) read fault = record { text = text; read = read; refused = fault }
-audit_park_refused options history remaining reader reader_after writer_marked text (Builders e) read fault = record { text = text; read = read; refused = fault }
-audit_park_refused options history remaining reader reader_after writer_marked text (Info e) read fault = record { text = text; read = read; refused = fault }
-audit_park_refused options history remaining reader reader_after writer_marked text (Script e) read fault = elim fault [ inl a ↦ absurd a | inr b ↦ elim b [ inl c ↦ absurd c.1 | inr d ↦ absurd d.2 ] ]
-audit_park_refused options history remaining reader reader_after writer_marked text (History e) read fault = elim fault [ inl a ↦ absurd a | inr b ↦ elim b [ inl c ↦ absurd c.1 | inr d ↦ absurd d.2 ] ]
-audit_park_refused options history remaining reader reader_after writer_marked text (TooLarge place) read fault = inl (record { text = text; read = read; refused = fault })
-audit_park_refused options history remaining reader reader_after writer_marked text Read read fault = elim fault [ inl a ↦ absurd a | inr b ↦ elim b [ inl c ↦ absurd c.1 | inr d ↦ absurd d.2 ] ]
-audit_park_refused options history remaining reader reader_after writer_marked text Write read fault = elim fault [ inl a ↦ absurd a | inr b ↦ elim b [ inl c ↦ absurd c.1 | inr d ↦ absurd d.2 ] ]
-audit_park_refused options history remaining reader reader_after writer_marked text (Stand e) read fault = elim fault [ inl a ↦ absurd a | inr b ↦ elim b [ inl c ↦ absurd c.1 | inr d ↦ absurd d.2 ] ]
-audit_park_refused options history remaining reader reader_after writer_marked text TooManySlots read fault = elim fault [ inl a ↦ absurd a | inr b ↦ elim b [ inl c ↦ absurd c.1 | inr d ↦ absurd d.2 ] ]
-audit_park_refused options history remaining reader reader_after writer_marked text Thread read fault = elim fault [ inl a ↦ absurd a | inr b ↦ elim b [ inl c ↦ absurd c.1 | inr d ↦ absurd d.2 ] ]
-audit_park_refused options history remaining reader reader_after writer_marked text Receipts read fault = elim fault [ inl a ↦ absurd a | inr b ↦ elim b [ inl c ↦ absurd c.1 | inr d ↦ absurd d.2 ] ]
-audit_park_refused options history remaining reader reader_after writer_marked text Memory read fault = tt
+audit_park_refused options history remaining reader reader_after writer_marked text e read fault =
+    by_park (IsAuditFault options history remaining reader reader_after writer_marked) options text e fault (λ f refused. record { text = text; read = read; refused = refused })
+    (λ f refused. record { text = text; read = read; refused = refused }) (λ f refused. record { text = text; read = read; refused = refused })
+    (λ place refused. inl (record { text = text; read = read; refused = refused })) tt
 
 pub history_fault : {R : Type 0} (options : ParkOptions) (history : List ℕ) (remaining : R → Option (List ℕ)) (reader reader_after : Watched R) (writer_marked : Bool) (text : List ℕ) (graph : Nodes) (machines : List Builder) (local : Settings) (info : List (List ℕ × List (List ℕ)))
     (e : CliFault) → ReadsWhole (remaining reader.device) (remaining reader_after.device) text → HasPark options text graph machines info → local ≡ local_of options → IsHistoryFault history e

@@ -81,13 +81,21 @@ abbrev pub LeavesSim : {R W : Type 0} → ParkOptions → List ℕ → (R → Op
 LeavesSim options script remaining reader reader_after contents writer writer_after e =
     may_have_begun e ≡ true → (contents writer_after.device ≡ contents writer.device) ⊎ AnswersSimInPart options script remaining reader reader_after contents writer writer_after
 
+-- what these commands do on a dispatch over these inputs, was written, and the answer is this status
+abbrev pub Simulates : {W : Type 0} → Premises → List Command → ℕ → (W → Option (List ℕ)) → Watched W → Watched W → Type 0
+Simulates i commands status contents writer writer_after = WritesSimulation i commands status (contents writer.device) (contents writer_after.device)
+
+-- .. or its beginning
+abbrev pub SimulatesPart : {W : Type 0} → Premises → List Command → (W → Option (List ℕ)) → Watched W → Watched W → Type 0
+SimulatesPart i commands contents writer writer_after = WritesSimulationPart i commands (contents writer.device) (contents writer_after.device)
+
 -- what the commands that were given do on the dispatch that was given, was written
 abbrev pub WritesGiven : {W : Type 0} → SimInputs → ℕ → (W → Option (List ℕ)) → Watched W → Watched W → Type 0
-WritesGiven given status contents writer writer_after = WritesSimulation given.dispatch.inputs given.commands.items status (contents writer.device) (contents writer_after.device)
+WritesGiven given status contents writer writer_after = Simulates given.dispatch.inputs given.commands.items status contents writer writer_after
 
 -- .. or its beginning
 abbrev pub WritesGivenPart : {W : Type 0} → SimInputs → (W → Option (List ℕ)) → Watched W → Watched W → Type 0
-WritesGivenPart given contents writer writer_after = WritesSimulationPart given.dispatch.inputs given.commands.items (contents writer.device) (contents writer_after.device)
+WritesGivenPart given contents writer writer_after = SimulatesPart given.dispatch.inputs given.commands.items contents writer writer_after
 
 -- ---- accepted inputs
 

@@ -50,10 +50,7 @@ pub fn audit_engine<R: Read, W: Write>(
     ensures untouched { IfErr result (λ e. is_write_fault e ≡ false → output.new ≡ output.old) }
     ensures partly { IfErr result (LeavesAudit options.now history.now R.remaining input.old input.new W.contents output.old output.new) }
 {
-    let given = match read_audit_inputs(rt, alloc, options, history, input) {
-        Ok(given) => given,
-        Err(fault) => return Err(fault),
-    };
+    let given = read_audit_inputs(rt, alloc, options, history, input)?;
     match write_verdict(alloc, given.park, options.keep_going, given.entries, output) {
         Ok(status) => Ok(status),
         Err(fault) => Err(fault),

@@ -27,10 +27,7 @@ pub fn open_dispatch(
     ensures refused { IfErr result (IsParkFault options.now text.now) }
     ensures exactly { (inputs : Premises) → HasInputs options.now text.now inputs → OkUnlessMemory result (λ dispatch. dispatch.inputs ≡ inputs) }
 {
-    let park = match read_park(rt, alloc, options, text) {
-        Ok(park) => park,
-        Err(fault) => return Err(fault),
-    };
+    let park = read_park(rt, alloc, options, text)?;
     match Dispatch::new(
         alloc,
         park.graph,

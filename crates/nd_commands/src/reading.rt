@@ -57,14 +57,8 @@ pub(crate) fn read_sim_inputs<R: Read>(
     ensures exactly { (text : List ℕ) → R.remaining input.old.device ≡ Some text → IsSimAccepted options.now text script.now → RefusesNoInput result }
     ensures fault { IfErr result (λ e. (writer_marked : Bool) → IsSimFault options.now script.now R.remaining input.old input.new writer_marked e) }
 {
-    let text = match read_input(alloc, input) {
-        Ok(text) => text,
-        Err(fault) => return Err(fault),
-    };
-    let dispatch = match open_dispatch(rt, alloc, options, text.as_slice()) {
-        Ok(dispatch) => dispatch,
-        Err(fault) => return Err(fault),
-    };
+    let text = read_input(alloc, input)?;
+    let dispatch = open_dispatch(rt, alloc, options, text.as_slice())?;
     match read_script(alloc, &dispatch, script) {
         Ok(commands) => Ok(SimInputs { dispatch, commands }),
         Err(fault) => {
@@ -95,17 +89,8 @@ pub(crate) fn read_audit_inputs<R: Read>(
     ensures exactly { (text : List ℕ) → R.remaining input.old.device ≡ Some text → IsAuditAccepted options.now text history.now → RefusesNoInput result }
     ensures fault { IfErr result (λ e. (writer_marked : Bool) → IsAuditFault options.now history.now R.remaining input.old input.new writer_marked e) }
 {
-    let text = match read_input(alloc, input) {
-        Ok(text) => text,
-        Err(fault) => return Err(fault),
-    };
-    let park = match read_park(rt, alloc, options, text.as_slice()) {
-        Ok(park) => park,
-        Err(fault) => return Err(fault),
-    };
-    let entries = match read_entries(alloc, history) {
-        Ok(entries) => entries,
-        Err(fault) => return Err(fault),
-    };
+    let text = read_input(alloc, input)?;
+    let park = read_park(rt, alloc, options, text.as_slice())?;
+    let entries = read_entries(alloc, history)?;
     Ok(AuditInputs { park, entries })
 }

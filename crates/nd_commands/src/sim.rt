@@ -45,10 +45,7 @@ pub fn sim_engine<R: Read, W: Write>(
     ensures untouched { IfErr result (λ e. may_have_begun e ≡ false → output.new ≡ output.old) }
     ensures partly { IfErr result (LeavesSim options.now script.now R.remaining input.old input.new W.contents output.old output.new) }
 {
-    let given = match read_sim_inputs(rt, alloc, options, script, input) {
-        Ok(given) => given,
-        Err(fault) => return Err(fault),
-    };
+    let given = read_sim_inputs(rt, alloc, options, script, input)?;
     match perform(alloc, given, output) {
         Ok(status) => Ok(status),
         Err(SimFault::Write) => Err(CliFault::Write),

@@ -4,7 +4,8 @@ ghost use Rattle.std.specs.Prelude.{◌≡◌, ◌||◌, [], reverse, IfOk, IfEr
 ghost use Rattle.std.specs.List.{All};
 ghost use Rattle.nd_history.specs.Statuses.{IsExitStatus};
 ghost use Rattle.nd_sim.specs.Answers.{IsNamed};
-ghost use Rattle.nd_sim.specs.Written.{WritesSimulation, WritesSimulationPart, is_write_failure};
+ghost use Rattle.nd_sim.specs.Written.{is_write_failure};
+ghost use Rattle.nd_commands.specs.Simulated.{Simulates, SimulatesPart};
 
 use nd_devices::{Fault, Told, WriteError};
 use nd_ledger::Dispatch;
@@ -30,8 +31,8 @@ pub(crate) fn simulate<W: io::Write>(
     requires begun { dispatch.old.history ≡ [] }
     requires named { All (IsNamed dispatch.old.inputs) commands.items }
     ensures inputs { dispatch.new.inputs ≡ dispatch.old.inputs }
-    ensures written { IfOk result (λ status. WritesSimulation dispatch.old.inputs commands.items status (W.contents out.old.device) (W.contents out.new.device)) }
-    ensures partly { OnErr result (WritesSimulationPart dispatch.old.inputs commands.items (W.contents out.old.device) (W.contents out.new.device)) }
+    ensures written { IfOk result (λ status. Simulates dispatch.old.inputs commands.items status W.contents out.old out.new) }
+    ensures partly { OnErr result (SimulatesPart dispatch.old.inputs commands.items W.contents out.old out.new) }
     ensures mark { out.new.is_marked ≡ (out.old.is_marked || is_write_failure result) }
 {
     let answer = play(alloc, dispatch, commands, out);
@@ -51,14 +52,11 @@ fn play<W: io::Write>(
     requires begun { dispatch.old.history ≡ [] }
     requires named { All (IsNamed dispatch.old.inputs) commands.items }
     ensures inputs { dispatch.new.inputs ≡ dispatch.old.inputs }
-    ensures written { IfOk result (λ status. WritesSimulation dispatch.old.inputs commands.items status (W.contents out.old.device) (W.contents out.new.device)) }
-    ensures partly { OnErr result (WritesSimulationPart dispatch.old.inputs commands.items (W.contents out.old.device) (W.contents out.new.device)) }
+    ensures written { IfOk result (λ status. Simulates dispatch.old.inputs commands.items status W.contents out.old out.new) }
+    ensures partly { OnErr result (SimulatesPart dispatch.old.inputs commands.items W.contents out.old out.new) }
     ensures mark { out.new.is_marked ≡ (out.old.is_marked || is_write_failure result) }
 {
-    match take_turns(alloc, dispatch, commands, out) {
-        Ok(()) => {}
-        Err(fault) => return Err(fault),
-    }
+    take_turns(alloc, dispatch, commands, out)?;
     match write_report(dispatch, out) {
         Ok(()) => Ok(exit_status(dispatch)),
         Err(WriteError::Write) => Err(SimFault::Write),

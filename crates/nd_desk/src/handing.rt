@@ -18,14 +18,8 @@ pub fn hand_over<D: Desk>(lines: &[u8], answer: &[u8], desk: &mut D) -> Result<(
     ensures done { OnOk result (Notes (D.seen desk.old) (D.seen desk.new) (handed lines.now answer.now)) }
     ensures partly { IfErr result (HandsPart (D.seen desk.old) (D.seen desk.new) lines.now answer.now) }
 {
-    match keep(lines, desk) {
-        Ok(()) => {}
-        Err(fault) => return Err(fault),
-    }
-    match say(answer, desk) {
-        Ok(()) => Ok(()),
-        Err(fault) => Err(fault),
-    }
+    keep(lines, desk)?;
+    say(answer, desk)
 }
 
 /// Appends lines to the journal and makes them durable, where there are some.

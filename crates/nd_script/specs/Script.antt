@@ -4,6 +4,7 @@ use Rattle.std.specs.Prelude.{◌≡◌, ℕ, List, []}
 use Rattle.nd_script.specs.declared.command.Command.{Command}
 use Rattle.nd_script.specs.declared.verb.Verb.{Verb}
 use Rattle.nd_script.specs.declared.verb.Verb.TheVariants.{Start, StartWith, Built, Fail, Lose, Down, Stop, Drain, Enable, Ask}
+use Rattle.nd_bytes.specs.Lines.{lines_of}
 use Rattle.nd_script.specs.Words.{Begins, IsSetOf}
 use Rattle.nd_script.specs.Verbs.{verb_of}
 use Rattle.nd_script.specs.Calls.{IsCallWith, IsStatusCall, IsBuiltCall}
@@ -48,6 +49,10 @@ IsLine drvs machines = IsLineOf verb_of (IsSaid drvs machines)
 -- the commands of a script, one for each line
 abbrev pub AreCommands : ℕ → ℕ → List (List ℕ) → List Command → Type 0
 AreCommands drvs machines lines commands = AreItems (IsLine drvs machines) lines commands
+
+-- a text is the script of these commands
+abbrev pub IsScript : ℕ → ℕ → List ℕ → List Command → Type 0
+IsScript drvs machines text commands = AreCommands drvs machines (lines_of text) commands
 
 -- a script is refused for its first bad line, and at any point for want of memory
 abbrev pub IsRefused : ℕ → ℕ → List ℕ → ScriptError → Type 0

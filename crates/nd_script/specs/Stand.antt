@@ -2,6 +2,7 @@
 -- Public clauses cite this.
 use Rattle.std.specs.Prelude.{ℕ, List, [], codes, if◌then◌else◌, Option, None, Some}
 use Rattle.nd_bytes.specs.Compared.{bytes_eq}
+use Rattle.nd_bytes.specs.Lines.{lines_of}
 use Rattle.nd_script.specs.declared.rule.Rule.{Rule}
 use Rattle.nd_script.specs.declared.topic.Topic.{Topic}
 use Rattle.nd_script.specs.declared.topic.Topic.TheVariants.{NoConnect, NoCopy, Fail, Lose, Built}
@@ -45,6 +46,10 @@ IsRuleLine drvs machines = IsLineOf topic_of (IsRuled drvs machines)
 -- the rules of a stand text, one for each line
 abbrev pub AreRules : ℕ → ℕ → List (List ℕ) → List Rule → Type 0
 AreRules drvs machines lines rules = AreItems (IsRuleLine drvs machines) lines rules
+
+-- a text is the stand text of these rules
+abbrev pub IsStand : ℕ → ℕ → List ℕ → List Rule → Type 0
+IsStand drvs machines text rules = AreRules drvs machines (lines_of text) rules
 
 -- a stand text is refused for its first bad line, and at any point for want of memory
 abbrev pub IsStandRefused : ℕ → ℕ → List ℕ → ScriptError → Type 0

@@ -92,10 +92,7 @@ pub(crate) fn path_set(alloc: Global, words: Option<&[u8]>) -> Result<PathSet, L
     let mut left = words;
     while let Some(bytes) = left {
         let (word, rest) = cut(bytes, b' ');
-        match path_of(alloc, word) {
-            Ok(path) => paths.push(path)?,
-            Err(fault) => return Err(fault),
-        }
+        paths.push(path_of(alloc, word)?)?;
         left = rest;
     }
     Ok(PathSet::from_vec(paths)?)
@@ -129,10 +126,7 @@ pub(crate) fn reference_lists(alloc: Global, words: Option<&[u8]>) -> Result<Ref
             sets.push(PathSet::from_vec(paths)?)?;
             paths = Vec::new(alloc);
         } else {
-            match path_of(alloc, word) {
-                Ok(path) => paths.push(path)?,
-                Err(fault) => return Err(fault),
-            }
+            paths.push(path_of(alloc, word)?)?;
         }
         left = rest;
     }

@@ -51,10 +51,7 @@ fn write_leased<W: io::Write>(
         Ok(job) => job,
         Err(_refusal) => return Err(AllocError),
     };
-    let words = match words_of(alloc, &job) {
-        Ok(words) => words,
-        Err(AllocError) => return Err(AllocError),
-    };
+    let words = words_of(alloc, &job)?;
     match write_row(&words, out) {
         Ok(()) => Ok(()),
         Err(Fault) => Err(AllocError),

@@ -38,18 +38,10 @@ pub(crate) fn prepare(
     ensures prepared { IfOk result (λ p. IsPrepared dispatch.old.inputs dispatch.old.history dispatch.new.history line.now p.answer.items p.lines.items) }
 {
     let before = dispatch.history().len();
-    let request = match request_of(alloc, dispatch, line) {
-        Ok(request) => request,
-        Err(AllocError) => return Err(AllocError),
-    };
-    let answer = match answer(alloc, dispatch, request) {
-        Ok(answer) => answer,
-        Err(AllocError) => return Err(AllocError),
-    };
-    match lines_since(alloc, &[], dispatch, before) {
-        Ok(lines) => Ok(Prepared { lines, answer }),
-        Err(AllocError) => Err(AllocError),
-    }
+    let request = request_of(alloc, dispatch, line)?;
+    let answer = answer(alloc, dispatch, request)?;
+    let lines = lines_since(alloc, &[], dispatch, before)?;
+    Ok(Prepared { lines, answer })
 }
 
 /// Takes the steps of the pump that are due, for the opening of a session.
@@ -63,14 +55,9 @@ pub(crate) fn prepare_opening(
     ensures prepared { IfOk result (λ p. PreparesOpening dispatch.old dispatch.new (first_of fresh) p.answer.items p.lines.items) }
 {
     let before = dispatch.history().len();
-    let answer = match opening_answer(alloc, dispatch) {
-        Ok(answer) => answer,
-        Err(AllocError) => return Err(AllocError),
-    };
-    match lines_since(alloc, first_bytes(fresh), dispatch, before) {
-        Ok(lines) => Ok(Prepared { lines, answer }),
-        Err(AllocError) => Err(AllocError),
-    }
+    let answer = opening_answer(alloc, dispatch)?;
+    let lines = lines_since(alloc, first_bytes(fresh), dispatch, before)?;
+    Ok(Prepared { lines, answer })
 }
 
 /// What a line asks this dispatch for.
@@ -80,10 +67,7 @@ fn request_of(alloc: Global, dispatch: &Dispatch, line: &[u8]) -> Result<Request
 {
     let drvs = dispatch.graph().len();
     let machines = dispatch.machines().len() + 1;
-    match read_request(alloc, line, drvs, machines) {
-        Ok(request) => Ok(request),
-        Err(AllocError) => Err(AllocError),
-    }
+    read_request(alloc, line, drvs, machines)
 }
 
 /// The answer to a request, with the line that ends it.
@@ -94,10 +78,7 @@ fn answer(alloc: Global, dispatch: &mut Dispatch, request: Request) -> Result<Ve
     ensures answered { IfOk result (λ v. IsAnswer dispatch.old.inputs dispatch.old.history dispatch.new.history request v.items) }
 {
     let mut out = Told::new(Vec::new(alloc));
-    match reply(alloc, dispatch, request, &mut out) {
-        Ok(()) => {}
-        Err(AllocError) => return Err(AllocError),
-    }
+    reply(alloc, dispatch, request, &mut out)?;
     end_answer(out)
 }
 

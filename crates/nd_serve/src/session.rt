@@ -38,15 +38,10 @@ pub fn serve<D: Desk>(
     ensures served { OnOk result (Serves dispatch.old.inputs dispatch.old.history dispatch.new.history (first_of fresh) (D.seen desk.old) (D.seen desk.new)) }
     ensures partly { IfErr result (ServesPart dispatch.old.inputs dispatch.old.history (first_of fresh) (D.seen desk.old) (D.seen desk.new)) }
 {
-    match open(alloc, dispatch, fresh, desk) {
-        Ok(()) => {}
-        Err(fault) => return Err(fault),
-    }
+    open(alloc, dispatch, fresh, desk)?;
     for _turn in 0..u64::MAX {
-        match take_turn(alloc, dispatch, desk) {
-            Ok(true) => {}
-            Ok(false) => return Ok(()),
-            Err(fault) => return Err(fault),
+        if !take_turn(alloc, dispatch, desk)? {
+            return Ok(());
         }
     }
     Ok(())
@@ -68,10 +63,7 @@ fn open<D: Desk>(
         Ok(prepared) => prepared,
         Err(AllocError) => return Err(SessionFault::Memory),
     };
-    match hand_over(prepared.lines.as_slice(), prepared.answer.as_slice(), desk) {
-        Ok(()) => Ok(()),
-        Err(fault) => Err(fault),
-    }
+    hand_over(prepared.lines.as_slice(), prepared.answer.as_slice(), desk)
 }
 
 /// Reads a line, does what it asks for and hands that over. It answers whether there was a line.
@@ -91,10 +83,8 @@ fn take_turn<D: Desk>(
         Err(DeskFault::Refused) => return Err(SessionFault::Read),
         Err(DeskFault::Memory) => return Err(SessionFault::Memory),
     };
-    match take_line(alloc, dispatch, line.as_slice(), desk) {
-        Ok(()) => Ok(true),
-        Err(fault) => Err(fault),
-    }
+    take_line(alloc, dispatch, line.as_slice(), desk)?;
+    Ok(true)
 }
 
 /// Does what a line asks for, and hands that over.
@@ -113,8 +103,5 @@ fn take_line<D: Desk>(
         Ok(prepared) => prepared,
         Err(AllocError) => return Err(SessionFault::Memory),
     };
-    match hand_over(prepared.lines.as_slice(), prepared.answer.as_slice(), desk) {
-        Ok(()) => Ok(()),
-        Err(fault) => Err(fault),
-    }
+    hand_over(prepared.lines.as_slice(), prepared.answer.as_slice(), desk)
 }

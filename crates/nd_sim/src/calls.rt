@@ -12,7 +12,7 @@ use nd_closure::Refs;
 use nd_history::Why;
 use nd_ledger::{Dispatch, Refusal};
 use nd_path::PathSet;
-use std::alloc::{AllocError, Global};
+use std::alloc::Global;
 
 /// `start`: the lease starts, once what its machine lacks was copied.
 #[tactic(auto, using(crate::proofs::Recording::full_start, crate::proofs::Recording::full_start_refused, crate::proofs::Recording::start_wants))]
@@ -22,14 +22,8 @@ pub(crate) fn start(alloc: Global, dispatch: &mut Dispatch, drv: u32) -> Result<
     ensures refused { IfErr result (IsRefusal dispatch.old.inputs (reverse dispatch.old.history) (Command.Start drv)) }
     ensures kept { OnErr result (dispatch.new ≡ dispatch.old) }
 {
-    let ticket = match live_ticket(dispatch, drv) {
-        Ok(ticket) => ticket,
-        Err(refusal) => return Err(refusal),
-    };
-    let paths = match lacking(alloc, dispatch, ticket) {
-        Ok(paths) => paths,
-        Err(refusal) => return Err(refusal),
-    };
+    let ticket = live_ticket(dispatch, drv)?;
+    let paths = lacking(alloc, dispatch, ticket)?;
     match dispatch.started(alloc, ticket, paths) {
         Ok(()) => Ok(Answer::Added),
         Err(refused) => Err(refused.why),
@@ -49,10 +43,7 @@ pub(crate) fn start_with(
     ensures refused { IfErr result (IsRefusal dispatch.old.inputs (reverse dispatch.old.history) (Command.StartWith drv paths)) }
     ensures kept { OnErr result (dispatch.new ≡ dispatch.old) }
 {
-    let ticket = match live_ticket(dispatch, drv) {
-        Ok(ticket) => ticket,
-        Err(refusal) => return Err(refusal),
-    };
+    let ticket = live_ticket(dispatch, drv)?;
     match dispatch.started(alloc, ticket, paths) {
         Ok(()) => Ok(Answer::Added),
         Err(refused) => Err(refused.why),
@@ -68,14 +59,8 @@ pub(crate) fn built(alloc: Global, dispatch: &mut Dispatch, drv: u32) -> Result<
     ensures refused { IfErr result (IsRefusal dispatch.old.inputs (reverse dispatch.old.history) (Command.Built drv)) }
     ensures kept { OnErr result (dispatch.new ≡ dispatch.old) }
 {
-    let ticket = match live_ticket(dispatch, drv) {
-        Ok(ticket) => ticket,
-        Err(refusal) => return Err(refusal),
-    };
-    let refs = match no_reports(alloc, dispatch, drv) {
-        Ok(refs) => refs,
-        Err(AllocError) => return Err(Refusal::Memory),
-    };
+    let ticket = live_ticket(dispatch, drv)?;
+    let refs = no_reports(alloc, dispatch, drv)?;
     match dispatch.built(alloc, ticket, refs) {
         Ok(()) => Ok(Answer::Added),
         Err(refused) => Err(refused.why),
@@ -95,10 +80,7 @@ pub(crate) fn built_with(
     ensures refused { IfErr result (IsRefusal dispatch.old.inputs (reverse dispatch.old.history) (Command.BuiltWith drv refs)) }
     ensures kept { OnErr result (dispatch.new ≡ dispatch.old) }
 {
-    let ticket = match live_ticket(dispatch, drv) {
-        Ok(ticket) => ticket,
-        Err(refusal) => return Err(refusal),
-    };
+    let ticket = live_ticket(dispatch, drv)?;
     match dispatch.built(alloc, ticket, refs) {
         Ok(()) => Ok(Answer::Added),
         Err(refused) => Err(refused.why),
@@ -113,14 +95,9 @@ pub(crate) fn fail(dispatch: &mut Dispatch, drv: u32, status: u8) -> Result<Answ
     ensures refused { IfErr result (IsRefusal dispatch.old.inputs (reverse dispatch.old.history) (Command.Fail drv status)) }
     ensures kept { OnErr result (dispatch.new ≡ dispatch.old) }
 {
-    let ticket = match live_ticket(dispatch, drv) {
-        Ok(ticket) => ticket,
-        Err(refusal) => return Err(refusal),
-    };
-    match dispatch.failed(ticket, Why::Status(status)) {
-        Ok(()) => Ok(Answer::Added),
-        Err(refusal) => Err(refusal),
-    }
+    let ticket = live_ticket(dispatch, drv)?;
+    dispatch.failed(ticket, Why::Status(status))?;
+    Ok(Answer::Added)
 }
 
 /// `lose`: the transport is lost during the build.
@@ -131,14 +108,9 @@ pub(crate) fn lose(dispatch: &mut Dispatch, drv: u32) -> Result<Answer, Refusal>
     ensures refused { IfErr result (IsRefusal dispatch.old.inputs (reverse dispatch.old.history) (Command.Lose drv)) }
     ensures kept { OnErr result (dispatch.new ≡ dispatch.old) }
 {
-    let ticket = match live_ticket(dispatch, drv) {
-        Ok(ticket) => ticket,
-        Err(refusal) => return Err(refusal),
-    };
-    match dispatch.failed(ticket, Why::Lost) {
-        Ok(()) => Ok(Answer::Added),
-        Err(refusal) => Err(refusal),
-    }
+    let ticket = live_ticket(dispatch, drv)?;
+    dispatch.failed(ticket, Why::Lost)?;
+    Ok(Answer::Added)
 }
 
 /// `down`: the lease is given back before its start.
@@ -149,14 +121,9 @@ pub(crate) fn down(dispatch: &mut Dispatch, drv: u32) -> Result<Answer, Refusal>
     ensures refused { IfErr result (IsRefusal dispatch.old.inputs (reverse dispatch.old.history) (Command.Down drv)) }
     ensures kept { OnErr result (dispatch.new ≡ dispatch.old) }
 {
-    let ticket = match live_ticket(dispatch, drv) {
-        Ok(ticket) => ticket,
-        Err(refusal) => return Err(refusal),
-    };
-    match dispatch.down(ticket) {
-        Ok(()) => Ok(Answer::Added),
-        Err(refusal) => Err(refusal),
-    }
+    let ticket = live_ticket(dispatch, drv)?;
+    dispatch.down(ticket)?;
+    Ok(Answer::Added)
 }
 
 /// `stop`: nothing more is begun.
@@ -167,10 +134,8 @@ pub(crate) fn stop(dispatch: &mut Dispatch) -> Result<Answer, Refusal>
     ensures refused { IfErr result (IsRefusal dispatch.old.inputs (reverse dispatch.old.history) Command.Stop) }
     ensures kept { OnErr result (dispatch.new ≡ dispatch.old) }
 {
-    match dispatch.stop() {
-        Ok(()) => Ok(Answer::Added),
-        Err(refusal) => Err(refusal),
-    }
+    dispatch.stop()?;
+    Ok(Answer::Added)
 }
 
 /// `drain`: the machine gets no more leases.
@@ -182,10 +147,8 @@ pub(crate) fn drain(dispatch: &mut Dispatch, machine: u32) -> Result<Answer, Ref
     ensures refused { IfErr result (IsRefusal dispatch.old.inputs (reverse dispatch.old.history) (Command.Drain machine)) }
     ensures kept { OnErr result (dispatch.new ≡ dispatch.old) }
 {
-    match dispatch.drain(machine) {
-        Ok(()) => Ok(Answer::Added),
-        Err(AllocError) => Err(Refusal::Memory),
-    }
+    dispatch.drain(machine)?;
+    Ok(Answer::Added)
 }
 
 /// `enable`: the machine gets leases again.
@@ -197,8 +160,6 @@ pub(crate) fn enable(dispatch: &mut Dispatch, machine: u32) -> Result<Answer, Re
     ensures refused { IfErr result (IsRefusal dispatch.old.inputs (reverse dispatch.old.history) (Command.Enable machine)) }
     ensures kept { OnErr result (dispatch.new ≡ dispatch.old) }
 {
-    match dispatch.enable(machine) {
-        Ok(()) => Ok(Answer::Added),
-        Err(AllocError) => Err(Refusal::Memory),
-    }
+    dispatch.enable(machine)?;
+    Ok(Answer::Added)
 }

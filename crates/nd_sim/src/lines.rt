@@ -10,9 +10,9 @@ ghost use Rattle.nd_sim.specs.Runs.{refused_line};
 ghost use Rattle.nd_sim.specs.Outcomes.{IsReplyNow};
 
 use nd_devices::{Told, WriteError};
+use nd_history_text::write_lines;
 use nd_hook::{Reply, write_reply};
 use nd_ledger::{Dispatch, Refusal};
-use nd_history_text::write_lines;
 use std::io;
 
 /// Writes the lines of the entries from the one with number `before` on, each with its newline. There are

@@ -36,15 +36,9 @@ pub fn take_turns<W: io::Write>(
     ensures partly { OnErr result (WritesSimulationPart dispatch.old.inputs commands.items (W.contents out.old.device) (W.contents out.new.device)) }
     ensures mark { out.new.is_marked ≡ (out.old.is_marked || is_write_failure result) }
 {
-    match pump(dispatch, out) {
-        Ok(()) => {}
-        Err(fault) => return Err(fault),
-    }
+    pump(dispatch, out)?;
     for command in commands {
-        match turn(alloc, dispatch, command, out) {
-            Ok(()) => {}
-            Err(fault) => return Err(fault),
-        }
+        turn(alloc, dispatch, command, out)?;
     }
     Ok(())
 }
@@ -66,14 +60,8 @@ pub fn turn<W: io::Write>(
     ensures partly { OnErr result (WritesTurnPart dispatch.old.inputs dispatch.old.history command (W.contents out.old.device) (W.contents out.new.device)) }
     ensures mark { out.new.is_marked ≡ (out.old.is_marked || is_write_failure result) }
 {
-    match act(alloc, dispatch, command, out) {
-        Ok(()) => {}
-        Err(fault) => return Err(fault),
-    }
-    match pump(dispatch, out) {
-        Ok(()) => Ok(()),
-        Err(fault) => Err(fault),
-    }
+    act(alloc, dispatch, command, out)?;
+    pump(dispatch, out)
 }
 
 /// Does what a command asks for, and writes what it came to: the line of the entry that it added, its

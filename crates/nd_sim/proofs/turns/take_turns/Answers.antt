@@ -1,5 +1,6 @@
 use Rattle.std.proofs.Common.{List, [], ◌∷◌, ◌++◌, sym, ap, subst, ◌∙◌, append_assoc, arith}
 use Rattle.std.proofs.lemmas.Grind.{common_steps}
+use Rattle.std.proofs.result.Match.{err_is}
 use Rattle.std.specs.List.{All}
 use Rattle.std.specs.Vec.Iter.{into_iter_items}
 use Rattle.std.proofs.lemmas.List.Elements.{All-head, All-rest}
@@ -17,19 +18,20 @@ turn-requires g c =
 
 pub loop-command-preserved : goal.loop-command-preserved
 loop-command-preserved g c = record {
-  inputs = c.in-Ok-turn.ensures.inputs ∙ c.loop-command.invariant.inputs;
-  written = goes_on _ _ _ _ _ _ _ _ _ c.loop-command.invariant.written c.loop-command.invariant.inputs c.in-Ok-turn.ensures.written;
+  inputs = c.in_ok-turn.ensures.inputs ∙ c.loop-command.invariant.inputs;
+  written = goes_on _ _ _ _ _ _ _ _ _ c.loop-command.invariant.written c.loop-command.invariant.inputs c.in_ok-turn.ensures.written;
   whole =
       c.loop-command.invariant.whole ∙ ap (λ (rest : List Command). c.loop-command.yielded ++ rest) c.in-Some.ensures.steps.0
       ∙ sym (append_assoc c.loop-command.yielded (c.in-Some.command ∷ []) (into_iter_items c.next.new.self));
   named =
       All-rest (IsNamed c.args.dispatch.now.inputs) c.in-Some.command (into_iter_items c.next.new.self) _ c.in-Some.ensures.steps.0
       c.loop-command.invariant.named;
-  mark = let said = c.in-Ok-turn.ensures.mark in let kept = c.loop-command.invariant.mark in grind (arith, common_steps);
+  mark = let said = c.in_ok-turn.ensures.mark in let kept = c.loop-command.invariant.mark in grind (arith, common_steps);
 }
 
-pub returns-in-Err-turn-clause-partly : goal.returns-in-Err-turn-clause-partly
-returns-in-Err-turn-clause-partly g c =
-    stops _ _ _ c.loop-command.yielded c.in-Some.command (into_iter_items c.next.new.self) _ _ _ _
+pub returns-in_err-turn-clause-partly : goal.returns-in_err-turn-clause-partly
+returns-in_err-turn-clause-partly g c =
+    rw (err_is c.from_residual-in_err-turn.result _ c.from_residual-in_err-turn.ensures.1)
+    (stops _ _ _ c.loop-command.yielded c.in-Some.command (into_iter_items c.next.new.self) _ _ _ _
     (c.loop-command.invariant.whole ∙ ap (λ (rest : List Command). c.loop-command.yielded ++ rest) c.in-Some.ensures.steps.0)
-    c.loop-command.invariant.written c.loop-command.invariant.inputs c.in-Err-turn.ensures.partly
+    c.loop-command.invariant.written c.loop-command.invariant.inputs c.in_err-turn.ensures.partly)

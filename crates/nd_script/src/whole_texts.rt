@@ -1,13 +1,15 @@
-//! Reading a script.
+//! Reading a whole text: a script, or a stand text.
 
 ghost use Rattle.std.specs.Prelude.{◌≡◌, List, IfOk, IfErr};
-ghost use Rattle.nd_bytes.specs.Lines.{lines_of};
 ghost use Rattle.nd_script.specs.declared.command.Command.{Command};
+ghost use Rattle.nd_script.specs.declared.rule.Rule.{Rule};
 ghost use Rattle.nd_script.specs.Lines.{OkUnlessMemory};
-ghost use Rattle.nd_script.specs.Script.{AreCommands, IsRefused};
+ghost use Rattle.nd_script.specs.Script.{IsRefused, IsScript};
+ghost use Rattle.nd_script.specs.Stand.{IsStand, IsStandRefused};
 
 use crate::command::Command;
 use crate::reading::read_text;
+use crate::rule::Rule;
 use crate::script_error::ScriptError;
 use std::alloc::Global;
 
@@ -30,9 +32,30 @@ pub fn parse_script(
     drvs: usize,
     machines: usize,
 ) -> Result<Vec<Command>, ScriptError>
-    ensures found { IfOk result (λ commands. AreCommands drvs machines (lines_of text.now) commands.items) }
+    ensures found { IfOk result (λ commands. IsScript drvs machines text.now commands.items) }
     ensures refused { IfErr result (IsRefused drvs machines text.now) }
-    ensures exactly { (commands : List Command) → AreCommands drvs machines (lines_of text.now) commands → OkUnlessMemory result (λ read. read.items ≡ commands) }
+    ensures exactly { (commands : List Command) → IsScript drvs machines text.now commands → OkUnlessMemory result (λ read. read.items ≡ commands) }
+{
+    read_text(alloc, text, drvs, machines)
+}
+
+/// The rules of a stand text, one for each line, of which the lines and words are as in a script
+/// ([`parse_script`]):
+///
+/// `noconnect M`, `nocopy M`, `fail D C`, `lose D`, `built D`, `built D o PATH .. o ..`
+///
+/// `built D` reports no list at all.
+///
+/// Refuses with `BadLine` (1) and `Memory` (2) as [`parse_script`] does.
+pub fn parse_stand(
+    alloc: Global,
+    text: &[u8],
+    drvs: usize,
+    machines: usize,
+) -> Result<Vec<Rule>, ScriptError>
+    ensures found { IfOk result (λ rules. IsStand drvs machines text.now rules.items) }
+    ensures refused { IfErr result (IsStandRefused drvs machines text.now) }
+    ensures exactly { (rules : List Rule) → IsStand drvs machines text.now rules → OkUnlessMemory result (λ read. read.items ≡ rules) }
 {
     read_text(alloc, text, drvs, machines)
 }

@@ -1,7 +1,7 @@
 use Rattle.nd_script.specs.declared.command.Command.{Command}
 use Rattle.nd_script.specs.Script.{IsLine}
 use Rattle.nd_script.proofs.Once.{commands_once, exactly_these}
-use Rattle.nd_script.proofs.script_text.parse_script.Goals as goal
+use Rattle.nd_script.proofs.whole_texts.parse_script.Goals as goal
 
 pub returns-clause-exactly : goal.returns-clause-exactly
 returns-clause-exactly c =

@@ -1,7 +1,7 @@
 use Rattle.nd_script.specs.declared.rule.Rule.{Rule}
 use Rattle.nd_script.specs.Stand.{IsRuleLine}
 use Rattle.nd_script.proofs.Once.{rules_once, exactly_these}
-use Rattle.nd_script.proofs.stand_text.parse_stand.Goals as goal
+use Rattle.nd_script.proofs.whole_texts.parse_stand.Goals as goal
 
 pub returns-clause-exactly : goal.returns-clause-exactly
 returns-clause-exactly c =
