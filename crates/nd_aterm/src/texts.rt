@@ -120,10 +120,7 @@ fn parts_at(alloc: Global, bytes: &[u8]) -> Result<(PartsView<'_>, &[u8]), Aterm
     let Some(rest) = behind_word(bytes) else {
         return Err(AtermError::NotDerivation);
     };
-    let (paths, rest) = match paths_at(alloc, rest) {
-        Ok(found) => found,
-        Err(fault) => return Err(fault),
-    };
+    let (paths, rest) = paths_at(alloc, rest)?;
     match command_at(alloc, rest) {
         Ok((command, rest)) => Ok((join(paths, command), rest)),
         Err(fault) => {
@@ -181,10 +178,7 @@ pub fn parse(alloc: Global, bytes: &[u8]) -> Result<Derivation, AtermError>
     ensures refused { IfErr result (IsRefused bytes.now) }
     ensures too_long { text_limit < length bytes.now → result ≡ Err AtermError.TooLong }
 {
-    let view = match parse_view(alloc, bytes) {
-        Ok(view) => view,
-        Err(fault) => return Err(fault),
-    };
+    let view = parse_view(alloc, bytes)?;
     let parts = view.into_parts(alloc)?;
     Ok(Derivation { parts })
 }

@@ -98,10 +98,7 @@ fn line_first<'t>(
     let Some(rest) = rest else {
         return Err(LineError::Bad);
     };
-    let entry = match line_alone(alloc, version, line, pool) {
-        Ok(found) => found,
-        Err(fault) => return Err(fault),
-    };
+    let entry = line_alone(alloc, version, line, pool)?;
     Ok((entry, rest))
 }
 
@@ -121,10 +118,7 @@ fn line_alone<'t>(
     let Some(kind) = kind_first(word) else {
         return Err(LineError::Bad);
     };
-    let entry = match entry_alone(alloc, kind, left, pool) {
-        Ok(found) => found,
-        Err(fault) => return Err(fault),
-    };
+    let entry = entry_alone(alloc, kind, left, pool)?;
     if !is_told(version, &entry) {
         return Err(LineError::Bad);
     }
@@ -231,10 +225,7 @@ fn started<'t>(
     let Some((drv, left)) = number_first(left) else {
         return Err(LineError::Bad);
     };
-    let (paths, rest) = match paths_first(alloc, left, pool) {
-        Ok(found) => found,
-        Err(fault) => return Err(fault),
-    };
+    let (paths, rest) = paths_first(alloc, left, pool)?;
     match rest {
         None => Ok(Entry::Started { drv, paths }),
         Some(_) => Err(LineError::Bad),
@@ -255,10 +246,7 @@ fn built<'t>(
     let Some((drv, left)) = number_first(left) else {
         return Err(LineError::Bad);
     };
-    let refs = match outputs(alloc, left, pool) {
-        Ok(found) => found,
-        Err(fault) => return Err(fault),
-    };
+    let refs = outputs(alloc, left, pool)?;
     Ok(Entry::Built { drv, refs })
 }
 

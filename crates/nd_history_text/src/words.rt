@@ -171,10 +171,7 @@ pub(crate) fn paths_first<'t>(
     ensures refused { IfErr result (λ e. Refuses e
         ((paths rest : List (List ℕ)) → ArePathsFirst (words_left left.entry) paths rest → ⊥)) }
 {
-    let (paths, rest) = match path_words(alloc, left, pool) {
-        Ok(found) => found,
-        Err(fault) => return Err(fault),
-    };
+    let (paths, rest) = path_words(alloc, left, pool)?;
     if !is_rising(paths.as_slice()) {
         return Err(LineError::Bad);
     }
@@ -198,13 +195,8 @@ fn path_words<'t>(
     let mut paths: Vec<StorePath> = Vec::new(alloc);
     let mut rest = left;
     while let Some((word, behind)) = word_before_end(rest) {
-        match push_path(alloc, word, pool, &mut paths) {
-            Ok(()) => rest = behind,
-            Err(fault) => {
-                drop(paths);
-                return Err(fault);
-            }
-        }
+        push_path(alloc, word, pool, &mut paths)?;
+        rest = behind;
     }
     Ok((paths, rest))
 }
@@ -221,11 +213,7 @@ fn push_path<'t>(
     ensures path { OnOk result (IsPath word.now) }
     ensures refused { IfErr result (λ e. Refuses e (IsPath word.now → ⊥)) }
 {
-    let path = match pool.path(alloc, word) {
-        Ok(path) => path,
-        Err(fault) => return Err(LineError::from(fault)),
-    };
-    paths.push(path)?;
+    paths.push(pool.path(alloc, word)?)?;
     Ok(())
 }
 
@@ -247,10 +235,7 @@ pub(crate) fn outputs<'t>(
         if !is_word(word, b"o") {
             return Err(LineError::Bad);
         }
-        let (set, behind) = match paths_first(alloc, behind, pool) {
-            Ok(found) => found,
-            Err(fault) => return Err(fault),
-        };
+        let (set, behind) = paths_first(alloc, behind, pool)?;
         sets.push(set)?;
         rest = behind;
     }

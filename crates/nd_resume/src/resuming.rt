@@ -53,10 +53,7 @@ fn admit_all(alloc: Global, dispatch: &mut Dispatch, entries: Vec<Entry>) -> Res
 {
     let mut index = 0;
     'admitting: for entry in entries {
-        match admit_at(alloc, dispatch, index, entry) {
-            Ok(()) => {}
-            Err(error) => return Err(error),
-        }
+        admit_at(alloc, dispatch, index, entry)?;
         index += 1;
     }
     Ok(())

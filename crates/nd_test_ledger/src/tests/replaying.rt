@@ -2,8 +2,8 @@
 
 use nd_devices::Told;
 use nd_history::Entry;
-use nd_ledger::Dispatch;
 use nd_history_text::read_history;
+use nd_ledger::Dispatch;
 use nd_report::write_report;
 use nd_test_fixtures::parks::{Park, close, dispatch_of};
 use std::alloc::Global;

@@ -8,4 +8,4 @@ returns-in_default-clause-refused c = line_unended _ _ (sym (ap option_copied c.
 
 pub returns-clause-found : goal.returns-clause-found
 returns-clause-found c =
-    line_read _ _ _ _ _ c.cut.ensures.front (sym (ap option_copied c.in-Some.is) ∙ c.cut.ensures.rest) c.in-Ok.ensures.found
+    line_read _ _ _ _ _ c.cut.ensures.front (sym (ap option_copied c.in-Some.is) ∙ c.cut.ensures.rest) c.in_ok-entry.ensures.found

@@ -12,4 +12,4 @@ returns-then-not-is_word-clause-refused c =
 pub loop-rest-preserved : goal.loop-rest-preserved
 loop-rest-preserved c =
     rw c.in_ok-push.ensures.items (outputs_more _ _ _ _ _ c.loop-rest.sets.items c.cut.result.0.now c.loop-rest.invariant
-    (ap (pieces 32) (ap option_copied c.in-Some.is) ∙ c.cut.ensures.whole) (sym c.if-not-is_word.false ∙ c.is_word.ensures) c.in-Ok.ensures.found)
+    (ap (pieces 32) (ap option_copied c.in-Some.is) ∙ c.cut.ensures.whole) (sym c.if-not-is_word.false ∙ c.is_word.ensures) c.in_ok-set.ensures.found)

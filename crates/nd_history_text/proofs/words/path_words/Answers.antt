@@ -5,6 +5,6 @@ use Rattle.nd_history_text.proofs.words.path_words.Goals as goal
 
 pub loop-word-preserved : goal.loop-word-preserved
 loop-word-preserved c = record {
-  read = rw c.in-Ok.ensures.found (paths_more _ _ _ _ c.in-Some.word.now c.loop-word.invariant.read c.in-Some.ensures.found c.in-Ok.ensures.path);
+  read = rw c.in_ok-push_path.ensures.found (paths_more _ _ _ _ c.in-Some.word.now c.loop-word.invariant.read c.in-Some.ensures.found c.in_ok-push_path.ensures.path);
   shorter = grind (arith, common_steps);
 }
