@@ -130,10 +130,10 @@ const SECOND: ParkPlace = ParkPlace {
 };
 
 /// The one place of a park with one slot.
-const ONE: &[ParkPlace] = &[FIRST];
+const ONE: [ParkPlace; 1] = [FIRST];
 
 /// The places of two machines with a slot each.
-const TWO: &[ParkPlace] = &[FIRST, SECOND];
+const TWO: [ParkPlace; 2] = [FIRST, SECOND];
 
 /// Whether a run ended without a fault and with these lines.
 fn is_end(alloc: Global, end: Ran<StandIn>, lines: &str) -> bool {
@@ -184,7 +184,7 @@ fn gives_receipts<R: Threads + Wait + Sync>(
     let Some(opened) = dispatch(alloc, PLAIN_1, "m;n") else {
         return false;
     };
-    match ran(rt, opened, workers(alloc, TWO, stand)) {
+    match ran(rt, opened, workers(alloc, &TWO, stand)) {
         Ok(end) => {
             let right = are_receipts(end.receipts.as_slice(), first, second);
             close_run(end);
@@ -262,9 +262,9 @@ fn refused_connect(rt: HostRuntime) {
     let alloc = rt.alloc();
     let lines = "chosen 0 1 0\ndown 0\nchosen 0 2 0\nstarted 0\nbuilt 0 o\n";
     let plain = dispatch(alloc, PLAIN_1, "m;n");
-    assert!(rt; gives(&rt, alloc, plain, TWO, Stand::NoConnect(1), lines));
+    assert!(rt; gives(&rt, alloc, plain, &TWO, Stand::NoConnect(1), lines));
     let plain = dispatch(alloc, PLAIN_1, "m;n");
-    assert!(rt; gives(&rt, alloc, plain, TWO, Stand::NoCopy(1), lines));
+    assert!(rt; gives(&rt, alloc, plain, &TWO, Stand::NoCopy(1), lines));
     assert!(rt;
         gives_receipts(
             &rt,
@@ -282,17 +282,17 @@ fn lost_build(rt: HostRuntime) {
     let alloc = rt.alloc();
     let lines = "chosen 0 1 0\nstarted 0\nfailed 0 lost\n";
     let plain = dispatch(alloc, PLAIN_1, "m");
-    assert!(rt; gives(&rt, alloc, plain, ONE, Stand::Lose, lines));
+    assert!(rt; gives(&rt, alloc, plain, &ONE, Stand::Lose, lines));
     let lines = "chosen 0 1 0\nstarted 0\nfailed 0 references\n";
     let plain = dispatch(alloc, PLAIN_1, "m");
-    assert!(rt; gives(&rt, alloc, plain, ONE, Stand::Stranger, lines));
+    assert!(rt; gives(&rt, alloc, plain, &ONE, Stand::Stranger, lines));
 }
 
 #[test]
 fn empty_run(rt: HostRuntime) {
     let alloc = rt.alloc();
     let empty = dispatch(alloc, "", "m");
-    assert!(rt; gives(&rt, alloc, empty, ONE, Stand::Plain, ""));
+    assert!(rt; gives(&rt, alloc, empty, &ONE, Stand::Plain, ""));
     let plain = dispatch(alloc, PLAIN_1, "");
     assert!(rt; gives(&rt, alloc, plain, &[], Stand::Plain, "nobuilder 0\n"));
 }
@@ -341,9 +341,9 @@ fn refused_run(rt: HostRuntime) {
 /// Whether two calls of `abandon` leave these lines after a pump.
 fn abandons(alloc: Global, mut opened: Dispatch, lines: &str) -> bool {
     let pumped = opened.pump().is_ok();
-    abandon(&mut opened, ONE);
+    abandon(&mut opened, &ONE);
     let once = has_lines(alloc, &opened, lines);
-    abandon(&mut opened, ONE);
+    abandon(&mut opened, &ONE);
     let twice = has_lines(alloc, &opened, lines);
     close(opened);
     pumped && once && twice
@@ -383,7 +383,7 @@ fn drained_run(rt: HostRuntime) {
     let alloc = rt.alloc();
     let lines = "drain 1\nchosen 0 2 0\nstarted 0\nbuilt 0 o\n";
     let drained = drained(alloc);
-    assert!(rt; gives(&rt, alloc, drained, TWO, Stand::Plain, lines));
+    assert!(rt; gives(&rt, alloc, drained, &TWO, Stand::Plain, lines));
 }
 
 /// Leases the one node of a dispatch on slot 0 of machine 1, and starts the lease where asked to.
@@ -433,7 +433,7 @@ fn takes_up<R: Threads + Wait + Sync>(
     let Some(opened) = leased(alloc, true) else {
         return false;
     };
-    match ran(rt, opened, workers(alloc, ONE, stand)) {
+    match ran(rt, opened, workers(alloc, &ONE, stand)) {
         Ok(end) => is_taken_up(alloc, end, calls, lines),
         Err(refused) => {
             close_refused(refused);
@@ -449,7 +449,7 @@ fn taken_up(rt: HostRuntime) {
     let alloc = rt.alloc();
     let built = "chosen 0 1 0\nstarted 0\nbuilt 0 o\n";
     let lost = "chosen 0 1 0\nstarted 0\nfailed 0 lost\n";
-    assert!(rt; gives(&rt, alloc, leased(alloc, false), ONE, Stand::Plain, built));
+    assert!(rt; gives(&rt, alloc, leased(alloc, false), &ONE, Stand::Plain, built));
     assert!(rt; takes_up(&rt, alloc, Stand::Plain, 3, built));
     assert!(rt; takes_up(&rt, alloc, Stand::Lose, 3, lost));
     assert!(rt; takes_up(&rt, alloc, Stand::NoCopy(1), 2, lost));
@@ -479,7 +479,7 @@ fn blown_fuse(rt: HostRuntime) {
     let mut all = true;
     for passes in 0..10u32 {
         let chain = dispatch(alloc, CHAIN, "m");
-        if !gives(&rt, alloc, chain, ONE, Stand::Fuse(passes), blown(passes)) {
+        if !gives(&rt, alloc, chain, &ONE, Stand::Fuse(passes), blown(passes)) {
             all = false;
         }
     }
@@ -491,11 +491,11 @@ fn dishonest_transports(rt: HostRuntime) {
     let alloc = rt.alloc();
     let lines = "chosen 0 1 0\nstarted 0 s1\nfailed 0 references\n";
     let chain = dispatch(alloc, CHAIN, "m");
-    assert!(rt; gives(&rt, alloc, chain, ONE, Stand::Lists(0), lines));
+    assert!(rt; gives(&rt, alloc, chain, &ONE, Stand::Lists(0), lines));
     let chain = dispatch(alloc, CHAIN, "m");
-    assert!(rt; gives(&rt, alloc, chain, ONE, Stand::Lists(2), lines));
+    assert!(rt; gives(&rt, alloc, chain, &ONE, Stand::Lists(2), lines));
     let chain = dispatch(alloc, CHAIN, "m");
-    assert!(rt; gives(&rt, alloc, chain, ONE, Stand::Stranger, lines));
+    assert!(rt; gives(&rt, alloc, chain, &ONE, Stand::Stranger, lines));
 }
 
 /// What a run by one worker has of the references of its one build: how many lists were refused, and how many its
@@ -516,7 +516,7 @@ fn refused_lists(end: &Ran<StandIn>) -> Option<(usize, usize)> {
 /// The refused lists of a run over the chain, whose worker does so.
 fn judged<R: Threads + Wait + Sync>(rt: &R, alloc: Global, stand: Stand) -> Option<(usize, usize)> {
     let opened = dispatch(alloc, CHAIN, "m")?;
-    match ran(rt, opened, workers(alloc, ONE, stand)) {
+    match ran(rt, opened, workers(alloc, &ONE, stand)) {
         Ok(end) => {
             let lists = refused_lists(&end);
             close_run(end);
