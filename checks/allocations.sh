@@ -133,7 +133,7 @@ number=1
 refused=0
 quiet=0
 while [ "$number" -le 5000 ] && [ "$quiet" -lt 200 ]; do
-  said=$(REFUSE=$number LD_PRELOAD="$work/refuse.so" "$tests" refusing::allocations_refused 2>&1)
+  said=$(REFUSE=$number LD_PRELOAD="$work/refuse.so" "$tests" tests::refusing::allocations_refused 2>&1)
   status=$?
   if [ "$status" -ne 0 ]; then
     echo "dispatch: allocation $number refused: status $status"

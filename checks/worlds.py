@@ -527,7 +527,7 @@ def table():
 
 def table_of_tests():
     """The table that the tests have."""
-    with open(os.path.join(ROOT, "crates", "nd_test_sims", "src", "worlds.rt"), encoding="utf-8") as file:
+    with open(os.path.join(ROOT, "crates", "nd_test_sims", "src", "tests", "worlds.rt"), encoding="utf-8") as file:
         numbers = file.read().split("const DIGESTS")[1].split("= [")[1].split("]")[0]
     return [int(word) for word in numbers.replace(",", " ").split()]
 
