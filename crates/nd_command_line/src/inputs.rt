@@ -43,10 +43,8 @@ pub fn read_inputs<'a, R: Files + Input>(
     ensures mark { IfOk result (λ inputs. inputs.bundle.is_marked ≡ false) }
     ensures unread { IfErr result IsUnread }
 {
-    let park = match park_options(rt, alloc, options) {
-        Ok(park) => park,
-        Err(failure) => return Err(failure),
-    };
+    let park = park_options(rt, alloc, options)?;
+    // For the proof: what was read before a failure is let go by calls, and not in each goal of that exit.
     let own = match own_file(rt, alloc, options, own) {
         Ok(own) => own,
         Err(failure) => {

@@ -34,10 +34,7 @@ pub fn park_engine<W: Write>(
     ensures fault { IfErr result (IsListFault options.now W.contents output.old output.new) }
     ensures mark { output.new.is_marked ≡ is_write_failure result }
 {
-    let text = match text_of_park(rt, alloc, options) {
-        Ok(text) => text,
-        Err(fault) => return Err(fault),
-    };
+    let text = text_of_park(rt, alloc, options)?;
     let written = write_text(text.as_slice(), output);
     drop(text);
     match written {
@@ -55,10 +52,7 @@ fn text_of_park(
     ensures read { IfOk result (λ text. IsParkText options.now text.items) }
     ensures refused { IfErr result (IsUnlisted options.now) }
 {
-    let park = match read_park(rt, alloc, options, b"") {
-        Ok(park) => park,
-        Err(fault) => return Err(fault),
-    };
+    let park = read_park(rt, alloc, options, b"")?;
     let text = park_text(alloc, &park.local, park.machines.as_slice());
     drop(park);
     text

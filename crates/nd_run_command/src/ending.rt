@@ -28,10 +28,7 @@ pub fn write_end<W: Write>(
     ensures mark { output.new.is_marked ≡ (output.old.is_marked || is_err result) }
     ensures legal { IsLegal dispatch.now.inputs (reverse dispatch.now.history) }
 {
-    match write_history(dispatch.history(), output) {
-        Ok(()) => {}
-        Err(refusal) => return Err(refusal),
-    }
+    write_history(dispatch.history(), output)?;
     if !report {
         return pass_on(output);
     }

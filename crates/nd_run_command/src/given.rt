@@ -44,15 +44,10 @@ pub fn run_inputs<R: Read>(
     ensures mark { input.new.is_marked ≡ is_read_failure result }
     ensures fault { IfErr result (IsGivenFault options.now stand.now R.remaining input.old input.new) }
 {
-    let text = match read_input(alloc, input) {
-        Ok(text) => text,
-        Err(fault) => return Err(fault),
-    };
-    let park = match read_park(rt, alloc, options, text.as_slice()) {
-        Ok(park) => park,
-        Err(fault) => return Err(fault),
-    };
+    let text = read_input(alloc, input)?;
+    let park = read_park(rt, alloc, options, text.as_slice())?;
     let machines = park.machines.len() + 1;
+    // For the proof: with `?` here, beside the park, the search doesn't find what this exit says of the mark.
     let rules = match read_rules(alloc, stand, park.graph.len(), machines) {
         Ok(rules) => rules,
         Err(fault) => return Err(fault),

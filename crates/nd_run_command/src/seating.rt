@@ -31,10 +31,7 @@ pub fn stand_ins(
     ensures manned { IfOk result (λ seats. AreManned dispatch.now.inputs (map (λ w. w.place) seats.items)) }
     ensures refused { IfErr result (AreTooMany (places_of dispatch.now.inputs)) }
 {
-    let places = match places(alloc, dispatch) {
-        Ok(places) => places,
-        Err(fault) => return Err(fault),
-    };
+    let places = places(alloc, dispatch)?;
     match seats(alloc, places, rules) {
         Ok(seats) => Ok(seats),
         Err(_) => Err(CliFault::Memory),
@@ -87,10 +84,7 @@ pub fn places(alloc: Global, dispatch: &Dispatch) -> Result<Vec<ParkPlace>, CliF
 {
     let mut places = Vec::new(alloc);
     for machine in 0..machine_count(dispatch) {
-        match add_machine(dispatch, machine, &mut places) {
-            Ok(()) => {}
-            Err(fault) => return Err(fault),
-        }
+        add_machine(dispatch, machine, &mut places)?;
     }
     Ok(places)
 }

@@ -34,10 +34,7 @@ pub(crate) fn read_dispatch<R: Read>(
     ensures mark { input.new.is_marked ≡ is_read_failure result }
     ensures exactly { ReadsAccepted options.now (R.remaining input.old.device) result }
 {
-    let text = match read_input(alloc, input) {
-        Ok(text) => text,
-        Err(fault) => return Err(fault),
-    };
+    let text = read_input(alloc, input)?;
     match open_dispatch(rt, alloc, options, text.as_slice()) {
         Ok(dispatch) => Ok(dispatch),
         Err(fault) => Err(fault),
