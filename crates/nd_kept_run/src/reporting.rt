@@ -78,10 +78,7 @@ fn send_report<W: Write>(dispatch: &Dispatch, output: &mut Told<W>) -> Result<()
     ensures partly { OnErr result (ReportsPartTo dispatch.now W.contents output.old output.new) }
     ensures mark { output.new.is_marked ≡ (output.old.is_marked || is_err result) }
 {
-    match write_report(dispatch, output) {
-        Ok(()) => {}
-        Err(refusal) => return Err(refusal),
-    }
+    write_report(dispatch, output)?;
     match output.flush() {
         Ok(()) => Ok(()),
         Err(_) => Err(WriteError::Write),

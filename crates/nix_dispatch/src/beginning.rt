@@ -54,10 +54,7 @@ fn begin_kept<'a, R: Files<File = File> + Input + Threads + Sync>(
     options: &ArgMatches<'a>,
     name: &'a str,
 ) -> Result<Begun<'a>, Ending<'a>> {
-    let found = match find_journal(rt, alloc, Some(name)) {
-        Ok(found) => found,
-        Err(ending) => return Err(ending),
-    };
+    let found = find_journal(rt, alloc, Some(name))?;
     let RunInputs { dispatch, rules } = match inputs(rt, alloc, options) {
         Ok(given) => given,
         Err(failure) => {

@@ -173,10 +173,7 @@ pub(crate) fn ready_journal<'a, R: Files<File = File>>(
     let Found { name, file, bytes } = found;
     let held = bytes.len();
     drop(bytes);
-    let mut journal = match begin_journal(rt, name, file) {
-        Ok(journal) => journal,
-        Err(ending) => return Err(ending),
-    };
+    let mut journal = begin_journal(rt, name, file)?;
     if held > 0 && journal.cut(length).is_err() {
         return Err(Ending::Journal(journal.into_failure()));
     }

@@ -22,10 +22,7 @@ pub(crate) fn report<'a, R: Files<File = File> + Input + Print + AllocGlobal + T
     options: &ArgMatches<'a>,
 ) -> Result<u8, Ending<'a>> {
     let name = options.get_str("journal").unwrap_or("");
-    let journal = match read_aside(rt, alloc, name) {
-        Ok(journal) => journal,
-        Err(ending) => return Err(ending),
-    };
+    let journal = read_aside(rt, alloc, name)?;
     let answer = report_bytes(rt, alloc, options, name, journal.as_slice());
     drop(journal);
     answer

@@ -22,10 +22,7 @@ pub(crate) fn serve<'a, R: Files<File = File> + Input + Print + AllocGlobal + Th
     alloc: Global,
     options: &ArgMatches<'a>,
 ) -> Result<u8, Ending<'a>> {
-    let found = match find_journal(rt, alloc, options.get_str("journal")) {
-        Ok(found) => found,
-        Err(ending) => return Err(ending),
-    };
+    let found = find_journal(rt, alloc, options.get_str("journal"))?;
     let opened = match open(rt, alloc, options, found.bytes.as_slice()) {
         Ok(opened) => opened,
         Err(ending) => {

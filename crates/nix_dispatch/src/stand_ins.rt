@@ -24,10 +24,7 @@ pub(crate) fn run_stand_ins<
         opened,
         rules,
         journal,
-    } = match begin(rt, alloc, options) {
-        Ok(begun) => begun,
-        Err(ending) => return Err(ending),
-    };
+    } = begin(rt, alloc, options)?;
     match stand_ins(alloc, &opened.dispatch, rules) {
         Ok(seats) => run_workers(
             rt,
