@@ -22,7 +22,8 @@
 # real-park.sh     a graph on real Nix stores; needs the built program, Nix 2.8 or later, a static busybox, Python 3
 #                  and root
 # bad-day.sh       graphs on machines behind ssh that break: connections refused, builds lost, collections in the middle,
-#                  full disks, signals, kills and silence; needs what ssh-park.sh needs, and takes some twenty-five minutes
+#                  full disks, signals, kills and silence; needs what ssh-park.sh needs and a shell `dash`, and takes some
+#                  twenty-five minutes
 # ssh-park.sh      the same graph on machines behind ssh; needs what real-park.sh needs, and OpenSSH's sshd
 # allocations.sh   each allocation refused in turn; needs the built program, a C compiler, and the tests of
 #                  `nd_test_ledger` that `rt test` leaves in its folder
