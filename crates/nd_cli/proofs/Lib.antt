@@ -3,3 +3,4 @@ pub mod Accepted
 pub mod Whole
 pub mod LocalTest
 pub mod ClassReplying
+pub mod Slots

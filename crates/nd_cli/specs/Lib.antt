@@ -6,3 +6,6 @@ pub mod Paths
 pub mod Asked
 pub mod Statuses
 pub mod Names
+pub mod SlotLines
+pub mod Listed
+pub mod Limits

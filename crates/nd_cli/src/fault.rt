@@ -119,7 +119,8 @@ pub enum CliFault {
     /// The history text is refused. Status 3.
     #[error("nix-dispatch: history: {0}")]
     History(HistoryTextError),
-    /// An input has more than 67,108,864 bytes. Status 3.
+    /// An input has more than 67,108,864 bytes, or a journal that is gone on from or looked at has more than
+    /// 1,073,741,824. Status 3.
     #[error("nix-dispatch: {0}: TooLarge")]
     TooLarge(Place),
     /// The machines have more than 1,024 slots, and a run has a worker for each. Status 3.

@@ -1,4 +1,4 @@
-//! The commands `path` and `ask` as functions over a reader and a writer; and what all commands share: the
+//! The commands `path`, `ask` and `park` as functions over a reader and a writer; and what all commands share: the
 //! options, the reading of an input, the park that is described, and faults.
 #![tactic(auto)]
 
@@ -6,13 +6,16 @@ mod ask;
 mod asks;
 mod fault;
 mod input;
+mod listing;
 mod options;
 mod park;
 mod path;
+mod slot_lines;
 
 pub use ask::ask_engine;
 pub use fault::{CliFault, DerivationError, HistoryTextError, Place};
 pub use input::{LIMIT, read_input};
+pub use listing::park_engine;
 pub use options::ParkOptions;
 pub use park::{Park, read_park};
 pub use path::path_engine;

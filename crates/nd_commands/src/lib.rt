@@ -14,4 +14,3 @@ mod verdict;
 pub use audit::audit_engine;
 pub use opening::{close_dispatch, open_dispatch};
 pub use sim::sim_engine;
-pub use simulation::exit_status;

@@ -30,7 +30,7 @@ pub(crate) fn read_script(
         return Err(CliFault::TooLarge(Place::Script));
     }
     let drvs = dispatch.graph().len();
-    let machines = dispatch.machines().len() + 1;
+    let machines = dispatch.machine_count() as usize;
     match parse_script(alloc, script, drvs, machines) {
         Ok(commands) => Ok(commands),
         Err(ScriptError::Memory) => Err(CliFault::Memory),

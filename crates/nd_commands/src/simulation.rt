@@ -1,15 +1,14 @@
 //! A whole script on a dispatch, with the lines that are written of it.
 
-ghost use Rattle.std.specs.Prelude.{◌≡◌, ◌||◌, [], reverse, IfOk, IfErr, OnOk, OnErr};
+ghost use Rattle.std.specs.Prelude.{◌≡◌, ◌||◌, [], IfOk, IfErr, OnOk, OnErr};
 ghost use Rattle.std.specs.List.{All};
-ghost use Rattle.nd_history.specs.Statuses.{IsExitStatus};
 ghost use Rattle.nd_sim.specs.Answers.{IsNamed};
 ghost use Rattle.nd_sim.specs.Written.{is_write_failure};
 ghost use Rattle.nd_commands.specs.Simulated.{Simulates, SimulatesPart};
 
 use nd_devices::{Fault, Told, WriteError};
 use nd_ledger::Dispatch;
-use nd_report::write_report;
+use nd_report::{exit_status, write_report};
 use nd_script::Command;
 use nd_sim::{SimFault, take_turns};
 use std::alloc::Global;
@@ -61,19 +60,4 @@ fn play<W: io::Write>(
         Ok(()) => Ok(exit_status(dispatch)),
         Err(WriteError::Write) => Err(SimFault::Write),
     }
-}
-
-/// The exit status of a run or a simulation that came to this: 1 where a derivation failed or was cancelled,
-/// and else 0.
-pub fn exit_status(dispatch: &Dispatch) -> u8
-    ensures { IsExitStatus dispatch.now.inputs (reverse dispatch.now.history) result }
-{
-    let counts = dispatch.counts();
-    if counts.failed > 0 {
-        return 1;
-    }
-    if counts.cancelled > 0 {
-        return 1;
-    }
-    0
 }

@@ -54,13 +54,13 @@ pub struct Graph {
 }
 
 impl Model for Graph {
-    ghost use Rattle.nd_graph.specs.Graphs.{Nodes, IsGraph};
+    ghost use Rattle.nd_graph.specs.Graphs.{Nodes, IsGraph, nodes_with};
 
     ghost Value = { Nodes };
 
-    ghost view = { λ g. record { paths = g.paths.keys; needs = g.needs.items; inputs = g.inputs.items; sources = g.sources.items; outputs = g.outputs.items } };
+    ghost view = { λ g. nodes_with g.paths.keys g.needs.items g.inputs.items g.sources.items g.outputs.items };
 
-    ghost invariant = { λ g. IsGraph (record { paths = g.paths.keys; needs = g.needs.items; inputs = g.inputs.items; sources = g.sources.items; outputs = g.outputs.items }) g.order.items };
+    ghost invariant = { λ g. IsGraph (nodes_with g.paths.keys g.needs.items g.inputs.items g.sources.items g.outputs.items) g.order.items };
 }
 
 impl Graph {

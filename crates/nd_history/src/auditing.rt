@@ -23,26 +23,6 @@ fn is_node(inputs: &Inputs, drv: u32) -> bool
     (drv as usize) < inputs.graph.len()
 }
 
-/// Whether there is a machine with this number.
-fn is_machine(inputs: &Inputs, machine: u32) -> bool
-    ensures { IsTrue result ↔ (machine < machines_in (premises_of inputs.now)) }
-{
-    machine as usize <= inputs.machines.as_slice().len()
-}
-
-/// How many builds may run at once on this machine: none where there is no such machine.
-fn jobs_on(inputs: &Inputs, machine: u32) -> u32
-    ensures { result ≡ jobs_of (premises_of inputs.now) machine }
-{
-    if machine == 0 {
-        return inputs.local.jobs();
-    }
-    match inputs.machines.as_slice().get(machine as usize - 1) {
-        Some(builder) => builder.jobs(),
-        None => 0,
-    }
-}
-
 /// Whether the derivation, the machine and the slot of a choice are there.
 fn is_choice_in_range(inputs: &Inputs, drv: u32, machine: u32, slot: u32) -> bool
     ensures { IsTrue result ↔ IsInRange (premises_of inputs.now) (Entry.Chosen drv machine slot) }
@@ -50,10 +30,10 @@ fn is_choice_in_range(inputs: &Inputs, drv: u32, machine: u32, slot: u32) -> boo
     if !is_node(inputs, drv) {
         return false;
     }
-    if !is_machine(inputs, machine) {
+    if !inputs.has_machine(machine) {
         return false;
     }
-    slot < jobs_on(inputs, machine)
+    slot < inputs.jobs_on(machine)
 }
 
 /// Whether all that the entry names is there.
@@ -68,8 +48,8 @@ pub fn is_in_range(inputs: &Inputs, entry: &Entry) -> bool
         Entry::Built { drv, .. } => is_node(inputs, *drv),
         Entry::Failed { drv, .. } => is_node(inputs, *drv),
         Entry::Stop => true,
-        Entry::Drain { machine } => is_machine(inputs, *machine),
-        Entry::Enable { machine } => is_machine(inputs, *machine),
+        Entry::Drain { machine } => inputs.has_machine(*machine),
+        Entry::Enable { machine } => inputs.has_machine(*machine),
     }
 }
 

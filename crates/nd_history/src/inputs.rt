@@ -1,6 +1,7 @@
 //! What a dispatch is made of: the five inputs, which never change.
 
-ghost use Rattle.std.specs.Prelude.{◌≡◌, ◌↔◌, IsTrue, IfOk};
+ghost use Rattle.std.specs.Prelude.{◌≡◌, ◌<◌, ◌↔◌, IsTrue, IfOk};
+ghost use Rattle.nd_history.specs.Choices.{machines_in, jobs_of};
 ghost use Rattle.nd_history.specs.Premises.{premises_of};
 
 use crate::sameness::{Same, are_same, is_same_graph};
@@ -42,6 +43,33 @@ pub struct Inputs {
 }
 
 impl Inputs {
+    /// How many machines there are, the local one among them.
+    pub fn machine_count(&self) -> usize
+        ensures { result ≡ machines_in (premises_of self.now) }
+    {
+        self.machines.as_slice().len() + 1
+    }
+
+    /// Whether there is a machine with this number.
+    pub fn has_machine(&self, machine: u32) -> bool
+        ensures { IsTrue result ↔ (machine < machines_in (premises_of self.now)) }
+    {
+        (machine as usize) < self.machine_count()
+    }
+
+    /// How many builds may run at once on this machine: none where there is no such machine.
+    pub fn jobs_on(&self, machine: u32) -> u32
+        ensures { result ≡ jobs_of (premises_of self.now) machine }
+    {
+        if machine == 0 {
+            return self.local.jobs();
+        }
+        match self.machines.as_slice().get(machine as usize - 1) {
+            Some(builder) => builder.jobs(),
+            None => 0,
+        }
+    }
+
     /// A copy that is equal to the original. Room of a table of references is no part of this.
     pub fn try_clone(&self, alloc: Global) -> Result<Inputs, AllocError>
         ensures { IfOk result (λ copy. premises_of copy ≡ premises_of self.now) }

@@ -18,6 +18,10 @@ pub record Scribing : Type 0 where
   pub begun : Bool  -- whether the journal has its first line
   pub refused : Bool  -- whether it refused an append or a sync
 
+-- a scribe with these parts
+abbrev pub scribing : Option Stored → Listed → Listed → List ℕ → Bool → Bool → Scribing
+scribing stored handed kept text begun refused = record { stored = stored; handed = handed; kept = kept; text = text; begun = begun; refused = refused }
+
 -- the text of a journal that has these entries: nothing, before it has its first line
 abbrev pub journal_text : Bool → List Entry → List ℕ
 journal_text false entries = []

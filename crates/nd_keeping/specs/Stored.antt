@@ -6,6 +6,10 @@ pub record Stored : Type 0 where
   pub bytes : List ℕ
   pub durable : ℕ
 
+-- a journal with these bytes, of which so many are durable
+abbrev pub stored_with : List ℕ → ℕ → Stored
+stored_with bytes durable = record { bytes = bytes; durable = durable }
+
 -- these bytes stand behind those that it held. A journal that doesn't say what it holds doesn't say it later on
 abbrev pub IsAppended : Option Stored → Option Stored → List ℕ → Type 0
 IsAppended None new bytes = new ≡ None

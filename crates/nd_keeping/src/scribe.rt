@@ -49,13 +49,13 @@ pub struct Scribe<J: Journal> {
 }
 
 impl<J: Journal> Model for Scribe<J> {
-    ghost use Rattle.nd_keeping.specs.Scribing.{Scribing, IsScribing};
+    ghost use Rattle.nd_keeping.specs.Scribing.{Scribing, IsScribing, scribing};
 
     ghost Value = { Scribing };
 
-    ghost view = { λ s. record { stored = J.stored s.journal; handed = s.roll; kept = s.kept; text = s.text.items; begun = s.begun; refused = s.refused } };
+    ghost view = { λ s. scribing (J.stored s.journal) s.roll s.kept s.text.items s.begun s.refused };
 
-    ghost invariant = { λ s. IsScribing (record { stored = J.stored s.journal; handed = s.roll; kept = s.kept; text = s.text.items; begun = s.begun; refused = s.refused }) };
+    ghost invariant = { λ s. IsScribing (scribing (J.stored s.journal) s.roll s.kept s.text.items s.begun s.refused) };
 }
 
 impl<J: Journal> Scribe<J> {

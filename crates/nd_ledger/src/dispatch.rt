@@ -3,7 +3,7 @@
 ghost use Rattle.std.specs.Prelude.{◌≡◌, ℕ, ◌+◌, ◌<◌, ◌≤◌, ◌++◌, [], ◌∷◌, List, true, false, length, slice_index_or, reverse, IfOk, OnOk, IfErr, OnErr, IsOk, IsTrue, ◌↔◌};
 ghost use Rattle.nd_history.specs.History.{live, lease_of, current_of, load, is_started, is_up, has_stop};
 ghost use Rattle.nd_failure.specs.Statuses.{total_of};
-ghost use Rattle.nd_history.specs.Choices.{machines_in, HasReply};
+ghost use Rattle.nd_history.specs.Choices.{machines_in, jobs_of, HasReply};
 ghost use Rattle.nd_history.specs.Legal.{IsAllowed, IsLegal};
 ghost use Rattle.nd_history.specs.Premises.{premises};
 ghost use Rattle.nd_history.specs.Closing.{StartsAreProvisioned};
@@ -505,6 +505,21 @@ impl Dispatch {
         ensures few { length result.now ≤ 1024 }
     {
         self.inputs.machines.as_slice()
+    }
+
+    /// How many machines there are, the local one among them.
+    pub fn machine_count(&self) -> u32
+        ensures { result ≡ machines_in self.now.inputs }
+    {
+        self.machines().len() as u32 + 1
+    }
+
+    /// How many builds may run at once on this machine, the first of which, machine 0, is the local one. There are
+    /// none on one that isn't in the park.
+    pub fn jobs_on(&self, machine: u32) -> u32
+        ensures { result ≡ jobs_of self.now.inputs machine }
+    {
+        self.inputs.jobs_on(machine)
     }
 
     /// The settings of the local machine.

@@ -46,7 +46,9 @@ impl Model for Stores {
 
     ghost Value = { Stored };
 
-    ghost view = { λ s. record { entries = s.table.entries; spare = s.table.spare; numbers = s.numbers; seeds = s.seeds.items; stocks = s.holdings; whole = s.whole } };
+    ghost use Rattle.nd_provision.specs.StoresKept.{stored};
+
+    ghost view = { stored };
 }
 
 impl Stores {

@@ -1,3 +1,6 @@
+pub mod GroupedFacts
+pub mod QueueFacts
+pub mod Keeping
 pub mod Waiting
 pub mod Listing
 pub mod Taking

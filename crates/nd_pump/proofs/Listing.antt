@@ -9,7 +9,7 @@ use Rattle.nd_failure.proofs.SpreadFacts.{dependant_of_input}
 use Rattle.std.proofs.lemmas.List.{get_or-set_same, get_or-set_other}
 use Rattle.nd_flags.specs.Members.{IsMember}
 use Rattle.nd_failure.specs.Progress.{Progress, IsReady}
-use Rattle.nd_queue.specs.Queues.{Queued}
+use Rattle.nd_pump.specs.Queues.{Queued}
 use Rattle.nd_history.specs.declared.entry.Entry.{Entry}
 use Rattle.nd_history.specs.declared.entry.Entry.TheVariants.{Down, Built}
 use Rattle.nd_kinds.specs.Kinds.{users_of}

@@ -18,8 +18,8 @@ use Rattle.nd_failure.specs.Progress.{Progress}
 use Rattle.nd_kinds.specs.declared.kind.Kind.{Kind}
 use Rattle.nd_kinds.specs.Kinds.{AreKinds, Kinded, IsKindOf, number_of}
 use Rattle.nd_kinds.proofs.KindFacts.{kind_suits}
-use Rattle.nd_queue.specs.Grouped.{group_in}
-use Rattle.nd_queue.specs.Queues.{Queued, IsDue, IsLeastDue}
+use Rattle.nd_pump.specs.Grouped.{group_in}
+use Rattle.nd_pump.specs.Queues.{Queued, IsDue, IsLeastDue}
 use Rattle.nd_history.specs.declared.entry.Entry.{Entry}
 use Rattle.nd_history.specs.Premises.{Premises}
 use Rattle.nd_history.specs.Standing.{drvs_in, IsReady}

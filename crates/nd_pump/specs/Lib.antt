@@ -1,3 +1,7 @@
+pub mod Grouped
+pub mod GroupedKept
+pub mod Queues
+pub mod QueueKept
 pub mod Decided
 pub mod Waiting
 pub mod Vacancies

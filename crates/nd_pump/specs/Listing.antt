@@ -6,7 +6,7 @@ use Rattle.nd_failure.specs.Progress.{Progress, IsReady}
 use Rattle.nd_graph.specs.Walks.{inputs_of}
 use Rattle.nd_history.specs.declared.entry.Entry.{Entry}
 use Rattle.nd_history.specs.declared.entry.Entry.TheVariants.{Chosen, NoBuilder, Started, Down, Built, Failed, Stop, Drain, Enable}
-use Rattle.nd_queue.specs.Queues.{Queued}
+use Rattle.nd_pump.specs.Queues.{Queued}
 use Rattle.nd_pump.specs.Turned.{IsNews}
 
 -- the queue has the board's derivations

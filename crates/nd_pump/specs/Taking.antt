@@ -1,7 +1,7 @@
 -- What the turn of a derivation leads to.
 -- No public clause cites this: it serves private clauses alone.
 use Rattle.std.specs.Prelude.{ℕ, ◌+◌, ◌<◌, not, List, Option, None, Some, count_by}
-use Rattle.nd_queue.specs.Queues.{Queued}
+use Rattle.nd_pump.specs.Queues.{Queued}
 use Rattle.nd_history.specs.declared.entry.Entry.{Entry}
 use Rattle.nd_history.specs.Premises.{Premises}
 use Rattle.nd_history.specs.Pumping.{IsStepOf}

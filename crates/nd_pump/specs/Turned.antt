@@ -10,7 +10,7 @@ use Rattle.nd_failure.specs.Progress.{Progress, IsReady}
 use Rattle.nd_hook.specs.declared.kinds.Decision.TheVariants.{Wait}
 use Rattle.nd_kinds.specs.declared.kind.Kind.{Kind}
 use Rattle.nd_kinds.specs.Kinds.{Kinded, AreKinds, users_of}
-use Rattle.nd_queue.specs.Queues.{Queued}
+use Rattle.nd_pump.specs.Queues.{Queued}
 use Rattle.nd_leases.specs.declared.ticket.Ticket.{Ticket}
 use Rattle.nd_history.specs.declared.entry.Entry.{Entry}
 use Rattle.nd_history.specs.declared.entry.Entry.TheVariants.{Chosen, NoBuilder, Started, Down, Built, Failed, Stop, Drain, Enable}

@@ -5,7 +5,7 @@ ghost use Rattle.nd_history.specs.Premises.{premises_of};
 ghost use Rattle.nd_history.specs.Pumping.{IsNextStep};
 ghost use Rattle.nd_history.specs.Fitting.{FitTogether};
 ghost use Rattle.nd_history.specs.Marks.{AreMarked};
-ghost use Rattle.nd_queue.specs.Queues.{IsDue};
+ghost use Rattle.nd_pump.specs.Queues.{IsDue};
 ghost use Rattle.nd_pump.specs.Turned.{AreTurns};
 ghost use Rattle.nd_pump.specs.Taking.{IsTaken};
 

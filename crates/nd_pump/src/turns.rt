@@ -9,9 +9,10 @@ ghost use Rattle.nd_pump.specs.Decided.{HasDecisionByKind};
 ghost use Rattle.nd_pump.specs.Listing.{IsSized, ListsAlso, ListsTo, ListsEach, ListsAbove, ListsNews, IsNewsWithin, Wakes};
 ghost use Rattle.nd_pump.specs.Turned.{AreListed, IsWhole, HasSearched, HasTurned, is_parked};
 ghost use Rattle.nd_pump.specs.Vacancies.{AreAllVacant, AreVacant};
-ghost use Rattle.nd_queue.specs.Queues.{IsFirstDue};
+ghost use Rattle.nd_pump.specs.Queues.{IsFirstDue};
 
 use crate::deciding::{decide_kind, reply_kind};
+use crate::queue::Queue;
 use crate::vacancies::Vacancies;
 use nd_eligible::{Local, Need};
 use nd_failure::Board;
@@ -19,7 +20,6 @@ use nd_history::{Book, Entry, Inputs};
 use nd_hook::{Decision, Reply};
 use nd_kinds::{Kind, Kinds};
 use nd_machines::Machine;
-use nd_queue::Queue;
 use std::alloc::{AllocError, Global};
 use std::marker::Model;
 

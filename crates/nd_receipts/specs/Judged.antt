@@ -1,4 +1,4 @@
--- Which references builds reported and may not have. The clauses of nd_workers' `run` cite `WereWrong` and `IsJudgedIn`.
+-- Which references builds reported and may not have. The clauses of nd_workers' `run` cite `WereWrong`, and `IsJudgedIn` within `AreRowsJudged`.
 -- The histories of these definitions stand oldest first. This project's own choice.
 use Rattle.std.specs.Prelude.{◌≡◌, ℕ, ◌<◌, length, List, Option, Some, None, slice_get, take, reverse, Vec}
 use Rattle.std.specs.List.{AllZip}

@@ -1,2 +1,3 @@
 pub mod Rows
 pub mod Admitting
+pub mod Ending

@@ -1,10 +1,12 @@
-//! The audit of a history, and the report of how a dispatch stands.
+//! The audit of a history, the report of how a dispatch stands, and the exit status that it comes to.
 #![tactic(auto)]
 
 mod audit_error;
 mod auditing;
 mod report_writing;
+mod status;
 
 pub use audit_error::AuditError;
 pub use auditing::audit;
 pub use report_writing::write_report;
+pub use status::exit_status;

@@ -10,7 +10,7 @@ use nd_cli::CliFault;
 use nd_devices::{Told, WriteError};
 use nd_history_text::write_history;
 use nd_ledger::Dispatch;
-use nd_report::write_report;
+use nd_report::{exit_status, write_report};
 use nd_workers::{RunError, RunFault};
 use std::io::Write;
 
@@ -47,20 +47,6 @@ fn pass_on<W: Write>(output: &mut Told<W>) -> Result<(), WriteError>
         Ok(()) => Ok(()),
         Err(_) => Err(WriteError::Write),
     }
-}
-
-/// 1 where a derivation failed or was cancelled, and else 0.
-pub fn exit_status(dispatch: &Dispatch) -> u8
-    ensures { IsStatusOf dispatch.now result }
-{
-    let counts = dispatch.counts();
-    if counts.failed > 0 {
-        return 1;
-    }
-    if counts.cancelled > 0 {
-        return 1;
-    }
-    0
 }
 
 /// The status of a run that ended without a fault, and else the fault, of one that keeps no journal.

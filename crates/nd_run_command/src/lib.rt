@@ -7,7 +7,7 @@ mod engine;
 mod given;
 mod seating;
 
-pub use ending::{exit_status, refusal, write_end};
+pub use ending::{refusal, write_end};
 pub use engine::run_engine;
 pub use given::{RunInputs, run_inputs};
 pub use seating::{places, stand_ins};

@@ -8,7 +8,6 @@ ghost use Rattle.nd_run_command.specs.Seats.{AreTooMany, stand_in_on};
 use nd_cli::CliFault;
 use nd_ledger::Dispatch;
 use nd_receipts::ParkPlace;
-use nd_run_desk::{jobs_on, machine_count};
 use nd_script::Rule;
 use nd_transports::{RuleBook, StandIn};
 use nd_workers::Seat;
@@ -83,7 +82,7 @@ pub fn places(alloc: Global, dispatch: &Dispatch) -> Result<Vec<ParkPlace>, CliF
     ensures refused { IfErr result (AreTooMany (places_of dispatch.now.inputs)) }
 {
     let mut places = Vec::new(alloc);
-    for machine in 0..machine_count(dispatch) {
+    for machine in 0..dispatch.machine_count() {
         add_machine(dispatch, machine, &mut places)?;
     }
     Ok(places)
@@ -101,7 +100,7 @@ fn add_machine(
     ensures few { OnOk result (length places.new.items ≤ 1024) }
     ensures refused { IfErr result (AreTooMany (places.old.items ++ places_on dispatch.now.inputs machine)) }
 {
-    for slot in 0..jobs_on(dispatch, machine) {
+    for slot in 0..dispatch.jobs_on(machine) {
         if places.len() >= MOST {
             return Err(CliFault::TooManySlots);
         }

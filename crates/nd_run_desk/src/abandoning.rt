@@ -17,16 +17,9 @@ pub fn abandon(dispatch: &mut Dispatch, manned: &[ParkPlace])
     ensures { HasAbandoned dispatch.old manned.now dispatch.new }
 {
     stop(dispatch);
-    for machine in 0..machine_count(dispatch) {
+    for machine in 0..dispatch.machine_count() {
         abandon_machine(dispatch, manned, machine);
     }
-}
-
-/// The number of machines of the park, the local one among them.
-pub fn machine_count(dispatch: &Dispatch) -> u32
-    ensures { result ≡ machines_in dispatch.now.inputs }
-{
-    dispatch.machines().len() as u32 + 1
 }
 
 /// Records a stop where none stands.
@@ -38,20 +31,6 @@ fn stop(dispatch: &mut Dispatch)
         return;
     }
     let _ = dispatch.history();
-}
-
-/// How many builds may run at once on this machine, the first of which, machine 0, is the local one. There are none on
-/// one that isn't in the park.
-pub fn jobs_on(dispatch: &Dispatch, machine: u32) -> u32
-    ensures { result ≡ jobs_of dispatch.now.inputs machine }
-{
-    if machine == 0 {
-        return dispatch.local().jobs();
-    }
-    match dispatch.machines().get(machine as usize - 1) {
-        Some(machine) => machine.jobs(),
-        None => 0,
-    }
 }
 
 /// Whether the place is among `manned`.
@@ -68,7 +47,7 @@ fn abandon_machine(dispatch: &mut Dispatch, manned: &[ParkPlace], machine: u32)
     ensures history { dispatch.new.history ≡ dispatch.old.history ++ ends_on manned.now (reverse dispatch.old.history) (places_on dispatch.old.inputs machine) }
     ensures others { LeavesOtherMachines machine (reverse dispatch.old.history) (reverse dispatch.new.history) }
 {
-    for slot in 0..jobs_on(dispatch, machine) {
+    for slot in 0..dispatch.jobs_on(machine) {
         abandon_place(dispatch, manned, ParkPlace { machine, slot });
     }
 }

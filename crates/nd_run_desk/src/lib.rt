@@ -8,7 +8,7 @@ mod handing;
 mod keeping;
 mod opened;
 
-pub use abandoning::{abandon, jobs_on, machine_count};
+pub use abandoning::abandon;
 pub use closing::Closed;
 pub use desk::{Desk, Next, entries_since};
 pub use handing::Found;

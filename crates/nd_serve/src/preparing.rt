@@ -66,7 +66,7 @@ fn request_of(alloc: Global, dispatch: &Dispatch, line: &[u8]) -> Result<Request
     ensures named { IfOk result (IsRequestNamed dispatch.now.inputs) }
 {
     let drvs = dispatch.graph().len();
-    let machines = dispatch.machines().len() + 1;
+    let machines = dispatch.machine_count() as usize;
     read_request(alloc, line, drvs, machines)
 }
 

@@ -7,11 +7,11 @@ use Rattle.nd_history.specs.Premises.{Premises}
 use Rattle.nd_ledger.specs.Worlds.{World}
 use Rattle.nd_journal.specs.WholeLines.{whole_lines}
 use Rattle.nd_journal.proofs.Reading.{not_empty}
-use Rattle.nd_resume.specs.Resumes.{IsResumable, IsResumeRefused}
-use Rattle.nd_resume.specs.declared.resume_error.ResumeError.{ResumeError}
-use Rattle.nd_resume.specs.declared.resume_error.ResumeError.TheVariants.{BadLine, Illegal, Memory as NoRoom}
-use Rattle.nd_crashes.specs.Crashes.{IsBegunWith}
-use Rattle.nd_crashes.proofs.Begun.{journals_begin}
+use Rattle.nd_serve_command.specs.Resumes.{IsResumable, IsResumeRefused}
+use Rattle.nd_serve_command.specs.declared.resume_error.ResumeError.{ResumeError}
+use Rattle.nd_serve_command.specs.declared.resume_error.ResumeError.TheVariants.{BadLine, Illegal, Memory as NoRoom}
+use Rattle.nd_serve_command.specs.Crashes.{IsBegunWith}
+use Rattle.nd_serve_command.proofs.Begins.{journals_begin}
 use Rattle.nd_serve_command.specs.Faults.{fault_of_journal}
 use Rattle.nd_cli.specs.declared.options.ParkOptions.{ParkOptions}
 use Rattle.nd_cli.specs.declared.fault.Place.{Place}

@@ -8,7 +8,7 @@ use Rattle.nd_history.specs.Statuses.{IsExitStatus}
 use Rattle.nd_ledger.specs.Worlds.{World}
 use Rattle.nd_serve.specs.Sessions.{Serves, ServesPart, IsSession, first_of}
 use Rattle.nd_serve.proofs.SessionRuns.{sessions_are_runs, sessions_are_legal}
-use Rattle.nd_crashes.proofs.Survived.{sessions_survive, parts_survive}
+use Rattle.nd_serve_command.proofs.Survived.{sessions_survive, parts_survive}
 use Rattle.nd_serve_command.specs.Faults.{fault_of}
 use Rattle.nd_serve_command.specs.Sessions.{EndsSession, CutsSession}
 use Rattle.nd_serve_command.specs.declared.fault.ServeFault.{ServeFault}

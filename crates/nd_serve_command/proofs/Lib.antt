@@ -2,3 +2,11 @@ pub mod LineReading
 pub mod Ended
 pub mod Begun
 pub mod Passed
+pub mod TakenUp
+pub mod ResumedOnce
+pub mod Handed
+pub mod Crashed
+pub mod Reached
+pub mod Survived
+pub mod Begins
+pub mod RunsLeft

@@ -4,8 +4,8 @@ use Rattle.std.specs.Prelude.{ℕ, ◌+◌, ◌^◌, List, Option, Some, None, c
 use Rattle.nd_explain.specs.AdviceWords.{advice_words as words_on}
 use Rattle.nd_explain.specs.declared.parts.Part.{Part}
 use Rattle.nd_explain.specs.declared.parts.Part.TheVariants.{Nowhere, Line}
-use Rattle.nd_resume.specs.declared.resume_error.ResumeError.{ResumeError}
-use Rattle.nd_resume.specs.declared.resume_error.ResumeError.TheVariants.{BadLine, Illegal, Memory}
+use Rattle.nd_serve_command.specs.declared.resume_error.ResumeError.{ResumeError}
+use Rattle.nd_serve_command.specs.declared.resume_error.ResumeError.TheVariants.{BadLine, Illegal, Memory}
 use Rattle.nd_serve_command.specs.declared.fault.ServeFault.{ServeFault}
 use Rattle.nd_serve_command.specs.declared.fault.ServeFault.TheVariants.{Cli, NotEmpty, InUse, Journal, JournalFailed}
 

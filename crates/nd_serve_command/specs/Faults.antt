@@ -5,8 +5,8 @@ use Rattle.nd_cli.specs.Statuses.{exit_status}
 use Rattle.nd_cli.specs.declared.fault.CliFault.TheVariants.{Read as NoRead, Write as NoWrite, Memory as NoMemory}
 use Rattle.nd_desk.specs.declared.fault.SessionFault.{SessionFault}
 use Rattle.nd_desk.specs.declared.fault.SessionFault.TheVariants.{Read, Journal as NoJournal, Write, Memory}
-use Rattle.nd_resume.specs.declared.resume_error.ResumeError.{ResumeError}
-use Rattle.nd_resume.specs.declared.resume_error.ResumeError.TheVariants.{BadLine, Illegal, Memory as NoRoom}
+use Rattle.nd_serve_command.specs.declared.resume_error.ResumeError.{ResumeError}
+use Rattle.nd_serve_command.specs.declared.resume_error.ResumeError.TheVariants.{BadLine, Illegal, Memory as NoRoom}
 use Rattle.nd_serve_command.specs.declared.fault.ServeFault.{ServeFault}
 use Rattle.nd_serve_command.specs.declared.fault.ServeFault.TheVariants.{Cli, NotEmpty, InUse, Journal, JournalFailed}
 

@@ -10,11 +10,11 @@ use Rattle.nd_history.specs.Premises.{Premises}
 use Rattle.nd_history.specs.Legal.{IsLegal}
 use Rattle.nd_history.specs.Statuses.{IsExitStatus}
 use Rattle.nd_ledger.specs.Worlds.{World}
-use Rattle.nd_resume.specs.Resumes.{IsResumable, IsResumeRefused}
-use Rattle.nd_resume.specs.declared.resume_error.ResumeError.TheVariants.{Memory as NoRoom}
+use Rattle.nd_serve_command.specs.Resumes.{IsResumable, IsResumeRefused}
+use Rattle.nd_serve_command.specs.declared.resume_error.ResumeError.TheVariants.{Memory as NoRoom}
 use Rattle.nd_serve.specs.Sessions.{IsSessionCut, Serves, ServesPart, first_of}
 use Rattle.nd_serve.specs.SessionLaws.{IsSimulated}
-use Rattle.nd_crashes.specs.Crashes.{IsBegunWith, SurvivesCrashes}
+use Rattle.nd_serve_command.specs.Crashes.{IsBegunWith, SurvivesCrashes}
 use Rattle.nd_cli.specs.Asked.{IsAskFault}
 use Rattle.std.specs.Io.KnownBytes.{Consumes, IsAtEnd}
 use Rattle.nd_cli.specs.Inputs.{ReadsWhole, is_read_fault}

@@ -5,8 +5,8 @@ ghost use Rattle.nd_explain.specs.Shown.{IsShown};
 ghost use Rattle.nd_serve_command.specs.Advised.{advice_words, advice_words_of_journal, line_named, part_named};
 
 use crate::fault::ServeFault;
+use crate::resume_error::ResumeError;
 use nd_explain::{Advice, Part, advice_on, excerpt, piece_of};
-use nd_resume::ResumeError;
 use std::alloc::Global;
 use std::{fmt, io};
 

@@ -3,9 +3,9 @@
 ghost use Rattle.std.specs.Prelude.{◌≡◌};
 ghost use Rattle.nd_serve_command.specs.Faults.{fault_status, fault_of, fault_of_journal};
 
+use crate::resume_error::ResumeError;
 use nd_cli::CliFault;
 use nd_desk::SessionFault;
-use nd_resume::ResumeError;
 use thiserror::Error;
 
 /// Why `serve`, `report` or a run with a journal gave no status. `Display` writes the fault's line, without its

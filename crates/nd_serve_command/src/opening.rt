@@ -1,21 +1,21 @@
 //! What a session begins with, and a run that is kept.
 
 ghost use Rattle.std.specs.Prelude.{◌≡◌, ◌==◌, [], false, length, IfOk, IfErr, OnOk, OnErr};
-ghost use Rattle.nd_crashes.specs.Crashes.{IsBegunWith};
+ghost use Rattle.nd_serve_command.specs.Crashes.{IsBegunWith};
 ghost use Rattle.nd_history.specs.Premises.{Premises};
 ghost use Rattle.nd_journal.specs.WholeLines.{whole_lines};
-ghost use Rattle.nd_resume.specs.Resumes.{IsResumable};
+ghost use Rattle.nd_serve_command.specs.Resumes.{IsResumable};
 ghost use Rattle.nd_serve_command.specs.Sessions.{AnswersAcceptedSession, OpensSession, IsOpenFault, is_unread};
 ghost use Rattle.nd_serve_command.specs.Sessions.{IsJournalFault, MayHold, TakesResumable};
 
 use crate::fault::{ServeFault, journal_fault};
 use crate::opened::Opened;
 use crate::reading::{JOURNAL_LIMIT, read_dispatch};
+use crate::resuming::resume;
 use nd_cli::{CliFault, ParkOptions, Place};
 use nd_commands::close_dispatch;
 use nd_devices::Told;
 use nd_ledger::Dispatch;
-use nd_resume::resume;
 use std::alloc::Global;
 use std::io::Read;
 use std::thread::Threads;
@@ -60,7 +60,7 @@ pub fn open_session<R: Read>(
 ///
 /// Refuses with `NotEmpty` where the journal holds something and isn't to be resumed from, and one that is to be
 /// with `TooLarge`, as a history text, where it has more than [`JOURNAL_LIMIT`] bytes, or else with `BadLine` or `Illegal`,
-/// as [`ResumeError`](nd_resume::ResumeError) says. `Memory` may come at any point. The dispatch is gone then.
+/// as [`ResumeError`](crate::ResumeError) says. `Memory` may come at any point. The dispatch is gone then.
 pub fn take_journal(
     alloc: Global,
     dispatch: Dispatch,

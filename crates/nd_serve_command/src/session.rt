@@ -5,8 +5,9 @@ ghost use Rattle.nd_serve_command.specs.Sessions.{EndsSession, CutsSession};
 
 use crate::fault::{ServeFault, session_fault};
 use crate::opened::Opened;
-use nd_commands::{close_dispatch, exit_status};
+use nd_commands::close_dispatch;
 use nd_desk::Desk;
+use nd_report::exit_status;
 use nd_serve::serve;
 use std::alloc::Global;
 

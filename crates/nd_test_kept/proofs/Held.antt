@@ -1,6 +1,6 @@
 -- What a journal in memory holds that a run begins with.
 use Rattle.std.proofs.Common.{◌≡◌, ◌∙◌, ℕ, Bool, true, false, not, List, length, Some, ap}
-use Rattle.nd_crashes.specs.Crashes.{IsBegunWith}
+use Rattle.nd_serve_command.specs.Crashes.{IsBegunWith}
 use Rattle.nd_history.specs.declared.entry.Entry.{Entry}
 use Rattle.nd_history.specs.Premises.{Premises}
 use Rattle.nd_keeping.specs.Scribing.{HoldsDurably, journal_text}

@@ -2,6 +2,7 @@
 
 ghost use Rattle.std.specs.Prelude.{◌≡◌, ◌==◌, Some, [], not, map};
 ghost use Rattle.nd_keeping.specs.Scribing.{HoldsDurably, journal_text};
+ghost use Rattle.nd_keeping.specs.Stored.{stored_with};
 ghost use Rattle.nd_workers.specs.Runs.{AreManned};
 
 use nd_devices::Told;
@@ -87,7 +88,7 @@ fn seat<R: Threads + Wait + Sync>(
     rules: Vec<Rule>,
     journal: MemoryJournal,
 ) -> Option<Seen>
-    requires held { HoldsDurably (Some (record { bytes = journal.bytes.items; durable = journal.durable })) (journal_text (not (opened.kept == 0)) opened.dispatch.history) }
+    requires held { HoldsDurably (Some (stored_with journal.bytes.items journal.durable)) (journal_text (not (opened.kept == 0)) opened.dispatch.history) }
 {
     match stand_ins(alloc, &opened.dispatch, rules) {
         Ok(seats) => run_seated(rt, alloc, opened, seats, journal),
@@ -107,7 +108,7 @@ fn run_seated<R: Threads + Wait + Sync>(
     journal: MemoryJournal,
 ) -> Option<Seen>
     requires manned { AreManned opened.dispatch.inputs (map (λ w. w.place) seats.items) }
-    requires held { HoldsDurably (Some (record { bytes = journal.bytes.items; durable = journal.durable })) (journal_text (not (opened.kept == 0)) opened.dispatch.history) }
+    requires held { HoldsDurably (Some (stored_with journal.bytes.items journal.durable)) (journal_text (not (opened.kept == 0)) opened.dispatch.history) }
 {
     let mut output = Told::new(Vec::new(alloc));
     let KeptEnd { answer, journal } = run_kept_engine(

@@ -4,7 +4,6 @@
 use nd_history::Entry;
 use nd_ledger::Dispatch;
 use nd_receipts::ParkPlace;
-use nd_run_desk::{jobs_on, machine_count};
 use std::alloc::{AllocError, Global};
 use std::sync::Condvar;
 
@@ -19,8 +18,8 @@ impl Bells {
     /// A bell for each slot of the park of this dispatch.
     pub fn new(alloc: Global, dispatch: &Dispatch) -> Result<Bells, AllocError> {
         let mut machines = Vec::new(alloc);
-        for machine in 0..machine_count(dispatch) {
-            machines.push(bells_for(alloc, jobs_on(dispatch, machine))?)?;
+        for machine in 0..dispatch.machine_count() {
+            machines.push(bells_for(alloc, dispatch.jobs_on(machine))?)?;
         }
         Ok(Bells {
             machines,

@@ -8,7 +8,6 @@ ghost use Rattle.nd_workers.specs.Served.{places_served};
 use crate::seat::Seat;
 use nd_ledger::Dispatch;
 use nd_receipts::ParkPlace;
-use nd_run_desk::{jobs_on, machine_count};
 use std::alloc::{AllocError, Global};
 
 /// How many of these places are this one.
@@ -22,7 +21,7 @@ fn count_at(places: &[ParkPlace], place: ParkPlace) -> usize
 fn is_machine_manned(dispatch: &Dispatch, places: &[ParkPlace], machine: u32) -> bool
     ensures { IsTrue result ↔ IsMachineManned dispatch.now.inputs places.now machine }
 {
-    for slot in 0..jobs_on(dispatch, machine) {
+    for slot in 0..dispatch.jobs_on(machine) {
         if count_at(places, ParkPlace { machine, slot }) != 1 {
             return false;
         }
@@ -41,7 +40,7 @@ fn are_in_park(dispatch: &Dispatch, places: &[ParkPlace]) -> bool
 fn is_in_park(dispatch: &Dispatch, place: ParkPlace) -> bool
     ensures { result ≡ is_in_park dispatch.now.inputs place }
 {
-    place.machine < machine_count(dispatch) && place.slot < jobs_on(dispatch, place.machine)
+    place.machine < dispatch.machine_count() && place.slot < dispatch.jobs_on(place.machine)
 }
 
 /// Whether there is one worker for each slot of the park, and each worker is on one.
@@ -51,7 +50,7 @@ pub(crate) fn are_manned(dispatch: &Dispatch, places: &[ParkPlace]) -> bool
     if !are_in_park(dispatch, places) {
         return false;
     }
-    for machine in 0..machine_count(dispatch) {
+    for machine in 0..dispatch.machine_count() {
         if !is_machine_manned(dispatch, places, machine) {
             return false;
         }

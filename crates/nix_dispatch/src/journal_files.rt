@@ -34,7 +34,7 @@ pub(crate) struct Found<'a> {
     pub(crate) name: Option<&'a str>,
     /// The file of this name, where it is there. It is locked until the program ends.
     pub(crate) file: Option<File>,
-    /// The bytes that it holds, to its end or to one byte past the limit of an input.
+    /// The bytes that it holds, to its end or to one byte past the limit of a journal.
     pub(crate) bytes: ByteString,
 }
 
@@ -147,7 +147,7 @@ fn locked<'a>(alloc: Global, name: &'a str, file: File) -> Result<Found<'a>, End
     }
 }
 
-/// What the file of this name holds, to its end or to one byte past the limit of an input.
+/// What the file of this name holds, to its end or to one byte past the limit of a journal.
 fn held<'a>(alloc: Global, name: &'a str, file: &File) -> Result<ByteString, Ending<'a>> {
     let mut input = Told::new(Heard::new(file));
     let answer = journal_bytes(alloc, &mut input);

@@ -1,12 +1,11 @@
 //! The command `park`: a line for each slot.
 
 use clap::ArgMatches;
-use nd_cli::{CliFault, ParkOptions};
+use nd_cli::{CliFault, ParkOptions, park_engine};
 use nd_command_line::{Given, failure, write_failure};
 use nd_devices::Told;
 use nd_explain::{Failure, Heard};
 use nd_options::park_options;
-use nd_park::park_engine;
 use std::alloc::Global;
 use std::io;
 use std::rt::Files;

@@ -2,7 +2,7 @@
 //! Nix's build hook does for one derivation at a time.
 //!
 //! The program itself reads the command line and the files that it names, and leaves the rest to
-//! the engines of `nd_cli`, `nd_commands`, `nd_park`, `nd_serve_command`, `nd_run_command` and `nd_kept_run`.
+//! the engines of `nd_cli`, `nd_commands`, `nd_serve_command`, `nd_run_command` and `nd_kept_run`.
 #![tactic(auto)]
 
 mod agents;

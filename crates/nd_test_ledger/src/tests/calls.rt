@@ -86,7 +86,7 @@ fn build(alloc: Global, dispatch: &mut Dispatch, line: &str) -> Result<(), Refus
 /// `drain`. A machine outside of the park is left alone.
 fn drain(dispatch: &mut Dispatch, line: &str) -> Result<(), Refusal> {
     let machine = number_behind(line, 1);
-    if machine as usize > dispatch.machines().len() {
+    if machine >= dispatch.machine_count() {
         return Ok(());
     }
     Ok(dispatch.drain(machine)?)
@@ -95,7 +95,7 @@ fn drain(dispatch: &mut Dispatch, line: &str) -> Result<(), Refusal> {
 /// `enable`. A machine outside of the park is left alone.
 fn enable(dispatch: &mut Dispatch, line: &str) -> Result<(), Refusal> {
     let machine = number_behind(line, 1);
-    if machine as usize > dispatch.machines().len() {
+    if machine >= dispatch.machine_count() {
         return Ok(());
     }
     Ok(dispatch.enable(machine)?)

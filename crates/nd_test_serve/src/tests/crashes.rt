@@ -6,7 +6,7 @@ use crate::tests::texts::{
     first_answers, later_lines, newline_count, plain_bundle, ready_count, starts_and_ends,
 };
 use nd_history::Rule;
-use nd_resume::ResumeError;
+use nd_serve_command::ResumeError;
 use nd_test_fixtures::bundles::PLAIN_2;
 use nd_test_fixtures::places::{Place, park};
 use std::alloc::Global;

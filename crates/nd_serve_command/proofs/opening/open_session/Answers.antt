@@ -1,6 +1,6 @@
 use Rattle.std.proofs.Common.{◌≡◌, ◌∙◌, sym, subst}
 use Rattle.nd_history.specs.Premises.{Premises}
-use Rattle.nd_resume.specs.Resumes.{IsResumable}
+use Rattle.nd_serve_command.specs.Resumes.{IsResumable}
 use Rattle.nd_serve_command.specs.Sessions.{IsNoRefusal}
 use Rattle.nd_serve_command.proofs.Begun.{same_world, session_begun}
 use Rattle.nd_serve_command.proofs.opening.open_session.Goals as goal

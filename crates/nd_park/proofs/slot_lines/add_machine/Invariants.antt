@@ -1,6 +1,0 @@
-use Rattle.nd_park.specs.SlotLines.{slot_line}
-use Rattle.nd_park.proofs.Slots.{AreListing}
-use Rattle.nd_park.proofs.slot_lines.add_machine.Given as goal
-
-abbrev pub invariant-loop-slot : goal.invariant-loop-slot
-invariant-loop-slot l = AreListing (slot_line l.number l.end) l.initial.text.items l.text.items l.slot l.jobs

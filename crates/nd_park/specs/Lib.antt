@@ -1,3 +1,0 @@
-pub mod SlotLines
-pub mod Listed
-pub mod Limits

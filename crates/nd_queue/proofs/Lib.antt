@@ -1,3 +1,0 @@
-pub mod GroupedFacts
-pub mod QueueFacts
-pub mod Keeping

@@ -1,4 +1,0 @@
-pub mod Grouped
-pub mod GroupedKept
-pub mod Queues
-pub mod QueueKept

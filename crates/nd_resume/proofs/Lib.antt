@@ -1,2 +1,0 @@
-pub mod TakenUp
-pub mod OneAnswer

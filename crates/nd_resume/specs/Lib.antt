@@ -1,2 +1,0 @@
-pub mod Resumes
-pub mod ResumeLaws

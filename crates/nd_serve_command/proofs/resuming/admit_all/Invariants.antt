@@ -1,0 +1,11 @@
+use Rattle.std.proofs.Common.{◌≡◌, ◌++◌}
+use Rattle.std.specs.Vec.Iter.{into_iter_items}
+use Rattle.nd_report.proofs.Admitting.{IsAdmitted}
+use Rattle.nd_serve_command.proofs.resuming.admit_all.Given as goal
+
+-- the entries so far were admitted
+abbrev pub invariant-admitting : goal.invariant-admitting
+invariant-admitting l = record {
+  admitted : IsAdmitted l.fn.dispatch.inputs l.yielded l.dispatch l.index;
+  whole : l.fn.entries.items ≡ l.yielded ++ into_iter_items l.entry-iterator;
+}
