@@ -56,7 +56,8 @@ needs_of() {
     journal.py) echo program python3 cc root ;;
     first.sh) echo rt python3 ;;
     real-park.sh) echo program nix-store busybox python3 root ;;
-    bad-day.sh|ssh-park.sh) echo program nix-store busybox python3 root ssh-keygen sshd ;;
+    bad-day.sh) echo program nix-store busybox python3 root ssh-keygen sshd dash ;;
+    ssh-park.sh) echo program nix-store busybox python3 root ssh-keygen sshd ;;
     wrong-bodies.sh) echo rt git time ;;
     *) echo program ;;
   esac
