@@ -99,6 +99,8 @@ function text_of(drv,    at, count, word, kept, dropped, piece, list, listed, se
 }
 
 END {
+  # What isn't in the graph, as a link to a derivation, would need nothing.
+  for (one in root) if (drvs && !(one in number)) { print "cut: " one " is no derivation of the graph" > "/dev/stderr"; exit 1 }
   for (drv = drvs; drv >= 1; drv--) {
     if (path[drv] in root) {
       asked[drv] = 1
