@@ -61,18 +61,18 @@ pub output_alone : (known : Known) (wants : List NamedInput) → HasInputs known
 output_alone known wants inputs lacks = record { inputs = inputs; lacks = lacks }
 
 -- line by line
-pub links_none : (known : Known) (wants : List (List NamedInput)) → AreLinks known (take 0 wants) []
-links_none known wants = record { each = tt }
+pub links_none : (known : Known) → AreLinks known [] []
+links_none known = record { each = tt }
 
-pub links_more : (known : Known) (wants : List (List NamedInput)) (rows : List (Result (List Input) LinkError)) (i : ℕ) (wanted : List NamedInput) (row : Result (List Input) LinkError) → i < length wants → wanted ≡ get_or wants i wanted
-    → AreLinks known (take i wants) rows → IsLink known wanted row → AreLinks known (take (i + 1) wants) (rows ++ row ∷ [])
-links_more known wants rows i wanted row lt is so here = record {
-  each = subst (λ (xs : List (List NamedInput)). AllZip (IsLink known) xs (rows ++ row ∷ [])) (sym (taken wants i wanted lt is))
-      (zip_push (IsLink known) (take i wants) rows wanted row so.each here);
-}
+pub links_more : (known : Known) (wants : List (List NamedInput)) (rows : List (Result (List Input) LinkError)) (wanted : List NamedInput) (row : Result (List Input) LinkError)
+    → AreLinks known wants rows → IsLink known wanted row → AreLinks known (wants ++ wanted ∷ []) (rows ++ row ∷ [])
+links_more known wants rows wanted row so here = record { each = zip_push (IsLink known) wants rows wanted row so.each here }
 
-pub links_all : (known : Known) (wants : List (List NamedInput)) (rows : List (Result (List Input) LinkError)) (i : ℕ) → AreLinks known (take i wants) rows → length wants ≤ i → AreLinks known wants rows
-links_all known wants rows i so all = subst (λ (xs : List (List NamedInput)). AreLinks known xs rows) (take_all i wants all) so
+pub links_pushed : (known : Known) (wants : List (List NamedInput)) (rows new : List (Result (List Input) LinkError)) (wanted : List NamedInput) (row : Result (List Input) LinkError) (shown : List NamedInput) → shown ≡ wanted
+    → AreLinks known wants rows → new ≡ rows ++ row ∷ [] → IsLink known shown row → AreLinks known (wants ++ wanted ∷ []) new
+links_pushed known wants rows new wanted row shown same so grown here =
+    subst (λ (rs : List (Result (List Input) LinkError)). AreLinks known (wants ++ wanted ∷ []) rs) (sym grown)
+    (links_more known wants rows wanted row so (subst (λ (w : List NamedInput). IsLink known w row) same here))
 
 -- the search for a line without an input
 pub known_none : (rows : List (Result (List Input) LinkError)) → HaveInputs rows 0
@@ -185,13 +185,14 @@ ungathered paths names wants rows error links (of_input first) =
     subst (λ (e : GraphError). IsLinkFault paths names wants e) (sym first.error_is) (unknown_by paths names wants rows first.place first.fault links first.within first.before first.is)
 ungathered paths names wants rows error links (of_output have unlinked) = unlinked_refused paths names wants rows error links have unlinked
 
-pub resolved : (paths : List (List ℕ)) (names : List (List (List ℕ))) (known : Known) (wants : List (List NamedInput)) (rows : List (Result (List Input) LinkError)) (inputs : List (List Input)) → known ≡ known_of paths names → AreLinks known wants rows
-    → AreAllLinked rows inputs → IsResolved paths names wants inputs
-resolved paths names known wants rows inputs is links linked_all =
-    let here : AreLinks (known_of paths names) wants rows = subst (λ (k : Known). AreLinks k wants rows) is links in
-    let zip = subst (λ (rs : List (Result (List Input) LinkError)). AllZip (IsLink (known_of paths names)) wants rs) linked_all.all here.each in
-    let all : AllNumbered paths names wants inputs = record { each = zip_linked (known_of paths names) wants inputs zip } in
-    record { there = rows_reach paths names wants inputs all; numbered = all }
+pub resolved_all : (known : Known) (wants : List (List NamedInput)) (rows : List (Result (List Input) LinkError)) (inputs : List (List Input)) → AreLinks known wants rows → AreAllLinked rows inputs → IsResolved known.paths known.names wants inputs
+resolved_all known wants rows inputs links linked_all =
+    let zip = subst (λ (rs : List (Result (List Input) LinkError)). AllZip (IsLink known) wants rs) linked_all.all links.each in
+    let all : AllNumbered known.paths known.names wants inputs = record { each = zip_linked known wants inputs zip } in
+    record { there = rows_reach known.paths known.names wants inputs all; numbered = all }
+
+pub not_resolved : (known : Known) (wants : List (List NamedInput)) (rows : List (Result (List Input) LinkError)) (error : GraphError) → AreLinks known wants rows → IsUngathered rows error → IsLinkFault known.paths known.names wants error
+not_resolved known wants rows error links why = ungathered known.paths known.names wants rows error links why
 
 -- a line without an output, after lines that were linked
 pub line_unlinked : (rows : List (Result (List Input) LinkError)) (inputs : List (List Input)) (fault : LinkError) (behind : List (Result (List Input) LinkError)) (error : GraphError) → rows ≡ map linked inputs ++ Err fault ∷ behind
@@ -206,7 +207,7 @@ pub output_ungathered : (shown rows : List (Result (List Input) LinkError)) (err
 output_ungathered shown rows error same have unlinked = of_output (subst (λ (rs : List (Result (List Input) LinkError)). HaveInputs rs (length rs)) same have) unlinked
 
 -- why lines aren't linked is a refusal over the whole
-link_whole : (links : Links) (error : GraphError) → AreDistinct links.paths → IsLinkFault links.paths links.names links.wants error → IsWholeFault links error
+pub link_whole : (links : Links) (error : GraphError) → AreDistinct links.paths → IsLinkFault links.paths links.names links.wants error → IsWholeFault links error
 link_whole links (bundle.BadLine line) distinct is = absurd is
 link_whole links (bundle.BadPath line) distinct is = absurd is
 link_whole links (bundle.BadDerivation line) distinct is = absurd is
@@ -219,6 +220,3 @@ link_whole links (bundle.MissingOutput line) distinct is = (distinct, is.0, is.1
 link_whole links bundle.Cycle distinct is = absurd is
 link_whole links bundle.TooMany distinct is = absurd is
 link_whole links bundle.Memory distinct is = tt
-
-pub ungathered_whole : (links : Links) (rows : List (Result (List Input) LinkError)) (error : GraphError) → AreDistinct links.paths → AreLinks (known_of links.paths links.names) links.wants rows → IsUngathered rows error → IsWholeFault links error
-ungathered_whole links rows error distinct are why = link_whole links error distinct (ungathered links.paths links.names links.wants rows error are why)

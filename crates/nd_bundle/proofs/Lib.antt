@@ -1,12 +1,13 @@
 mod Apart
 pub mod Assembled
-mod Collecting
 pub mod Newlines
 pub mod Gathered
 pub mod Linked
 pub mod Numbers
 pub mod OneBundle
 pub mod OneDrvPath
+pub mod Pieced
+pub mod Placed
 pub mod Taken
 pub mod Told
 pub mod Zipped

@@ -10,7 +10,7 @@ use Rattle.nd_bundle.specs.declared.columns.Columns.{Columns}
 use Rattle.nd_bundle.specs.Lines.{lines}
 use Rattle.nd_bundle.specs.Numbered.{fault_at}
 use Rattle.nd_line.specs.Reads.{IsFaulty, IsLine, Reads}
-use Rattle.nd_bundle.specs.Columned.{HasColumns, SayColumns, said}
+use Rattle.nd_bundle.specs.Columned.{HasColumns, SayColumns}
 use Rattle.nd_bundle.specs.Settled.{links_in, AllNamesRise, AreFit, ArePaired, AreSized, IsFit, IsGraphOfColumns}
 use Rattle.nd_bundle.specs.Whole.{links_of, AllNumbered, IsGraphOf, IsWholeFault, Links}
 use Rattle.nd_bundle.specs.declared.fault.GraphError.{GraphError}
@@ -43,43 +43,7 @@ nodes_fit check ls nodes zip = record {
       node_fit check (get_or ls on.0 []) node (subst (λ (n : LineNode). IsLine check (get_or ls on.0 []) n) on.2 at);
 }
 
--- the nodes of lines that were all read
-pub nodes_say : (check : Bool) (ls : List (List ℕ)) (nodes : List LineNode) → AllZip (Reads check) ls (map said nodes) → AllZip (IsLine check) ls nodes
-nodes_say check [] [] zip = tt
-nodes_say check [] (n ∷ nodes) zip = absurd zip
-nodes_say check (l ∷ ls) [] zip = absurd zip
-nodes_say check (l ∷ ls) (n ∷ nodes) zip = (zip.0, nodes_say check ls nodes zip.1)
-
--- the lines up to the first that is refused
-record IsSplit (check : Bool) (ls : List (List ℕ)) (nodes : List LineNode) (fault : LineError) : Type 0 where
-  before : List (List ℕ)
-  line : List ℕ
-  behind : List (List ℕ)
-  parts : ls ≡ before ++ line ∷ behind
-  says : AllZip (IsLine check) before nodes
-  refused : IsFaulty check line fault
-
-split_lines : (check : Bool) (ls : List (List ℕ)) (nodes : List LineNode) (fault : LineError) (behind : List (Result LineNode LineError)) → AllZip (Reads check) ls (map said nodes ++ Err fault ∷ behind) → IsSplit check ls nodes fault
-split_lines check [] [] fault behind zip = absurd zip
-split_lines check [] (n ∷ nodes) fault behind zip = absurd zip
-split_lines check (l ∷ ls) [] fault behind zip = record { before = []; line = l; behind = ls; parts = refl; says = tt; refused = zip.0 }
-split_lines check (l ∷ ls) (n ∷ nodes) fault behind zip =
-    let rest = split_lines check ls nodes fault behind zip.1 in
-    record { before = l ∷ rest.before; line = rest.line; behind = rest.behind; parts = ap (λ (xs : List (List ℕ)). l ∷ xs) rest.parts; says = (zip.0, rest.says); refused = rest.refused }
-
-refused_at : (check : Bool) (text : List ℕ) (nodes : List LineNode) (fault : LineError) → IsSplit check (lines text) nodes fault → IsLineRefused check text fault (length nodes + 1)
-refused_at check text nodes fault split = record {
-  before = split.before;
-  line = split.line;
-  behind = split.behind;
-  nodes = nodes;
-  parts = split.parts;
-  says = split.says;
-  refused = split.refused;
-  number_is = ap (λ (n : ℕ). n + 1) (sym (zip_length (IsLine check) split.before nodes split.says));
-}
-
-line_error : (check : Bool) (text : List ℕ) (fault : LineError) (n : ℕ) → IsLineRefused check text fault n → IsFirstFault check text (fault_at fault n)
+pub line_error : (check : Bool) (text : List ℕ) (fault : LineError) (n : ℕ) → IsLineRefused check text fault n → IsFirstFault check text (fault_at fault n)
 line_error check text BadLine n is = is
 line_error check text BadPath n is = is
 line_error check text BadDerivation n is = is
@@ -101,22 +65,6 @@ whole_fault check text nodes (bundle.MissingOutput n) says is = record { nodes =
 whole_fault check text nodes bundle.Cycle says is = record { nodes = nodes; says = says; refused = is }
 whole_fault check text nodes bundle.TooMany says is = record { nodes = nodes; says = says; refused = is }
 whole_fault check text nodes bundle.Memory says is = tt
-
-pub first_refused : (check : Bool) (text : List ℕ) (ls more behind : List (List ℕ)) (nodes before : List LineNode) (fault : LineError) (rest : List (Result LineNode LineError)) → lines text ≡ ls ++ (more ++ behind) → AllZip (IsLine check) ls nodes
-    → AllZip (Reads check) more (map said before ++ Err fault ∷ rest) → IsFirstFault check text (fault_at fault (length (nodes ++ before) + 1))
-first_refused check text ls more behind nodes before fault rest parts says zip =
-    let split = split_lines check more before fault rest zip in
-    let tail : List (List ℕ) = split.line ∷ split.behind ++ behind in
-    let cut : more ++ behind ≡ split.before ++ tail = ap (λ (xs : List (List ℕ)). xs ++ behind) split.parts ∙ append_assoc split.before (split.line ∷ split.behind) behind in
-    let whole : lines text ≡ (ls ++ split.before) ++ tail = parts ∙ ap (λ (xs : List (List ℕ)). ls ++ xs) cut ∙ sym (append_assoc ls split.before tail) in
-    line_error check text fault (length (nodes ++ before) + 1) (refused_at check text (nodes ++ before) fault (record {
-      before = ls ++ split.before;
-      line = split.line;
-      behind = split.behind ++ behind;
-      parts = whole;
-      says = AllZip-append (IsLine check) ls split.before nodes before says split.says;
-      refused = split.refused;
-    }))
 
 -- ---- from columns to the bundle
 

@@ -7,5 +7,6 @@ pub mod Names
 pub mod Numbered
 pub mod Numbering
 pub mod OneBundle
+pub mod Pieces
 pub mod Settled
 pub mod Whole

@@ -2,7 +2,6 @@
 use Rattle.std.specs.Prelude.{◌≡◌, ℕ, ◌+◌, ◌<◌, List, ◌∷◌, ◌++◌, length, map, Contains, Result, Ok, Err, Option, Some, None}
 use Rattle.std.specs.List.{slice_index_or, AllZip}
 use Rattle.nd_graph.specs.declared.graph.Input.{Input}
-use Rattle.nd_bundle.specs.declared.columns.Columns.{Columns}
 use Rattle.nd_line.specs.declared.line.NamedInput.{NamedInput}
 use Rattle.nd_bundle.specs.declared.fault.GraphError.{GraphError}
 use Rattle.nd_bundle.specs.declared.fault.GraphError.TheVariants as bundle
@@ -18,10 +17,6 @@ pub record Known : Type 0 where
 
 abbrev pub known_of : List (List ℕ) → List (List (List ℕ)) → Known
 known_of paths names = record { paths = paths; names = names }
-
--- .. of the nodes with these parts
-abbrev pub known_in : Columns → Known
-known_in columns = known_of columns.paths.items columns.names.items
 
 -- each node has its names, which rise
 pub record IsKnown (known : Known) : Type 0 where

@@ -6,10 +6,12 @@ use Rattle.nd_bytes.specs.Compared.{bytes_cmp}
 use Rattle.nd_line.specs.declared.line.LineNode.{LineNode}
 use Rattle.nd_line.specs.declared.line.NamedInput.{NamedInput}
 use Rattle.nd_bundle.specs.declared.fault.GraphError.{GraphError}
-use Rattle.nd_bundle.specs.declared.fault.GraphError.TheVariants.{MissingInput, MissingOutput, Memory}
+use Rattle.nd_bundle.specs.declared.fault.GraphError.TheVariants.{MissingInput, MissingOutput, Cycle, TooMany, Memory}
 use Rattle.nd_bundle.specs.declared.columns.Columns.{Columns}
 use Rattle.nd_graph.specs.declared.graph.Input.{Input}
-use Rattle.nd_graph.specs.Graphs.{Nodes}
+use Rattle.nd_graph.specs.Graphs.{Nodes, needed, node_limit, IsOrderFault}
+use Rattle.nd_graph.specs.Walks.{IsAcyclic}
+use Rattle.nd_graph.specs.declared.fault.OrderError.TheVariants as order
 use Rattle.nd_bundle.specs.Whole.{AllNumbered, AreInputsThere, IsMissingInput, IsMissingOutput, Links}
 
 -- a list of names that rises
@@ -65,3 +67,10 @@ IsLinkFault paths names wants (MissingInput line) = IsMissingInput paths wants l
 IsLinkFault paths names wants (MissingOutput line) = AreInputsThere paths wants × IsMissingOutput paths names wants line
 IsLinkFault paths names wants Memory = Unit {0}
 IsLinkFault paths names wants _ = ⊥
+
+-- some node needs itself, or there are too many nodes, none of which does, or memory is wanting
+abbrev pub IsOrderedFault : List (List ℕ) → List (List Input) → GraphError → Type 0
+IsOrderedFault paths rows Cycle = IsOrderFault (needed rows) order.Cycle
+IsOrderedFault paths rows TooMany = IsAcyclic (needed rows) × (node_limit < length paths)
+IsOrderedFault paths rows Memory = Unit {0}
+IsOrderedFault paths rows _ = ⊥

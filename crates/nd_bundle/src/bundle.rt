@@ -7,8 +7,7 @@ ghost use Rattle.nd_graph.specs.Graphs.{Nodes};
 
 use crate::collect::read_lines_side_by_side;
 use crate::fault::GraphError;
-use crate::resolve::link_side_by_side;
-use crate::whole::graph_of;
+use crate::whole::graph_side_by_side;
 use nd_graph::Graph;
 use std::alloc::Global;
 use std::thread::Threads;
@@ -33,6 +32,5 @@ pub fn read_bundle(
         → MatchResult result (λ g. g ≡ graph) (λ e. e ≡ GraphError.Memory) }
 {
     let columns = read_lines_side_by_side(rt, alloc, text, check_paths)?;
-    let rows = link_side_by_side(rt, alloc, &columns)?;
-    graph_of(alloc, columns, rows)
+    graph_side_by_side(rt, alloc, columns)
 }

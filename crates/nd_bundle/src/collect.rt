@@ -3,20 +3,22 @@
 ghost use Rattle.std.specs.Prelude.{map, IfErr, IfOk, OnOk};
 ghost use Rattle.std.specs.List.{AllZip};
 ghost use Rattle.nd_bundle.specs.Bundles.{IsFirstFault};
-ghost use Rattle.nd_bundle.specs.Columned.{IsTakeFault, SayColumns, TakesIn};
+ghost use Rattle.nd_bundle.specs.Columned.{SayColumns};
 ghost use Rattle.nd_bundle.specs.Lines.{lines};
-ghost use Rattle.nd_line.specs.Reads.{Reads};
+ghost use Rattle.nd_bundle.specs.Pieces.{AreJoined, IsJoinFault, IsPieceFault, IsReadText, IsReadTo, Joins};
 
 use crate::columns::Columns;
-use crate::cutting::cut_lines;
+use crate::cutting::{cut_lines, cut_pieces};
 use crate::fault::GraphError;
-use nd_line::{LineError, LineView, read_line};
+use crate::piece::Piece;
+use nd_line::read_line;
+use rayon::current_num_threads;
 use rayon::prelude::*;
 use std::alloc::{AllocError, Global};
 use std::thread::Threads;
 
-/// The length from which on a text is read by many threads: one thread has read a shorter one before others
-/// have started.
+/// The least length of a piece that a thread reads: one thread has read a shorter one before another has
+/// started.
 const LONG: usize = 65_536;
 
 /// What the lines of the text say, in order, or the refusal of the first that has one; read by this thread
@@ -38,7 +40,7 @@ pub(crate) fn read_lines_side_by_side<'t>(
 }
 
 /// The same, read by this thread.
-#[tactic(auto, using(crate::proofs::Taken::says_none, crate::proofs::Taken::all_says))]
+#[tactic(auto, using(crate::proofs::Pieced::says_fault))]
 pub(crate) fn read_lines<'t>(
     alloc: Global,
     text: &'t [u8],
@@ -47,16 +49,38 @@ pub(crate) fn read_lines<'t>(
     ensures ok { IfOk result (SayColumns check (lines text.now)) }
     ensures err { IfErr result (IsFirstFault check text.now) }
 {
+    let Piece { columns, refused } = read_piece(alloc, text, check)?;
+    match refused {
+        None => Ok(columns),
+        Some(fault) => Err(GraphError::of_line(fault, columns.paths.len() + 1)),
+    }
+}
+
+/// What the lines of a piece of a text say, up to the first that is refused.
+#[tactic(auto, using(crate::proofs::Taken::says_none, crate::proofs::Pieced::said_all))]
+fn read_piece<'t>(alloc: Global, text: &'t [u8], check: bool) -> Result<Piece<'t>, AllocError>
+    ensures { IfOk result (λ piece. IsReadTo check (lines text.now) piece.columns piece.refused) }
+{
     let lines = cut_lines(alloc, text)?;
     let mut columns = Columns::with_capacity(alloc, lines.len())?;
     for line in &lines {
-        columns.add(read_line(alloc, line, check))?;
+        match read_line(alloc, line, check) {
+            Ok(node) => columns.push(node)?,
+            Err(fault) => {
+                return Ok(Piece {
+                    columns,
+                    refused: Some(fault),
+                });
+            }
+        }
     }
-    Ok(columns)
+    Ok(Piece {
+        columns,
+        refused: None,
+    })
 }
 
-/// The same, read by as many threads as there are processors.
-#[tactic(auto, using(crate::proofs::Taken::says_none))]
+/// The same as `read_lines`, read by as many threads as there are processors, two pieces each.
 fn read_lines_in_parallel<'t>(
     rt: &(impl Threads + Sync),
     alloc: Global,
@@ -66,43 +90,76 @@ fn read_lines_in_parallel<'t>(
     ensures ok { IfOk result (SayColumns check (lines text.now)) }
     ensures err { IfErr result (IsFirstFault check text.now) }
 {
-    let lines = cut_lines(alloc, text)?;
-    let mut columns = Columns::with_capacity(alloc, lines.len())?;
-    let read = read_each(rt, alloc, lines.as_slice(), check)?;
-    take_in(&mut columns, read)?;
-    Ok(columns)
+    let least = text.len() / current_num_threads(rt) / 2;
+    let texts = cut_pieces(alloc, text, least.max(LONG))?;
+    let pieces = read_each(rt, alloc, texts.as_slice(), check)?;
+    join_pieces(alloc, pieces)
 }
 
-/// What each of these lines says, in order, read by as many threads as there are processors.
+/// What the lines of each of these texts say, in order, read by as many threads as there are processors.
 fn read_each<'t>(
     rt: &(impl Threads + Sync),
     alloc: Global,
-    lines: &[&'t [u8]],
+    texts: &[&'t [u8]],
     check: bool,
-) -> Result<Vec<Result<LineView<'t>, LineError>>, AllocError>
-    ensures { IfOk result (λ read. AllZip (Reads check) (map (λ line. line.now) lines.now) read.items) }
+) -> Result<Vec<Result<Piece<'t>, AllocError>>, AllocError>
+    ensures { IfOk result (λ read. AllZip (IsReadText check) (map (λ text. text.now) texts.now) read.items) }
 {
-    lines
+    texts
         .par_iter()
+        .with_min_len(1)
         .map(
-            |line: &&[u8]| -> Result<LineView<'_>, LineError>
-                ensures { Reads check line.now.now result }
-            { read_line(alloc, line, check) },
+            |text: &&[u8]| -> Result<Piece<'_>, AllocError>
+                ensures { IsReadText check text.now.now result }
+            { read_piece(alloc, text, check) },
         )
         .collect(rt, alloc)
 }
 
-/// Adds the nodes that more lines say, or answers the refusal of the first that has one.
-#[tactic(auto, using(crate::proofs::Taken::taken_none, crate::proofs::Taken::taken_more, crate::proofs::Taken::refused_more))]
-fn take_in<'t>(
-    columns: &mut Columns<'t>,
-    read: Vec<Result<LineView<'t>, LineError>>,
-) -> Result<(), GraphError>
-    ensures ok { OnOk result (TakesIn columns.old read.entry.items columns.new) }
-    ensures err { IfErr result (IsTakeFault columns.old read.entry.items) }
+/// What the lines of these pieces say, one piece after another, or the refusal of the first line that has one.
+#[tactic(auto, using(crate::proofs::Pieced::joined_none, crate::proofs::Pieced::fault_at_once))]
+fn join_pieces<'t>(
+    alloc: Global,
+    pieces: Vec<Result<Piece<'t>, AllocError>>,
+) -> Result<Columns<'t>, GraphError>
+    ensures ok { IfOk result (AreJoined pieces.entry.items) }
+    ensures err { IfErr result (IsJoinFault pieces.entry.items) }
 {
-    for line in read {
-        columns.add(line)?;
+    let mut columns = Columns::with_capacity(alloc, count_nodes(pieces.as_slice()))?;
+    for piece in pieces {
+        join_piece(&mut columns, piece)?;
     }
-    Ok(())
+    Ok(columns)
+}
+
+/// Adds what the lines of a piece say, or answers the refusal that it has, with the line's number: so many nodes
+/// were said before, and one.
+#[tactic(auto, using(crate::proofs::Pieced::joins, crate::proofs::Pieced::fault_behind, crate::proofs::Pieced::fault_of_memory))]
+fn join_piece<'t>(
+    columns: &mut Columns<'t>,
+    piece: Result<Piece<'t>, AllocError>,
+) -> Result<(), GraphError>
+    ensures ok { OnOk result (Joins columns.old piece.entry columns.new) }
+    ensures err { IfErr result (IsPieceFault columns.old piece.entry) }
+{
+    let Piece {
+        columns: more,
+        refused,
+    } = piece?;
+    columns.append(more)?;
+    match refused {
+        None => Ok(()),
+        Some(fault) => Err(GraphError::of_line(fault, columns.paths.len() + 1)),
+    }
+}
+
+/// How many nodes the pieces have.
+fn count_nodes(pieces: &[Result<Piece<'_>, AllocError>]) -> usize {
+    let mut count = 0usize;
+    for read in pieces {
+        if let Ok(piece) = read {
+            count = count.saturating_add(piece.columns.paths.len());
+        }
+    }
+    count
 }

@@ -1,14 +1,14 @@
 //! The parts of a bundle's nodes, as lists with one item per node.
 
-ghost use Rattle.std.specs.Prelude.{◌++◌, ◌∷◌, [], List, IfErr, IfOk, OnOk};
-ghost use Rattle.nd_bundle.specs.Columned.{HasColumns, IsTakeFault, TakesIn};
+ghost use Rattle.std.specs.Prelude.{◌≡◌, ◌++◌, ◌∷◌, [], List, IfOk, OnOk};
+ghost use Rattle.nd_bundle.specs.Columned.{HasColumns};
+ghost use Rattle.nd_bundle.specs.Pieces.{IsAppended};
 ghost use Rattle.nd_line.specs.declared.line.LineNode.{LineNode};
 
-use crate::fault::GraphError;
 use nd_aterm::Leaf;
 use nd_bytes::Items;
 use nd_eligible::Need;
-use nd_line::{InputView, LineError, LineView};
+use nd_line::{InputView, LineView};
 use nd_path::StorePath;
 use std::alloc::{AllocError, Global};
 
@@ -46,7 +46,7 @@ impl<'t> Columns<'t> {
 
     /// Adds the parts of a node. Where memory is refused some of them may have been added.
     #[tactic(auto, using(crate::proofs::Taken::pushed))]
-    fn push(&mut self, node: LineView<'t>) -> Result<(), AllocError>
+    pub(crate) fn push(&mut self, node: LineView<'t>) -> Result<(), AllocError>
         ensures { OnOk result ((nodes : List LineNode) → HasColumns nodes self.old → HasColumns (nodes ++ node.entry ∷ []) self.new) }
     {
         let LineView {
@@ -66,19 +66,34 @@ impl<'t> Columns<'t> {
         Ok(())
     }
 
-    /// Adds the node that a line says, or answers the line's refusal with its number: so many nodes were
-    /// said before, and one.
-    #[tactic(auto, using(crate::proofs::Taken::taken_one, crate::proofs::Taken::refused_one))]
-    pub(crate) fn add(&mut self, read: Result<LineView<'t>, LineError>) -> Result<(), GraphError>
-        ensures ok { OnOk result (TakesIn self.old (read.entry ∷ []) self.new) }
-        ensures err { IfErr result (IsTakeFault self.old (read.entry ∷ [])) }
+    /// Adds the parts of other nodes behind these. Where memory is refused some of them may have been added.
+    #[tactic(auto, using(crate::proofs::Taken::appended))]
+    pub(crate) fn append(&mut self, others: Columns<'t>) -> Result<(), AllocError>
+        ensures { OnOk result (IsAppended self.old others.entry self.new) }
     {
-        match read {
-            Ok(node) => {
-                self.push(node)?;
-                Ok(())
-            }
-            Err(fault) => Err(GraphError::of_line(fault, self.paths.len() + 1)),
-        }
+        let Columns {
+            paths,
+            needs,
+            wants,
+            sources,
+            names,
+            outputs,
+        } = others;
+        add_all(&mut self.paths, paths)?;
+        add_all(&mut self.needs, needs)?;
+        add_all(&mut self.wants, wants)?;
+        add_all(&mut self.sources, sources)?;
+        add_all(&mut self.names, names)?;
+        add_all(&mut self.outputs, outputs)?;
+        Ok(())
     }
+}
+
+/// Moves all items behind those of the other list.
+fn add_all<T: Drop>(list: &mut Vec<T>, items: Vec<T>) -> Result<(), AllocError>
+    ensures { OnOk result (list.new.items ≡ list.old.items ++ items.items) }
+{
+    let mut items = items;
+    list.append(&mut items)?;
+    Ok(())
 }

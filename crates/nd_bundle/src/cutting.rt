@@ -1,7 +1,7 @@
-//! Cutting the text of a bundle into its lines.
+//! Cutting the text of a bundle into its lines, and into pieces of whole lines.
 
-ghost use Rattle.std.specs.Prelude.{◌≡◌, map, IfOk};
-ghost use Rattle.nd_bundle.specs.Lines.{lines};
+ghost use Rattle.std.specs.Prelude.{◌≡◌, ◌<◌, ◌++◌, length, map, IfOk};
+ghost use Rattle.nd_bundle.specs.Lines.{lines, lines_in};
 
 use nd_bytes::cut;
 use std::alloc::{AllocError, Global};
@@ -21,4 +21,36 @@ pub(crate) fn cut_lines(alloc: Global, text: &[u8]) -> Result<Vec<&[u8]>, AllocE
         };
     }
     Ok(found)
+}
+
+/// The text in pieces of whole lines, each of at least so many bytes but for the last.
+pub(crate) fn cut_pieces(alloc: Global, text: &[u8], least: usize) -> Result<Vec<&[u8]>, AllocError>
+    ensures { IfOk result (λ found. lines_in (map (λ piece. piece.now) found.items) ≡ lines text.now) }
+{
+    let mut found = Vec::new(alloc);
+    let mut left = text;
+    while !left.is_empty() {
+        let (piece, behind) = first_piece(left, least);
+        found.push(piece)?;
+        left = behind;
+    }
+    Ok(found)
+}
+
+/// The lines in which the first bytes of the text stand, so many of them and one more, and what stands behind
+/// those lines.
+#[tactic(auto, using(crate::proofs::Newlines::cut_behind, crate::proofs::Newlines::whole_piece))]
+fn first_piece(text: &[u8], least: usize) -> (&[u8], &[u8])
+    requires { 0 < length text.now }
+    ensures lines { lines result.0.now ++ lines result.1.now ≡ lines text.now }
+    ensures shorter { length result.1.now < length text.now }
+{
+    if text.len() <= least {
+        return (text, &[]);
+    }
+    let (_, back) = text.split_at(least);
+    match cut(back, b'\n') {
+        (_, Some(behind)) => text.split_at(text.len() - behind.len()),
+        (_, None) => (text, &[]),
+    }
 }

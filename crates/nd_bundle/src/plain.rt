@@ -7,7 +7,6 @@ ghost use Rattle.nd_graph.specs.Graphs.{Nodes};
 
 use crate::collect::read_lines;
 use crate::fault::GraphError;
-use crate::resolve::link;
 use crate::whole::graph_of;
 use nd_graph::Graph;
 use std::alloc::Global;
@@ -27,6 +26,5 @@ pub fn read_bundle(alloc: Global, text: &[u8], check_paths: bool) -> Result<Grap
         → MatchResult result (λ g. g ≡ graph) (λ e. e ≡ GraphError.Memory) }
 {
     let columns = read_lines(alloc, text, check_paths)?;
-    let rows = link(alloc, &columns)?;
-    graph_of(alloc, columns, rows)
+    graph_of(alloc, columns)
 }

@@ -1,24 +1,22 @@
 //! What the inputs of a bundle's lines are looked up in.
 
-ghost use Rattle.std.specs.Prelude.{◌≡◌, ◌<◌, [], length, IfErr, IfOk};
+ghost use Rattle.std.specs.Prelude.{◌≡◌, ◌<◌, [], length};
 ghost use Rattle.std.specs.List.{slice_index_or};
 ghost use Rattle.nd_graph.specs.Graphs.{IsNumber};
-ghost use Rattle.nd_bundle.specs.Linking.{known_of, IsKnown};
-ghost use Rattle.nd_bundle.specs.Numbering.{IsNumberFault};
+ghost use Rattle.nd_bundle.specs.Linking.{known_of};
 ghost use Rattle.nd_bundle.specs.Settled.{AllNamesRise, NamesRise};
 
-use crate::fault::GraphError;
-use crate::path_index::PathIndex;
+use crate::path_bytes::find_bytes;
+use indexmap::IndexSet;
 use nd_aterm::Leaf;
 use nd_bytes::Items;
 use nd_path::StorePath;
-use std::alloc::Global;
 use std::marker::Model;
 
 /// The nodes of a bundle by number: their paths, and the names of the outputs of each, which rise.
 #[derive(Drop)]
 pub(crate) struct Register<'n, 't> {
-    paths: PathIndex<'n>,
+    paths: &'n IndexSet<StorePath>,
     names: &'n [Items<Leaf<'t>>],
 }
 
@@ -27,33 +25,29 @@ impl<'n, 't> Model for Register<'n, 't> {
 
     ghost Value = { Known };
 
-    ghost view = { λ r. known_of r.paths r.names.now };
+    ghost view = { λ r. known_of r.paths.now.keys r.names.now };
 
-    ghost invariant = { λ r. IsKnown (known_of r.paths r.names.now) };
+    ghost invariant = { λ r. IsKnown (known_of r.paths.now.keys r.names.now) };
 }
 
 impl<'n, 't> Register<'n, 't> {
-    /// The nodes with these paths and these output names; `Duplicate` where a path stands twice.
-    #[tactic(auto, using(crate::proofs::Gathered::is_known))]
+    /// The nodes with these paths and these output names.
     pub(crate) fn new(
-        alloc: Global,
-        paths: &'n [StorePath],
+        paths: &'n IndexSet<StorePath>,
         names: &'n [Items<Leaf<'t>>],
-    ) -> Result<Register<'n, 't>, GraphError>
-        requires sized { length names.now ≡ length paths.now }
+    ) -> Register<'n, 't>
+        requires sized { length names.now ≡ length paths.now.keys }
         requires rising { AllNamesRise names.now }
-        ensures ok { IfOk result (λ register. register ≡ known_of paths.now names.now) }
-        ensures err { IfErr result (λ fault. IsNumberFault paths.now fault) }
+        ensures { result ≡ known_of paths.now.keys names.now }
     {
-        let paths = PathIndex::new(alloc, paths)?;
-        Ok(Register { paths, names })
+        Register { paths, names }
     }
 
     /// The number of the node with this path, or `None` where there is none.
     pub(crate) fn find(&self, path: &[u8]) -> Option<usize>
         ensures { IsNumber self.now.paths path.now result }
     {
-        self.paths.find(path)
+        find_bytes(self.paths, path)
     }
 
     /// The names of the outputs of a node, which rise.

@@ -1,14 +1,12 @@
-//! The inputs of nodes by number.
+//! The inputs of a node by number.
 
 ghost use Rattle.std.specs.Prelude.{◌∷◌, [], IfOk, IfErr, MatchOption};
 ghost use Rattle.nd_graph.specs.Graphs.{IsNumber, IsAt};
-ghost use Rattle.nd_bundle.specs.Linking.{known_in, AreLinks, IsInputFault, IsLineFault, IsLink, IsRowFault};
+ghost use Rattle.nd_bundle.specs.Linking.{IsInputFault, IsLineFault, IsLink, IsRowFault};
 ghost use Rattle.nd_bundle.specs.Numbering.{LacksItem};
-ghost use Rattle.nd_bundle.specs.Settled.{links_in, AllNamesRise, AreSized, NamesRise};
-ghost use Rattle.nd_bundle.specs.Whole.{AreNumbered, ArePlaces, IsNumbered, IsWholeFault};
+ghost use Rattle.nd_bundle.specs.Settled.{NamesRise};
+ghost use Rattle.nd_bundle.specs.Whole.{AreNumbered, ArePlaces, IsNumbered};
 
-use crate::columns::Columns;
-use crate::fault::GraphError;
 use crate::link_error::LinkError;
 use crate::missing::has_inputs;
 use crate::register::Register;
@@ -16,95 +14,10 @@ use nd_aterm::Leaf;
 use nd_bytes::Items;
 use nd_graph::{Input, Places};
 use nd_line::InputView;
-use rayon::prelude::*;
 use std::alloc::{AllocError, Global};
-use std::thread::Threads;
-
-/// The inputs of each line by number, or why they have none, linked by this thread; `Duplicate` where a path
-/// stands twice.
-#[tactic(auto, using(crate::proofs::Gathered::whole_numbered))]
-pub(crate) fn link<'t>(
-    alloc: Global,
-    columns: &Columns<'t>,
-) -> Result<Vec<Result<Items<Input>, LinkError>>, GraphError>
-    requires sized { AreSized columns.now }
-    requires rising { AllNamesRise columns.now.names.items }
-    ensures ok { IfOk result (λ rows. AreLinks (known_in columns.now) columns.now.wants.items rows.items) }
-    ensures err { IfErr result (λ fault. IsWholeFault (links_in columns.now) fault) }
-{
-    let register = Register::new(alloc, columns.paths.as_slice(), columns.names.as_slice())?;
-    Ok(link_lines(alloc, &register, columns.wants.as_slice())?)
-}
-
-/// The number of inputs from which on they are linked by many threads. Fewer are linked in less than a tenth
-/// of a second, and the lists that threads put together leave holes in the heap.
-const MANY: usize = 131_072;
-
-/// The same; many inputs are linked by as many threads as there are processors.
-#[tactic(auto, using(crate::proofs::Gathered::whole_numbered))]
-pub(crate) fn link_side_by_side<'t>(
-    rt: &(impl Threads + Sync),
-    alloc: Global,
-    columns: &Columns<'t>,
-) -> Result<Vec<Result<Items<Input>, LinkError>>, GraphError>
-    requires sized { AreSized columns.now }
-    requires rising { AllNamesRise columns.now.names.items }
-    ensures ok { IfOk result (λ rows. AreLinks (known_in columns.now) columns.now.wants.items rows.items) }
-    ensures err { IfErr result (λ fault. IsWholeFault (links_in columns.now) fault) }
-{
-    if count_inputs(columns.wants.as_slice()) < MANY {
-        return link(alloc, columns);
-    }
-    let register = Register::new(alloc, columns.paths.as_slice(), columns.names.as_slice())?;
-    Ok(link_lines_in_parallel(rt, alloc, &register, columns.wants.as_slice())?)
-}
-
-/// How many inputs the lines have.
-fn count_inputs(wants: &[Items<InputView<'_>>]) -> usize {
-    let mut count = 0usize;
-    for inputs in wants {
-        count = count.saturating_add(inputs.len());
-    }
-    count
-}
-
-/// The inputs of each line by number, or why they have none.
-#[tactic(auto, using(crate::proofs::Gathered::links_none, crate::proofs::Gathered::links_more, crate::proofs::Gathered::links_all))]
-fn link_lines<'t>(
-    alloc: Global,
-    register: &Register<'_, 't>,
-    wants: &[Items<InputView<'t>>],
-) -> Result<Vec<Result<Items<Input>, LinkError>>, AllocError>
-    ensures { IfOk result (λ rows. AreLinks register.now wants.now rows.items) }
-{
-    let mut rows = Vec::with_capacity(alloc, wants.len())?;
-    for inputs in wants {
-        rows.push(link_line(alloc, register, inputs.as_slice()))?;
-    }
-    Ok(rows)
-}
-
-/// The same, by as many threads as there are processors.
-fn link_lines_in_parallel<'t>(
-    rt: &(impl Threads + Sync),
-    alloc: Global,
-    register: &Register<'_, 't>,
-    wants: &[Items<InputView<'t>>],
-) -> Result<Vec<Result<Items<Input>, LinkError>>, AllocError>
-    ensures { IfOk result (λ rows. AreLinks register.now wants.now rows.items) }
-{
-    wants
-        .par_iter()
-        .map(
-            |inputs: &Items<InputView<'_>>| -> Result<Items<Input>, LinkError>
-                ensures { IsLink register.entry.now inputs.entry.now result }
-            { link_line(alloc, register, inputs.as_slice()) },
-        )
-        .collect(rt, alloc)
-}
 
 /// The inputs of a line by number, or why they have none.
-fn link_line<'t>(
+pub(crate) fn link_line<'t>(
     alloc: Global,
     register: &Register<'_, 't>,
     wants: &[InputView<'t>],

@@ -1,34 +1,33 @@
 //! The graph of a bundle's nodes.
 
-ghost use Rattle.std.specs.Prelude.{length, IfOk, IfErr};
-ghost use Rattle.nd_graph.specs.Graphs.{rows_of, IsSound};
-ghost use Rattle.nd_bundle.specs.Settled.{links_in, AreSized, ArePaired, IsGraphOfColumns};
-ghost use Rattle.nd_graph.specs.Walks.{IsAcyclic};
-ghost use Rattle.nd_bundle.specs.Linking.{known_in, AreAllLinked, AreLinks, IsUngathered, IsUnlinked};
+ghost use Rattle.std.specs.Prelude.{◌≡◌, ◌≤◌, length, IfOk, IfErr};
+ghost use Rattle.nd_graph.specs.Graphs.{needed, node_limit, nodes_with, rows_of, IsSound};
+ghost use Rattle.nd_graph.specs.Walks.{AreInRange, IsAcyclic};
+ghost use Rattle.nd_bundle.specs.Settled.{links_in, AllNamesRise, AreSized, ArePaired, IsGraphOfColumns, IsOrderedFault};
 ghost use Rattle.nd_bundle.specs.Whole.{IsWholeFault};
 
 use crate::columns::Columns;
 use crate::fault::GraphError;
-use crate::link_error::LinkError;
-use crate::missing::check_inputs;
+use crate::linking::{link, link_side_by_side};
 use crate::number::number_all;
+use indexmap::IndexSet;
 use nd_bytes::Items;
+use nd_eligible::Need;
 use nd_graph::{Graph, Input, NODE_LIMIT, find_order};
+use nd_path::StorePath;
 use std::alloc::Global;
+use std::thread::Threads;
 
-/// The graph of the nodes with these parts, whose lines were linked so, or the first refusal over the whole.
-pub(crate) fn graph_of(
-    alloc: Global,
-    columns: Columns<'_>,
-    rows: Vec<Result<Items<Input>, LinkError>>,
-) -> Result<Graph, GraphError>
+/// The graph of the nodes with these parts, or the first refusal over the whole.
+#[tactic(auto, using(crate::proofs::Gathered::whole_numbered))]
+pub(crate) fn graph_of(alloc: Global, columns: Columns<'_>) -> Result<Graph, GraphError>
     requires sized { AreSized columns }
     requires paired { ArePaired columns.names.items columns.outputs.items }
-    requires links { AreLinks (known_in columns) columns.wants.items rows.items }
-    ensures ok { IfOk result (λ graph. IsGraphOfColumns columns.entry graph) }
+    requires rising { AllNamesRise columns.names.items }
+    ensures ok { IfOk result (IsGraphOfColumns columns.entry) }
     ensures sound { IfOk result IsSound }
     ensures acyclic { IfOk result (λ graph. IsAcyclic (rows_of graph)) }
-    ensures err { IfErr result (λ fault. IsWholeFault (links_in columns.entry) fault) }
+    ensures err { IfErr result (IsWholeFault (links_in columns.entry)) }
 {
     let Columns {
         paths,
@@ -38,48 +37,60 @@ pub(crate) fn graph_of(
         names,
         outputs,
     } = columns;
-    drop(wants);
-    drop(names);
     let paths = number_all(alloc, paths)?;
-    let inputs = gather(alloc, rows)?;
+    let inputs = link(alloc, &paths, names.as_slice(), wants)?;
+    drop(names);
+    graph_with(alloc, paths, needs, inputs, sources, outputs)
+}
+
+/// The same; many inputs are linked by as many threads as there are processors.
+#[tactic(auto, using(crate::proofs::Gathered::whole_numbered))]
+pub(crate) fn graph_side_by_side(
+    rt: &(impl Threads + Sync),
+    alloc: Global,
+    columns: Columns<'_>,
+) -> Result<Graph, GraphError>
+    requires sized { AreSized columns }
+    requires paired { ArePaired columns.names.items columns.outputs.items }
+    requires rising { AllNamesRise columns.names.items }
+    ensures ok { IfOk result (IsGraphOfColumns columns.entry) }
+    ensures sound { IfOk result IsSound }
+    ensures acyclic { IfOk result (λ graph. IsAcyclic (rows_of graph)) }
+    ensures err { IfErr result (IsWholeFault (links_in columns.entry)) }
+{
+    let Columns {
+        paths,
+        needs,
+        wants,
+        sources,
+        names,
+        outputs,
+    } = columns;
+    let paths = number_all(alloc, paths)?;
+    let inputs = link_side_by_side(rt, alloc, &paths, names.as_slice(), wants)?;
+    drop(names);
+    graph_with(alloc, paths, needs, inputs, sources, outputs)
+}
+
+/// The graph of these parts, which are linked, or why they are none.
+fn graph_with(
+    alloc: Global,
+    paths: IndexSet<StorePath>,
+    needs: Vec<Need>,
+    inputs: Vec<Items<Input>>,
+    sources: Vec<Items<StorePath>>,
+    outputs: Vec<Items<StorePath>>,
+) -> Result<Graph, GraphError>
+    requires ranged { AreInRange (needed inputs.items) }
+    requires sound { length paths.keys ≤ node_limit → IsSound (nodes_with paths.keys needs.items inputs.items sources.items outputs.items) }
+    ensures ok { IfOk result (λ graph. graph ≡ nodes_with paths.keys needs.items inputs.items sources.items outputs.items) }
+    ensures sound { IfOk result IsSound }
+    ensures acyclic { IfOk result (λ graph. IsAcyclic (rows_of graph)) }
+    ensures err { IfErr result (IsOrderedFault paths.keys inputs.items) }
+{
     if paths.len() > NODE_LIMIT {
         find_order(alloc, inputs.as_slice())?;
         return Err(GraphError::TooMany);
     }
     Ok(Graph::new(alloc, paths, needs, inputs, sources, outputs)?)
-}
-
-/// The rows that the lines were linked to, or the refusal of the first line without an input, or else
-/// of the first line without an output.
-#[tactic(auto, using(crate::proofs::Gathered::input_ungathered, crate::proofs::Gathered::output_ungathered))]
-fn gather(
-    alloc: Global,
-    rows: Vec<Result<Items<Input>, LinkError>>,
-) -> Result<Vec<Items<Input>>, GraphError>
-    ensures ok { IfOk result (λ inputs. AreAllLinked rows.items inputs.items) }
-    ensures err { IfErr result (IsUngathered rows.items) }
-{
-    match check_inputs(rows.as_slice()) {
-        Ok(()) => take_rows(alloc, rows),
-        Err(fault) => Err(fault),
-    }
-}
-
-/// The rows that the lines were linked to, or the refusal of the first line that has one.
-#[tactic(auto, using(crate::proofs::Gathered::line_unlinked))]
-fn take_rows(
-    alloc: Global,
-    rows: Vec<Result<Items<Input>, LinkError>>,
-) -> Result<Vec<Items<Input>>, GraphError>
-    ensures ok { IfOk result (λ inputs. AreAllLinked rows.items inputs.items) }
-    ensures err { IfErr result (IsUnlinked rows.items) }
-{
-    let mut inputs = Vec::with_capacity(alloc, rows.len())?;
-    for row in rows {
-        match row {
-            Ok(row) => inputs.push(row)?,
-            Err(fault) => return Err(fault.at(inputs.len() + 1)),
-        }
-    }
-    Ok(inputs)
 }

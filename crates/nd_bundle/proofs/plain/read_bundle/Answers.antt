@@ -22,10 +22,3 @@ pub returns-in_err-columns-clause-exactly : goal.returns-in_err-columns-clause-e
 returns-in_err-columns-clause-exactly c = λ graph is.
     let p = err_from_is_err_and c.from_residual.result c.from_residual.ensures.1 in
     rw (p.1, p.2) (read_exactly c.args.check_paths c.args.text.now (Err c.in_err-columns.field-0.0) tt c.in_err-columns.ensures.err graph is)
-
-pub returns-in_err-rows-clause-exactly : goal.returns-in_err-rows-clause-exactly
-returns-in_err-rows-clause-exactly c = λ graph is.
-    let p = err_from_is_err_and c.from_residual-in_err-rows.result c.from_residual-in_err-rows.ensures.1 in
-    rw (p.1, p.2)
-    (read_exactly c.args.check_paths c.args.text.now (Err c.in_err-rows.field-0.0) tt
-    (first_fault c.args.check_paths c.args.text.now c.in_ok-columns.columns c.in_err-rows.field-0.0 c.in_ok-columns.ensures.ok c.in_err-rows.ensures.err) graph is)

@@ -1,6 +1,6 @@
 use Rattle.std.proofs.Common.{map, take}
 use Rattle.nd_bundle.specs.Columned.{SayColumns}
-use Rattle.nd_bundle.proofs.collect.read_lines.Given as goal
+use Rattle.nd_bundle.proofs.collect.read_piece.Given as goal
 
 abbrev pub invariant-loop-line : goal.invariant-loop-line
 invariant-loop-line l = SayColumns l.check (map (λ line. line.now) (take l.line-index l.line-items)) l.columns

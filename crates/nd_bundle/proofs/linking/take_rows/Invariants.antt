@@ -1,7 +1,7 @@
 use Rattle.std.proofs.Common.{◌≡◌, ◌++◌, map}
 use Rattle.std.specs.Vec.Iter.{into_iter_items}
 use Rattle.nd_bundle.specs.Linking.{linked}
-use Rattle.nd_bundle.proofs.whole.take_rows.Given as goal
+use Rattle.nd_bundle.proofs.linking.take_rows.Given as goal
 
 abbrev pub invariant-loop-row : goal.invariant-loop-row
 invariant-loop-row l = record {

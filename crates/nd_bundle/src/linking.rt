@@ -1,0 +1,144 @@
+//! The inputs of all nodes by number.
+
+ghost use Rattle.std.specs.Prelude.{◌≡◌, length, IfOk, IfErr};
+ghost use Rattle.nd_bundle.specs.Linking.{AreAllLinked, AreLinks, IsLink, IsUngathered, IsUnlinked};
+ghost use Rattle.nd_bundle.specs.Settled.{AllNamesRise, IsLinkFault, IsResolved};
+
+use crate::fault::GraphError;
+use crate::link_error::LinkError;
+use crate::missing::check_inputs;
+use crate::register::Register;
+use crate::resolve::link_line;
+use indexmap::IndexSet;
+use nd_aterm::Leaf;
+use nd_bytes::Items;
+use nd_graph::Input;
+use nd_line::InputView;
+use nd_path::StorePath;
+use rayon::prelude::*;
+use std::alloc::{AllocError, Global};
+use std::thread::Threads;
+
+/// The inputs of the nodes with these paths and these output names, by number; linked by this thread.
+///
+/// Refuses with `MissingInput` and the first line with an input derivation that has no line, else with
+/// `MissingOutput` and the first line that names an output that there isn't, and with `Memory`.
+pub(crate) fn link<'t>(
+    alloc: Global,
+    paths: &IndexSet<StorePath>,
+    names: &[Items<Leaf<'t>>],
+    wants: Vec<Items<InputView<'t>>>,
+) -> Result<Vec<Items<Input>>, GraphError>
+    requires sized { length names.now ≡ length paths.now.keys }
+    requires rising { AllNamesRise names.now }
+    ensures ok { IfOk result (λ inputs. IsResolved paths.now.keys names.now wants.entry.items inputs.items) }
+    ensures err { IfErr result (IsLinkFault paths.now.keys names.now wants.entry.items) }
+{
+    let register = Register::new(paths, names);
+    let rows = link_lines(alloc, &register, wants)?;
+    gather(alloc, rows)
+}
+
+/// The number of inputs from which on they are linked by many threads. Fewer are linked in less than a tenth
+/// of a second, and the lists that threads put together leave holes in the heap.
+const MANY: usize = 131_072;
+
+/// The same; many inputs are linked by as many threads as there are processors.
+pub(crate) fn link_side_by_side<'t>(
+    rt: &(impl Threads + Sync),
+    alloc: Global,
+    paths: &IndexSet<StorePath>,
+    names: &[Items<Leaf<'t>>],
+    wants: Vec<Items<InputView<'t>>>,
+) -> Result<Vec<Items<Input>>, GraphError>
+    requires sized { length names.now ≡ length paths.now.keys }
+    requires rising { AllNamesRise names.now }
+    ensures ok { IfOk result (λ inputs. IsResolved paths.now.keys names.now wants.entry.items inputs.items) }
+    ensures err { IfErr result (IsLinkFault paths.now.keys names.now wants.entry.items) }
+{
+    if count_inputs(wants.as_slice()) < MANY {
+        return link(alloc, paths, names, wants);
+    }
+    let register = Register::new(paths, names);
+    let rows = link_lines_in_parallel(rt, alloc, &register, wants)?;
+    gather(alloc, rows)
+}
+
+/// How many inputs the lines have.
+fn count_inputs(wants: &[Items<InputView<'_>>]) -> usize {
+    let mut count = 0usize;
+    for inputs in wants {
+        count = count.saturating_add(inputs.len());
+    }
+    count
+}
+
+/// The inputs of each line by number, or why they have none.
+#[tactic(auto, using(crate::proofs::Gathered::links_none, crate::proofs::Gathered::links_more))]
+fn link_lines<'t>(
+    alloc: Global,
+    register: &Register<'_, 't>,
+    wants: Vec<Items<InputView<'t>>>,
+) -> Result<Vec<Result<Items<Input>, LinkError>>, AllocError>
+    ensures { IfOk result (λ rows. AreLinks register.now wants.entry.items rows.items) }
+{
+    let mut rows = Vec::with_capacity(alloc, wants.len())?;
+    for inputs in wants {
+        rows.push(link_line(alloc, register, inputs.as_slice()))?;
+    }
+    Ok(rows)
+}
+
+/// The same, by as many threads as there are processors.
+fn link_lines_in_parallel<'t>(
+    rt: &(impl Threads + Sync),
+    alloc: Global,
+    register: &Register<'_, 't>,
+    wants: Vec<Items<InputView<'t>>>,
+) -> Result<Vec<Result<Items<Input>, LinkError>>, AllocError>
+    ensures { IfOk result (λ rows. AreLinks register.now wants.entry.items rows.items) }
+{
+    wants
+        .into_par_iter()
+        .map(
+            |inputs: Items<InputView<'_>>| -> Result<Items<Input>, LinkError>
+                ensures { IsLink register.entry.now inputs.entry result }
+            { link_line(alloc, register, inputs.as_slice()) },
+        )
+        .collect(rt, alloc)
+}
+
+/// The rows that the lines were linked to, or the refusal of the first line without an input, or else
+/// of the first line without an output.
+#[tactic(auto, using(crate::proofs::Gathered::input_ungathered, crate::proofs::Gathered::output_ungathered))]
+fn gather(
+    alloc: Global,
+    rows: Vec<Result<Items<Input>, LinkError>>,
+) -> Result<Vec<Items<Input>>, GraphError>
+    ensures ok { IfOk result (λ inputs. AreAllLinked rows.items inputs.items) }
+    ensures err { IfErr result (IsUngathered rows.items) }
+{
+    match check_inputs(rows.as_slice()) {
+        Ok(()) => take_rows(alloc, rows),
+        Err(fault) => Err(fault),
+    }
+}
+
+/// The rows that the lines were linked to, or the refusal of the first line that has one.
+#[tactic(auto, using(crate::proofs::Gathered::line_unlinked))]
+fn take_rows(
+    alloc: Global,
+    rows: Vec<Result<Items<Input>, LinkError>>,
+) -> Result<Vec<Items<Input>>, GraphError>
+    ensures ok { IfOk result (λ inputs. AreAllLinked rows.items inputs.items) }
+    ensures err { IfErr result (IsUnlinked rows.items) }
+{
+    let mut inputs = Vec::with_capacity(alloc, rows.len())?;
+    for row in rows {
+        match row {
+            Ok(row) => inputs.push(row)?,
+            Err(fault) => return Err(fault.at(inputs.len() + 1)),
+        }
+    }
+    Ok(inputs)
+}

@@ -1,0 +1,12 @@
+//! A piece of a bundle, as it was read.
+
+use crate::columns::Columns;
+use nd_line::LineError;
+
+/// What was read of a piece of a bundle: what its lines say, or those up to the first that is refused, and
+/// that refusal.
+#[derive(Drop)]
+pub(crate) struct Piece<'t> {
+    pub columns: Columns<'t>,
+    pub refused: Option<LineError>,
+}
