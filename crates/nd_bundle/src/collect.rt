@@ -147,9 +147,10 @@ fn join_piece<'t>(
         refused,
     } = piece?;
     columns.append(more)?;
+    let line = columns.paths.len() + 1;
     match refused {
         None => Ok(()),
-        Some(fault) => Err(GraphError::of_line(fault, columns.paths.len() + 1)),
+        Some(fault) => Err(GraphError::of_line(fault, line)),
     }
 }
 

@@ -22,10 +22,10 @@ fn odd_line<'a>(odd: &[(usize, &'a [u8])], number: usize) -> Option<&'a [u8]> {
     None
 }
 
-/// 4,096 lines, plain but for the odd ones at their places.
-fn many(alloc: Global, odd: &[(usize, &[u8])]) -> Result<Vec<u8>, AllocError> {
+/// So many lines, plain but for the odd ones at their places.
+fn many(alloc: Global, len: usize, odd: &[(usize, &[u8])]) -> Result<Vec<u8>, AllocError> {
     let mut text = Vec::new(alloc);
-    for number in 0..4096usize {
+    for number in 0..len {
         match odd_line(odd, number) {
             Some(line) => text.extend_from_slice(line)?,
             None => push_line(&mut text, number, 0, 0)?,
@@ -36,7 +36,7 @@ fn many(alloc: Global, odd: &[(usize, &[u8])]) -> Result<Vec<u8>, AllocError> {
 
 /// Whether both readers find as many nodes in the plain lines. Want of memory is a no.
 fn are_many_found<R: Threads + Sync>(rt: &R, alloc: Global) -> bool {
-    match many(alloc, &[]) {
+    match many(alloc, 4096, &[]) {
         Ok(text) => both_find(rt, alloc, text.as_slice(), false, 4096),
         Err(_) => false,
     }
@@ -51,10 +51,11 @@ fn many_lines(rt: HostRuntime) {
 fn are_odd_refused<R: Threads + Sync>(
     rt: &R,
     alloc: Global,
+    len: usize,
     odd: &[(usize, &[u8])],
     want: GraphError,
 ) -> bool {
-    match many(alloc, odd) {
+    match many(alloc, len, odd) {
         Ok(text) => both_answer(rt, alloc, text.as_slice(), false, Some(want)),
         Err(_) => false,
     }
@@ -63,9 +64,37 @@ fn are_odd_refused<R: Threads + Sync>(
 #[test]
 fn odd_lines(rt: HostRuntime) {
     let empty = [(2999, b"\n".as_slice()), (3999, b"\n".as_slice())];
-    assert!(rt; are_odd_refused(&rt, rt.alloc(), &empty, GraphError::BadLine(3000)));
+    assert!(rt; are_odd_refused(&rt, rt.alloc(), 4096, &empty, GraphError::BadLine(3000)));
     let unknown = [(2999, UNKNOWN), (3999, b"\n".as_slice())];
-    assert!(rt; are_odd_refused(&rt, rt.alloc(), &unknown, GraphError::UnknownOutput(3000)));
+    assert!(rt;
+        are_odd_refused(
+            &rt,
+            rt.alloc(),
+            4096,
+            &unknown,
+            GraphError::UnknownOutput(3000)
+        )
+    );
+}
+
+/// Where an odd line stands among 1,300 plain ones, which threads read in four pieces: at the ends, and about where
+/// one piece ends and another begins.
+const PLACES: [usize; 12] = [0, 1, 312, 324, 325, 326, 649, 650, 651, 975, 1298, 1299];
+
+/// Whether both readers refuse an empty line at each of these places, with its number. Want of memory is a no.
+fn is_odd_refused_anywhere<R: Threads + Sync>(rt: &R, alloc: Global) -> bool {
+    for place in PLACES {
+        let odd = [(place, b"\n".as_slice())];
+        if !are_odd_refused(rt, alloc, 1300, &odd, GraphError::BadLine(place + 1)) {
+            return false;
+        }
+    }
+    true
+}
+
+#[test]
+fn odd_line_anywhere(rt: HostRuntime) {
+    assert!(rt; is_odd_refused_anywhere(&rt, rt.alloc()));
 }
 
 /// Whether the graph has as many nodes, and the last one stands first in the order.
