@@ -5,3 +5,6 @@ pub mod RefusalLemmas
 pub mod SectionLemmas
 pub mod PlainLemmas
 pub mod StringLemmas
+pub mod SiftingLemmas
+pub mod EnvLemmas
+pub mod SelectingLemmas

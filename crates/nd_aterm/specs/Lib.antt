@@ -7,3 +7,5 @@ pub mod Refusals
 pub mod Sections
 pub mod Texts
 pub mod Leaves
+pub mod Selected
+pub mod Sifting

@@ -79,6 +79,16 @@ impl<'t> Leaf<'t> {
         self.as_slice().is_empty()
     }
 
+    /// The same string: its bytes are copied where they are not a piece of a text.
+    pub(crate) fn try_clone(&self, alloc: Global) -> Result<Leaf<'t>, AllocError>
+        ensures { IfOk result (λ copy. copy ≡ self.now) }
+    {
+        match &self.kept {
+            Kept::Piece(piece) => Ok(Leaf::new(piece)),
+            Kept::Owned(bytes) => Ok(Leaf::from_vec(Vec::from_slice(alloc, bytes.as_slice())?)),
+        }
+    }
+
     /// The string on its own: its bytes are copied where they are a piece of a text.
     pub fn into_byte_string(self, alloc: Global) -> Result<ByteString, AllocError>
         ensures { IfOk result (λ s. s ≡ self.entry) }

@@ -2,7 +2,8 @@
 //!
 //! A derivation text is the ATerm form in which Nix stores a derivation (Nix Reference Manual,
 //! Derivation "ATerm" file format). [`parse`] reads exactly these texts, [`parse_view`] too,
-//! without copying them, [`write`] gives the one text of a derivation, and [`laws`] says that no text begins another.
+//! without copying them, [`parse_selected`] with less of them, [`write`] gives the one text of a derivation, and
+//! [`laws`] says that no text begins another.
 #![tactic(auto)]
 
 mod derivations;
@@ -15,6 +16,8 @@ mod part;
 mod plain;
 mod record_texts;
 mod records;
+mod selecting;
+mod sifting;
 mod strings;
 mod texts;
 mod views;
@@ -22,6 +25,8 @@ mod views;
 pub use derivations::Derivation;
 pub use fault::AtermError;
 pub use leaf::Leaf;
-pub use records::{EnvEntry, InputDrv, Output, Parts};
+pub use records::{EnvEntry, InputDrv, Output, Parts, SelectedParts};
+pub use selecting::parse_selected;
+pub use sifting::Selection;
 pub use texts::{parse, parse_view, write};
-pub use views::{EnvEntryView, InputDrvView, OutputView, PartsView};
+pub use views::{EnvEntryView, InputDrvView, OutputView, PartsView, SelectedView};

@@ -3,10 +3,11 @@
 ghost use Rattle.std.specs.Prelude.{◌≡◌, ◌&&◌, ℕ, List};
 ghost use Rattle.std.specs.List.{list_all};
 ghost use Rattle.nd_aterm.specs.Derivations.{rises, in_order};
+ghost use Rattle.nd_aterm.specs.Sifting.{is_in_order};
 
 use crate::leaf::Leaf;
 use crate::records::{EnvEntry, InputDrv, Output, Parts};
-use crate::views::{EnvEntryView, InputDrvView, OutputView, PartsView};
+use crate::views::{EnvEntryView, InputDrvView, OutputView, PartsView, SelectedView};
 use nd_bytes::ByteString;
 
 /// What stands in a list in the order of its key.
@@ -132,15 +133,14 @@ fn have_rising_names<D: Named>(input_drvs: &[D]) -> bool
     input_drvs.iter().all(|input| input.has_rising_names())
 }
 
-/// Whether all five kinds of list strictly rise.
-fn are_in_order<O: Keyed, D: Named, S: Keyed, E: Keyed>(
+/// Whether the lists of outputs, input derivations, their output names and sources strictly rise.
+fn are_paths_in_order<O: Keyed, D: Named, S: Keyed>(
     outputs: &[O],
     input_drvs: &[D],
     input_srcs: &[S],
-    env: &[E],
 ) -> bool
-    ensures { result ≡ (rises O.key outputs.now && rises D.key input_drvs.now && list_all (λ d. rises (λ name. name) (D.names d)) input_drvs.now
-        && rises S.key input_srcs.now && rises E.key env.now) }
+    ensures { result ≡ (rises O.key outputs.now && rises D.key input_drvs.now
+        && list_all (λ d. rises (λ name. name) (D.names d)) input_drvs.now && rises S.key input_srcs.now) }
 {
     if !is_rising(outputs) {
         return false;
@@ -151,7 +151,20 @@ fn are_in_order<O: Keyed, D: Named, S: Keyed, E: Keyed>(
     if !have_rising_names(input_drvs) {
         return false;
     }
-    if !is_rising(input_srcs) {
+    is_rising(input_srcs)
+}
+
+/// Whether all five kinds of list strictly rise.
+fn are_in_order<O: Keyed, D: Named, S: Keyed, E: Keyed>(
+    outputs: &[O],
+    input_drvs: &[D],
+    input_srcs: &[S],
+    env: &[E],
+) -> bool
+    ensures { result ≡ (rises O.key outputs.now && rises D.key input_drvs.now && list_all (λ d. rises (λ name. name) (D.names d)) input_drvs.now
+        && rises S.key input_srcs.now && rises E.key env.now) }
+{
+    if !are_paths_in_order(outputs, input_drvs, input_srcs) {
         return false;
     }
     is_rising(env)
@@ -178,5 +191,20 @@ pub(crate) fn is_view_in_order(parts: &PartsView<'_>) -> bool
         parts.input_drvs.as_slice(),
         parts.input_srcs.as_slice(),
         parts.env.as_slice(),
+    )
+}
+
+/// The same of parts of which not all variables are kept, where `rising` says whether the environment
+/// strictly rises.
+pub(crate) fn is_selected_in_order(parts: &SelectedView<'_>, rising: bool) -> bool
+    ensures { result ≡ is_in_order parts.now rising }
+{
+    if !rising {
+        return false;
+    }
+    are_paths_in_order(
+        parts.outputs.as_slice(),
+        parts.input_drvs.as_slice(),
+        parts.input_srcs.as_slice(),
     )
 }

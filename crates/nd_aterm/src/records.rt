@@ -51,3 +51,21 @@ pub struct Parts {
     /// The builder's environment.
     pub env: Items<EnvEntry>,
 }
+
+/// What is selected of the parts of a derivation: all but the arguments, and of the environment the
+/// variables that are asked for. It serves contracts alone: no call takes or answers one.
+#[derive(Debug, Drop)]
+pub struct SelectedParts {
+    /// What the build makes.
+    pub outputs: Items<Output>,
+    /// The derivations that must be built first.
+    pub input_drvs: Items<InputDrv>,
+    /// The store paths that are sources.
+    pub input_srcs: Items<ByteString>,
+    /// The system to build on, as `x86_64-linux`.
+    pub platform: ByteString,
+    /// The program that builds.
+    pub builder: ByteString,
+    /// The variables of the builder's environment that are asked for, in their order there.
+    pub env: Items<EnvEntry>,
+}

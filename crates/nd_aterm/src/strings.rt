@@ -2,6 +2,7 @@
 
 ghost use Rattle.std.specs.Prelude.{◌≡◌, ◌≢◌, ℕ, ◌≤◌, ◌<◌, List, None, ◌∷◌, ◌++◌, length, slice_index, IfOk, IfErr, OnOk, IfSome, MatchOption};
 ghost use Rattle.nd_aterm.specs.Refusals.{Refuses};
+ghost use Rattle.nd_aterm.specs.Sifting.{Begins};
 ghost use Rattle.nd_aterm.specs.Spelling.{quote, letter_of, character, characters, IsPlain, string};
 ghost use Rattle.nd_aterm.specs.SpellingOnce.{string_once, string_opens};
 
@@ -127,6 +128,33 @@ fn leaf_at(alloc: Global, bytes: &[u8]) -> Result<(Leaf<'_>, &[u8]), AtermError>
     }
     let (read, rest) = characters_at(alloc, bytes)?;
     Ok((Leaf::from_vec(read), rest))
+}
+
+/// What stands behind the characters of a string and its closing quote.
+fn behind_characters(bytes: &[u8]) -> Result<&[u8], AtermError>
+    ensures found { IfOk result (λ rest. Begins characters bytes.now (quote ∷ rest.now)) }
+    ensures shorter { IfOk result (λ rest. length rest.now ≤ length bytes.now) }
+    ensures none { IfErr result (λ e. Refuses e
+        ((cs : List ℕ) (rest : List ℕ) → bytes.now ≡ characters cs (quote ∷ rest) → ⊥)) }
+{
+    let (_, mut rest) = plain_at(bytes);
+    while let Some((_, after)) = character_at(rest) {
+        let (_, after) = plain_at(after);
+        rest = after;
+    }
+    expect(rest, b'"')
+}
+
+/// What stands behind a string, of which nothing is kept: it takes no memory.
+#[tactic(auto, unfolding(crate::specs::Spelling::string))]
+pub(crate) fn behind_string(bytes: &[u8]) -> Result<&[u8], AtermError>
+    ensures found { IfOk result (λ rest. Begins string bytes.now rest.now) }
+    ensures shorter { IfOk result (λ rest. length rest.now ≤ length bytes.now) }
+    ensures none { IfErr result (λ e. Refuses e
+        ((cs : List ℕ) (rest : List ℕ) → bytes.now ≡ string cs rest → ⊥)) }
+{
+    let rest = expect(bytes, b'"')?;
+    behind_characters(rest)
 }
 
 impl<'t> Part<'t> for Leaf<'t> {

@@ -90,6 +90,32 @@ impl<'t> Model for PartsView<'t> {
     ghost view = { λ p. record { outputs = p.outputs; input_drvs = p.input_drvs; input_srcs = p.input_srcs; platform = p.platform; builder = p.builder; args = p.args; env = p.env } };
 }
 
+/// What is selected of the parts of a derivation, its strings borrowed from the text. Contracts see the
+/// [`SelectedParts`].
+#[derive(Debug, Drop)]
+pub struct SelectedView<'t> {
+    /// What the build makes.
+    pub outputs: Items<OutputView<'t>>,
+    /// The derivations that must be built first.
+    pub input_drvs: Items<InputDrvView<'t>>,
+    /// The store paths that are sources.
+    pub input_srcs: Items<Leaf<'t>>,
+    /// The system to build on, as `x86_64-linux`.
+    pub platform: Leaf<'t>,
+    /// The program that builds.
+    pub builder: Leaf<'t>,
+    /// The variables of the builder's environment that are asked for, in their order there.
+    pub env: Items<EnvEntryView<'t>>,
+}
+
+impl<'t> Model for SelectedView<'t> {
+    ghost use Rattle.nd_aterm.specs.declared.records.SelectedParts.{SelectedParts};
+
+    ghost Value = { SelectedParts };
+
+    ghost view = { λ p. record { outputs = p.outputs; input_drvs = p.input_drvs; input_srcs = p.input_srcs; platform = p.platform; builder = p.builder; env = p.env } };
+}
+
 /// What is borrowed from a text and can be had on its own.
 trait Borrowed: Drop {
     type Owned: Drop;
