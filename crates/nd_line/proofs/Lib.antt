@@ -1,3 +1,4 @@
+mod Keeping
 pub mod Once
 pub mod Rising
 mod Sayings

@@ -8,16 +8,18 @@ use Rattle.nd_aterm.specs.declared.records.Output.{Output}
 use Rattle.nd_aterm.specs.declared.records.Parts.{Parts}
 use Rattle.nd_path.specs.StorePath.{name_of}
 use Rattle.nd_eligible.specs.declared.need.Need.{Need}
-use Rattle.nd_line.specs.Attributes.{Asks, Needs, structured}
+use Rattle.nd_line.specs.Attributes.{Asks, AsksNothing, Needs, structured}
 use Rattle.nd_line.specs.Derived.{Derives, IsOwnPath, IsPathOfText}
 use Rattle.nd_line.specs.Found.{HasContents, path_of, IsOwnPathOf, HasAnother, IsAnother}
 use Rattle.nd_line.specs.Kinds.{is_drv, is_known, references}
 use Rattle.nd_line.specs.Reads.{front, back, Splits, named, Tells, IsNode, IsLine, IsBad, IsBadText, IsElsewhere, IsFaulty, Reads}
+use Rattle.nd_line.specs.Refused.{Attribute}
 use Rattle.nd_line.specs.declared.derived.Contents.{Contents}
 use Rattle.nd_line.specs.declared.line.NamedInput.{NamedInput}
 use Rattle.nd_line.specs.declared.line.LineNode.{LineNode}
 use Rattle.nd_line.specs.declared.refusal.LineError.{LineError}
 use Rattle.nd_line.specs.declared.refusal.LineError.TheVariants.{BadLine, BadPath, BadDerivation, UnknownOutput, BadAttribute, WrongPath, Memory}
+use Rattle.nd_line.proofs.Keeping.{asks_kept, nothing_kept}
 use Rattle.nd_line.proofs.Rising.{both}
 
 kept_or : (b : Bool) (x : Output) (xs ys : List Output) → b ≡ true → xs ≡ ys → cond b (x ∷ xs) xs ≡ x ∷ ys
@@ -35,7 +37,7 @@ all_known (output ∷ outputs) known =
 same_need : (parts : Parts) (contents : Contents) (builder : List ℕ) (env : List EnvEntry) (need : Need) → HasContents parts contents → builder ≡ contents.builder → env ≡ contents.env → Needs contents.platform builder env need → Needs parts.platform parts.builder parts.env need
 same_need parts contents builder env need has builder_is env_is needs = record {
   wishes = needs.wishes;
-  asks = subst (λ (vars : List EnvEntry). Asks (structured vars) vars needs.wishes) (env_is ∙ has.env) needs.asks;
+  asks = asks_kept parts.env needs.wishes (subst (λ (vars : List EnvEntry). Asks (structured vars) vars needs.wishes) (env_is ∙ has.env) needs.asks);
   system = needs.system ∙ has.platform;
   features = needs.features;
   prefer_local = needs.prefer_local;
@@ -57,6 +59,18 @@ tells text parts contents path builder env need derives has known builder_is env
         outputs = has.outputs.paths ∙ ap (map (λ (output : Output). output.path)) (all_known parts.outputs all);
       };
     }
+
+-- a need that is refused is refused for what the whole environment asks
+pub bad_need : (text : List ℕ) (parts : Parts) (contents : Contents) (path : List ℕ) (env : List EnvEntry) (fault : LineError) → Derives text parts → HasContents parts contents → contents.outputs.known ≡ true → env ≡ contents.env → Attribute fault (AsksNothing env)
+    → IsBad false path text fault
+bad_need text parts contents path env BadLine derives has known env_is bad = bad
+bad_need text parts contents path env BadPath derives has known env_is bad = bad
+bad_need text parts contents path env BadDerivation derives has known env_is bad = absurd bad
+bad_need text parts contents path env UnknownOutput derives has known env_is bad = absurd bad
+bad_need text parts contents path env BadAttribute derives has known env_is bad =
+    (parts, derives, sym has.outputs.known ∙ known, nothing_kept parts.env (subst AsksNothing (env_is ∙ has.env) bad))
+bad_need text parts contents path env WrongPath derives has known env_is bad = absurd bad
+bad_need text parts contents path env Memory derives has known env_is bad = tt
 
 -- what is refused without the check is refused with it
 pub bad_anyhow : (check : Bool) (path text : List ℕ) (fault : LineError) → IsBad false path text fault → IsBad check path text fault

@@ -2,6 +2,8 @@
 use Rattle.std.specs.Prelude.{◌≡◌, ℕ, ◌++◌, List, map, filter}
 use Rattle.std.specs.List.{list_all}
 use Rattle.nd_aterm.specs.declared.records.Output.{Output}
+use Rattle.nd_aterm.specs.Selected.{variables}
+use Rattle.nd_line.specs.Kept.{is_attribute}
 use Rattle.nd_line.specs.Kinds.{is_known}
 use Rattle.nd_aterm.specs.declared.records.Parts.{Parts}
 use Rattle.nd_line.specs.Reads.{named}
@@ -20,14 +22,14 @@ pub record TellsOutputs (outputs : List Output) (found : Outputs) : Type 0 where
   pub paths : found.paths ≡ map (λ (output : Output). output.path) (filter is_known outputs)
   pub known : found.known ≡ list_all is_known outputs
 
--- the parts that a line's node is made of
+-- the parts that a line's node is made of, of the environment those that say what the derivation needs
 pub record HasContents (parts : Parts) (contents : Contents) : Type 0 where
   pub inputs : contents.inputs ≡ map named parts.input_drvs
   pub sources : contents.sources ≡ parts.input_srcs
   pub outputs : TellsOutputs parts.outputs contents.outputs
   pub platform : contents.platform ≡ parts.platform
   pub builder : contents.builder ≡ parts.builder
-  pub env : contents.env ≡ parts.env
+  pub env : contents.env ≡ variables is_attribute parts.env
 
 -- the path of an input
 abbrev pub path_of : NamedInput → List ℕ

@@ -1,6 +1,7 @@
 pub mod Attributes
 pub mod Derived
 pub mod Found
+pub mod Kept
 pub mod Kinds
 pub mod Names
 pub mod OneReading

@@ -6,10 +6,25 @@ ghost use Rattle.nd_line.specs.Refused.{Attribute};
 
 use crate::refusal::LineError;
 use crate::structured::{Wishes, read_structured};
-use nd_aterm::EnvEntryView;
+use nd_aterm::{EnvEntryView, Selection};
 use nd_bytes::ByteString;
 use nd_eligible::{Need, words};
 use std::alloc::{AllocError, Global};
+
+/// The variables that say what a derivation needs, which are all that is kept of its environment.
+pub(crate) struct Attributes;
+
+impl Selection for Attributes {
+    ghost use Rattle.nd_line.specs.Kept.{is_attribute};
+
+    ghost selects = { is_attribute };
+
+    fn selects(name: &[u8]) -> bool {
+        name == b"__json".as_slice()
+            || name == b"requiredSystemFeatures".as_slice()
+            || name == b"preferLocalBuild".as_slice()
+    }
+}
 
 /// The need of a derivation with this platform, this builder and this environment.
 pub(crate) fn need_of(

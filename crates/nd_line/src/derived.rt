@@ -2,16 +2,19 @@
 
 ghost use Rattle.std.specs.Prelude.{◌≡◌, ℕ, List, ◌++◌, map, true, IfOk, IfErr};
 ghost use Rattle.nd_aterm.specs.declared.records.Parts.{Parts};
+ghost use Rattle.nd_aterm.specs.Selected.{selected};
 ghost use Rattle.nd_path.specs.StorePath.{is_name};
 ghost use Rattle.nd_path.specs.PathSets.{IsRising, HasSameMembers};
 ghost use Rattle.nd_line.specs.Derived.{Spells, Derives, IsOwnPath, IsPathOfText};
 ghost use Rattle.nd_line.specs.Found.{HasContents, path_of};
+ghost use Rattle.nd_line.specs.Kept.{is_attribute};
 ghost use Rattle.nd_line.specs.Refused.{NotPaths, WantsMemory};
 
+use crate::attributes::Attributes;
 use crate::kinds::{Outputs, inputs_of, outputs_of, sources_of};
 use crate::line::InputView;
 use crate::refusal::LineError;
-use nd_aterm::{AtermError, EnvEntryView, Leaf, PartsView, parse_view};
+use nd_aterm::{AtermError, EnvEntryView, Leaf, SelectedView, parse_selected};
 use nd_bytes::Items;
 use nd_path::{PathError, PathSet, StorePath, text_path};
 use std::alloc::{AllocError, Global};
@@ -29,7 +32,7 @@ pub(crate) struct Contents<'t> {
     pub(crate) platform: Leaf<'t>,
     /// The builder.
     pub(crate) builder: Leaf<'t>,
-    /// The environment.
+    /// The variables of the environment that say what the derivation needs.
     pub(crate) env: Items<EnvEntryView<'t>>,
 }
 
@@ -38,15 +41,14 @@ pub(crate) fn contents_of(alloc: Global, text: &[u8]) -> Result<Contents<'_>, Li
     ensures found { IfOk result (λ contents. (parts : Parts) × Derives text.now parts × HasContents parts contents) }
     ensures err { IfErr result (λ fault. NotPaths fault ((parts : Parts) → Derives text.now parts → ⊥)) }
 {
-    let PartsView {
+    let SelectedView {
         outputs,
         input_drvs,
         input_srcs,
         platform,
         builder,
-        args: _,
         env,
-    } = derivation_of(alloc, text)?;
+    } = selected_of(alloc, text)?;
     let inputs = inputs_of(alloc, input_drvs)?;
     let sources = sources_of(alloc, input_srcs.as_slice())?;
     let outputs = outputs_of(alloc, outputs)?;
@@ -60,14 +62,14 @@ pub(crate) fn contents_of(alloc: Global, text: &[u8]) -> Result<Contents<'_>, Li
     })
 }
 
-/// The derivation of a text.
-fn derivation_of(alloc: Global, text: &[u8]) -> Result<PartsView<'_>, LineError>
-    ensures found { IfOk result (Spells text.now) }
-    ensures once { (parts : Parts) → Spells text.now parts → IfOk result (λ found. found ≡ parts) }
+/// What is selected of the derivation of a text.
+fn selected_of(alloc: Global, text: &[u8]) -> Result<SelectedView<'_>, LineError>
+    ensures found { IfOk result (λ found. (parts : Parts) × Spells text.now parts × (found ≡ selected is_attribute parts)) }
+    ensures once { (parts : Parts) → Spells text.now parts → IfOk result (λ found. found ≡ selected is_attribute parts) }
     ensures err { IfErr result (λ fault. NotPaths fault ((parts : Parts) → Spells text.now parts → ⊥)) }
 {
-    match parse_view(alloc, text) {
-        Ok(derivation) => Ok(derivation),
+    match parse_selected::<Attributes>(alloc, text) {
+        Ok(selected) => Ok(selected),
         Err(AtermError::Memory) => Err(LineError::Memory),
         Err(_) => Err(LineError::BadDerivation),
     }
