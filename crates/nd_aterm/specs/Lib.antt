@@ -7,5 +7,6 @@ pub mod Refusals
 pub mod Sections
 pub mod Texts
 pub mod Leaves
+pub mod NameLists
 pub mod Selected
 pub mod Sifting

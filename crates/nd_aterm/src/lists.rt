@@ -12,7 +12,7 @@ use std::alloc::{AllocError, Global};
 
 /// The items of a list that begins with `first`, up to the closing bracket, and what stands behind
 /// that. The bytes are those behind the first item.
-fn listed_at<'t, T: Part<'t>>(
+pub(crate) fn listed_at<'t, T: Part<'t>>(
     alloc: Global,
     first: T,
     bytes: &'t [u8],

@@ -7,7 +7,9 @@ ghost use Rattle.nd_aterm.specs.Sifting.{is_in_order};
 
 use crate::leaf::Leaf;
 use crate::records::{EnvEntry, InputDrv, Output, Parts};
-use crate::views::{EnvEntryView, InputDrvView, OutputView, PartsView, SelectedView};
+use crate::views::{
+    EnvEntryView, InputDrvView, NeededDrvView, OutputView, PartsView, SelectedView,
+};
 use nd_bytes::ByteString;
 
 /// What stands in a list in the order of its key.
@@ -67,6 +69,14 @@ impl<'t> Keyed for InputDrvView<'t> {
     }
 }
 
+impl<'t> Keyed for NeededDrvView<'t> {
+    ghost key = { λ d. d.path };
+
+    fn key(&self) -> &[u8] {
+        self.path.as_slice()
+    }
+}
+
 impl Keyed for EnvEntry {
     ghost key = { λ v. v.key };
 
@@ -119,6 +129,14 @@ impl Named for InputDrv {
 }
 
 impl<'t> Named for InputDrvView<'t> {
+    ghost names = { λ d. d.outputs };
+
+    fn has_rising_names(&self) -> bool {
+        is_rising(self.outputs.as_slice())
+    }
+}
+
+impl<'t> Named for NeededDrvView<'t> {
     ghost names = { λ d. d.outputs };
 
     fn has_rising_names(&self) -> bool {

@@ -7,7 +7,7 @@ ghost use Rattle.nd_aterm.specs.DerivationsOnce.{output_once, output_opens, inpu
 use crate::fault::AtermError;
 use crate::part::{Part, Written, expect, put_field, two_fields};
 use crate::records::{EnvEntry, InputDrv, Output};
-use crate::views::{EnvEntryView, InputDrvView, OutputView};
+use crate::views::{EnvEntryView, InputDrvView, NeededDrvView, OutputView};
 use std::alloc::{AllocError, Global};
 
 impl<'t> Part<'t> for OutputView<'t> {
@@ -59,6 +59,23 @@ impl<'t> Part<'t> for InputDrvView<'t> {
         let rest = expect(bytes, b'(')?;
         let (path, outputs, rest) = two_fields(alloc, rest, b')')?;
         Ok((InputDrvView { path, outputs }, rest))
+    }
+
+    ghost once = { input_drv_once };
+
+    ghost opens = { input_drv_opens };
+}
+
+impl<'t> Part<'t> for NeededDrvView<'t> {
+    ghost text = { input_drv };
+
+    const ROOM: usize = 8;
+
+    #[tactic(auto, unfolding(crate::specs::Derivations::input_drv))]
+    fn read(alloc: Global, bytes: &'t [u8]) -> Result<(Self, &'t [u8]), AtermError> {
+        let rest = expect(bytes, b'(')?;
+        let (path, outputs, rest) = two_fields(alloc, rest, b')')?;
+        Ok((NeededDrvView { path, outputs }, rest))
     }
 
     ghost once = { input_drv_once };

@@ -3,9 +3,10 @@
 ghost use Rattle.std.specs.Prelude.{◌≡◌, ℕ, ◌≤◌, ◌<◌, List, length, IfOk, IfErr};
 ghost use Rattle.nd_aterm.specs.declared.records.Parts.{Parts};
 ghost use Rattle.nd_aterm.specs.declared.texts.Command.{Command};
+ghost use Rattle.nd_aterm.specs.declared.texts.Paths.{Paths};
 ghost use Rattle.nd_aterm.specs.Derivations.{derivation, Text};
 ghost use Rattle.nd_aterm.specs.Refusals.{Refuses};
-ghost use Rattle.nd_aterm.specs.Sections.{command};
+ghost use Rattle.nd_aterm.specs.Sections.{paths, command};
 ghost use Rattle.nd_aterm.specs.Selected.{selected, IsSelected};
 ghost use Rattle.nd_aterm.specs.Sifting.{HasSettings, NoSettings, HasCommand, HasSelected, IsJoined};
 ghost use Rattle.nd_aterm.specs.Texts.{text_limit, IsRefused, OkUnlessMemory};
@@ -13,12 +14,27 @@ ghost use Rattle.nd_aterm.specs.Texts.{text_limit, IsRefused, OkUnlessMemory};
 use crate::fault::AtermError;
 use crate::leaf::Leaf;
 use crate::orders::is_selected_in_order;
-use crate::part::{expect, two_fields};
+use crate::part::{expect, field, two_fields};
 use crate::sifting::{Selection, Sifted, behind_strings, env_at};
-use crate::texts::{Paths, TEXT_LIMIT, behind_word, paths_at};
-use crate::views::SelectedView;
+use crate::texts::{TEXT_LIMIT, behind_word};
+use crate::views::{NeededDrvView, OutputView, SelectedView};
 use nd_bytes::Items;
 use std::alloc::Global;
+use std::marker::Model;
+
+/// What a derivation makes, and the store paths that it needs.
+#[derive(Drop)]
+struct SelectedPaths<'t> {
+    outputs: Items<OutputView<'t>>,
+    input_drvs: Items<NeededDrvView<'t>>,
+    input_srcs: Items<Leaf<'t>>,
+}
+
+impl<'t> Model for SelectedPaths<'t> {
+    ghost Value = { Paths };
+
+    ghost view = { λ p. record { outputs = p.outputs; input_drvs = p.input_drvs; input_srcs = p.input_srcs } };
+}
 
 /// What is kept of how a derivation is built.
 #[derive(Drop)]
@@ -26,6 +42,23 @@ struct SelectedCommand<'t> {
     platform: Leaf<'t>,
     builder: Leaf<'t>,
     env: Sifted<'t>,
+}
+
+/// Reads the first section of a derivation text, up to the sources and their comma.
+#[tactic(auto, using(crate::specs::DerivationsOnce::outputs_once, crate::specs::DerivationsOnce::input_drvs_once), unfolding(crate::specs::Sections::paths))]
+fn selected_paths_at(alloc: Global, bytes: &[u8]) -> Result<(SelectedPaths<'_>, &[u8]), AtermError>
+    ensures found { IfOk result (λ x. bytes.now ≡ paths x.0 x.1.now) }
+    ensures none { IfErr result (λ e. Refuses e
+        ((p : Paths) (rest : List ℕ) → bytes.now ≡ paths p rest → ⊥)) }
+{
+    let (outputs, input_drvs, rest) = two_fields(alloc, bytes, b',')?;
+    let (input_srcs, rest) = field(alloc, rest, b',')?;
+    let paths = SelectedPaths {
+        outputs,
+        input_drvs,
+        input_srcs,
+    };
+    Ok((paths, rest))
 }
 
 /// Reads the arguments, of which nothing is kept, and the environment.
@@ -61,10 +94,13 @@ fn selected_command_at<S: Selection>(
 }
 
 /// What is selected of a derivation with these two sections, and whether its environment strictly rises.
-fn join_selected<'t>(paths: Paths<'t>, command: SelectedCommand<'t>) -> (SelectedView<'t>, bool)
+fn join_selected<'t>(
+    paths: SelectedPaths<'t>,
+    command: SelectedCommand<'t>,
+) -> (SelectedView<'t>, bool)
     ensures { IsJoined paths.entry command.entry result.0 result.1 }
 {
-    let Paths {
+    let SelectedPaths {
         outputs,
         input_drvs,
         input_srcs,
@@ -99,7 +135,7 @@ fn selected_at<S: Selection>(
     let Some(rest) = behind_word(bytes) else {
         return Err(AtermError::NotDerivation);
     };
-    let (paths, rest) = paths_at(alloc, rest)?;
+    let (paths, rest) = selected_paths_at(alloc, rest)?;
     match selected_command_at::<S>(alloc, rest) {
         Ok((command, rest)) => {
             let (view, rising) = join_selected(paths, command);

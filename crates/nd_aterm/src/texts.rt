@@ -34,10 +34,10 @@ pub(crate) fn behind_word(bytes: &[u8]) -> Option<&[u8]>
 
 /// What a derivation makes, and the store paths that it needs.
 #[derive(Drop)]
-pub(crate) struct Paths<'t> {
-    pub(crate) outputs: Items<OutputView<'t>>,
-    pub(crate) input_drvs: Items<InputDrvView<'t>>,
-    pub(crate) input_srcs: Items<Leaf<'t>>,
+struct Paths<'t> {
+    outputs: Items<OutputView<'t>>,
+    input_drvs: Items<InputDrvView<'t>>,
+    input_srcs: Items<Leaf<'t>>,
 }
 
 /// How a derivation is built.
@@ -51,7 +51,7 @@ struct Command<'t> {
 
 /// Reads the first section of a derivation text, up to the sources and their comma.
 #[tactic(auto, using(crate::specs::DerivationsOnce::outputs_once, crate::specs::DerivationsOnce::input_drvs_once), unfolding(crate::specs::Sections::paths))]
-pub(crate) fn paths_at(alloc: Global, bytes: &[u8]) -> Result<(Paths<'_>, &[u8]), AtermError>
+fn paths_at(alloc: Global, bytes: &[u8]) -> Result<(Paths<'_>, &[u8]), AtermError>
     ensures found { IfOk result (λ x. bytes.now ≡ paths x.0 x.1.now) }
     ensures none { IfErr result (λ e. Refuses e
         ((p : Paths) (rest : List ℕ) → bytes.now ≡ paths p rest → ⊥)) }

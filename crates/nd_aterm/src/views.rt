@@ -3,6 +3,7 @@
 ghost use Rattle.std.specs.Prelude.{◌≡◌, map, IfOk};
 
 use crate::leaf::Leaf;
+use crate::names::Names;
 use crate::records::{EnvEntry, InputDrv, Output, Parts};
 use nd_bytes::{ByteString, Items};
 use std::alloc::{AllocError, Global};
@@ -39,6 +40,24 @@ pub struct InputDrvView<'t> {
 }
 
 impl<'t> Model for InputDrvView<'t> {
+    ghost use Rattle.nd_aterm.specs.declared.records.InputDrv.{InputDrv};
+
+    ghost Value = { InputDrv };
+
+    ghost view = { λ d. record { path = d.path; outputs = d.outputs } };
+}
+
+/// A derivation that another one needs, its strings borrowed, with no list where one output of it is needed.
+/// Contracts see the [`InputDrv`].
+#[derive(Debug, Drop)]
+pub struct NeededDrvView<'t> {
+    /// The store path of the other derivation.
+    pub path: Leaf<'t>,
+    /// The names of the outputs that are needed.
+    pub outputs: Names<'t>,
+}
+
+impl<'t> Model for NeededDrvView<'t> {
     ghost use Rattle.nd_aterm.specs.declared.records.InputDrv.{InputDrv};
 
     ghost Value = { InputDrv };
@@ -97,7 +116,7 @@ pub struct SelectedView<'t> {
     /// What the build makes.
     pub outputs: Items<OutputView<'t>>,
     /// The derivations that must be built first.
-    pub input_drvs: Items<InputDrvView<'t>>,
+    pub input_drvs: Items<NeededDrvView<'t>>,
     /// The store paths that are sources.
     pub input_srcs: Items<Leaf<'t>>,
     /// The system to build on, as `x86_64-linux`.

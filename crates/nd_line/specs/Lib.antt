@@ -8,5 +8,4 @@ pub mod OneReading
 pub mod Reads
 pub mod Refused
 pub mod Structured
-pub mod Wanting
 pub mod Wishes

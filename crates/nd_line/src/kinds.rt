@@ -9,7 +9,7 @@ ghost use Rattle.nd_line.specs.Found.{TellsOutputs};
 
 use crate::line::InputView;
 use crate::refusal::LineError;
-use nd_aterm::{InputDrvView, Leaf, OutputView};
+use nd_aterm::{Leaf, NeededDrvView, OutputView};
 use nd_bytes::Items;
 use nd_path::{StorePath, is_drv_store_path, is_store_path};
 use std::alloc::{AllocError, Global};
@@ -53,7 +53,7 @@ fn path_in(alloc: Global, bytes: &[u8]) -> Result<StorePath, LineError>
 /// The input derivations with their store paths.
 pub(crate) fn inputs_of<'t>(
     alloc: Global,
-    drvs: Items<InputDrvView<'t>>,
+    drvs: Items<NeededDrvView<'t>>,
 ) -> Result<Items<InputView<'t>>, LineError>
     ensures same { IfOk result (λ inputs. inputs ≡ map named drvs.entry) }
     ensures paths { IfOk result (λ _. are_drvs drvs.entry ≡ true) }
@@ -67,7 +67,7 @@ pub(crate) fn inputs_of<'t>(
 }
 
 /// An input derivation with its store path.
-fn input_of<'t>(drv: InputDrvView<'t>) -> Result<InputView<'t>, LineError>
+fn input_of<'t>(drv: NeededDrvView<'t>) -> Result<InputView<'t>, LineError>
     ensures same { IfOk result (λ input. input ≡ named drv.entry) }
     ensures path { IfOk result (λ _. is_drv drv.entry.path ≡ true) }
     ensures err { IfErr result (λ fault. NotPaths fault (is_drv drv.entry.path ≡ false)) }

@@ -3,13 +3,12 @@
 ghost use Rattle.std.specs.Prelude.{◌≡◌, IfOk};
 ghost use Rattle.nd_path.specs.Refusals.{IsPath};
 
-use nd_aterm::Leaf;
+use nd_aterm::{Leaf, Names};
 use nd_bytes::{ByteString, Items};
 use nd_eligible::Need;
 use nd_path::StorePath;
 use std::alloc::{AllocError, Global};
 use std::marker::Model;
-use std::slice;
 
 /// An input derivation, and the outputs that are wanted of it. It serves contracts alone: no call takes
 /// or answers one.
@@ -38,23 +37,13 @@ pub struct LineNode {
     pub outputs: Items<StorePath>,
 }
 
-/// The names of the outputs that are wanted of an input derivation. Mostly it is one, for which no list is
-/// kept.
-#[derive(Drop)]
-pub(crate) enum Wanted<'t> {
-    /// One name.
-    One(Leaf<'t>),
-    /// So many names.
-    Many(Items<Leaf<'t>>),
-}
-
 /// An input derivation, its path and its names borrowed from the line. Contracts see the [`NamedInput`].
 #[derive(Drop)]
 pub struct InputView<'t> {
     /// The input derivation's path, a store path.
     path: Leaf<'t>,
     /// The names of the outputs, in rising order, possibly none.
-    names: Wanted<'t>,
+    names: Names<'t>,
 }
 
 impl<'t> Model for InputView<'t> {
@@ -63,32 +52,19 @@ impl<'t> Model for InputView<'t> {
 
     ghost Value = { NamedInput };
 
-    ghost use Rattle.nd_line.specs.Wanting.{names_in};
-
-    ghost view = { λ i. record { path = i.path; names = names_in i.names } };
+    ghost view = { λ i. record { path = i.path; names = i.names } };
 
     ghost invariant = { λ i. IsPath i.path };
 }
 
 impl<'t> InputView<'t> {
     /// The input derivation with this store path, and the outputs that are wanted of it.
-    pub(crate) fn new(path: Leaf<'t>, names: Items<Leaf<'t>>) -> InputView<'t>
+    pub(crate) fn new(path: Leaf<'t>, names: Names<'t>) -> InputView<'t>
         requires { IsPath path }
         ensures path { result.path ≡ path.entry }
         ensures names { result.names ≡ names.entry }
     {
-        let mut names = names.into_vec();
-        if names.len() != 1 {
-            let names = Wanted::Many(Items::new(names));
-            return InputView { path, names };
-        }
-        match names.pop() {
-            Some(name) => InputView {
-                path,
-                names: Wanted::One(name),
-            },
-            None => unreachable!(),
-        }
+        InputView { path, names }
     }
 
     /// The bytes of the input derivation's path.
@@ -102,10 +78,7 @@ impl<'t> InputView<'t> {
     pub fn names(&self) -> &[Leaf<'t>]
         ensures { result.now ≡ self.now.names }
     {
-        match &self.names {
-            Wanted::One(name) => slice::from_ref(name),
-            Wanted::Many(names) => names.as_slice(),
-        }
+        self.names.as_slice()
     }
 
     /// The input derivation's path on its own.
