@@ -3,6 +3,7 @@
 
 mod kind;
 mod kinds;
+mod need_marks;
 mod sharing;
 
 pub use kind::Kind;

@@ -4,6 +4,7 @@ ghost use Rattle.std.specs.Prelude.{◌≡◌, ◌<◌, Some, length, slice_get,
 ghost use Rattle.nd_kinds.specs.Sharing.{SharesNeed};
 
 use crate::kind::Kind;
+use crate::need_marks::NeedMarks;
 use nd_bytes::ByteString;
 use nd_eligible::Need;
 use nd_machines::FeatureSet;
@@ -57,21 +58,27 @@ fn is_same(one: &Need, other: &Need) -> bool
 /// Derivations by their needs: for each need that was met the first derivation with it.
 #[derive(Drop)]
 pub(crate) struct Known<'a> {
-    firsts: BTreeMap<Key<'a>, usize>,
+    marks: NeedMarks,
+    /// By marks of needs, the first derivation with each mark.
+    marked: BTreeMap<u64, usize>,
+    /// By needs, those whose mark is one of another need's.
+    others: BTreeMap<Key<'a>, usize>,
 }
 
 impl<'a> Known<'a> {
     /// No derivation.
     pub(crate) fn new(alloc: Global) -> Known<'a> {
         Known {
-            firsts: BTreeMap::new(alloc),
+            marks: NeedMarks::new(),
+            marked: BTreeMap::new(alloc),
+            others: BTreeMap::new(alloc),
         }
     }
 
     /// An earlier derivation with the need of derivation `drv`, if one is known; else this one is known
     /// from now on.
     ///
-    /// For the proof: what the map answers is compared once more, so that nothing has to be said of it.
+    /// For the proof: what the maps answer is compared once more, so that nothing has to be said of them.
     pub(crate) fn meet(
         &mut self,
         needs: &'a [Need],
@@ -80,17 +87,44 @@ impl<'a> Known<'a> {
         requires { drv < length needs.now }
         ensures { IfOk result (λ found. IfSome found (SharesNeed needs.now drv)) }
     {
-        let need = &needs[drv];
-        let key = key_of(need);
-        if let Some(first) = self.firsts.get(&key) {
+        let mark = self.marks.mark(needs, drv);
+        let Some(first) = self.marked.get(&mark) else {
+            self.marked.insert(mark, drv)?;
+            return Ok(None);
+        };
+        let marked = *first;
+        if shares_need(needs, drv, marked) {
+            return Ok(Some(marked));
+        }
+        self.meet_other(needs, drv)
+    }
+
+    /// As `meet`, where another need has the mark of this one.
+    fn meet_other(&mut self, needs: &'a [Need], drv: usize) -> Result<Option<usize>, AllocError>
+        requires { drv < length needs.now }
+        ensures { IfOk result (λ found. IfSome found (SharesNeed needs.now drv)) }
+    {
+        let key = key_of(&needs[drv]);
+        if let Some(first) = self.others.get(&key) {
             let first = *first;
-            if first < drv && is_same(&needs[first], need) {
+            if shares_need(needs, drv, first) {
                 return Ok(Some(first));
             }
         }
-        self.firsts.insert(key, drv)?;
+        self.others.insert(key, drv)?;
         Ok(None)
     }
+}
+
+/// Whether derivation `first` is an earlier one with the need of derivation `drv`.
+fn shares_need(needs: &[Need], drv: usize, first: usize) -> bool
+    requires { drv < length needs.now }
+    ensures { IsTrue result → SharesNeed needs.now drv first }
+{
+    if first >= drv {
+        return false;
+    }
+    is_same(&needs[first], &needs[drv])
 }
 
 /// A number that equal kinds have in common, and others seldom.
