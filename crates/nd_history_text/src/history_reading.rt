@@ -14,10 +14,9 @@ ghost use Rattle.nd_history_text.specs.Reading.{Refuses, words_left, kind_at, Is
 use crate::history_error::{HistoryError, LineError};
 use crate::kinds::{Kind, Version};
 use crate::lines::{is_told, opening};
-use crate::words::{cause, is_word, number_alone, number_first, outputs, paths_first};
+use crate::words::{Reading, cause, is_word, number_alone, number_first, outputs, paths_first};
 use nd_bytes::cut;
 use nd_history::Entry;
-use nd_path_pool::PathPool;
 use std::alloc::Global;
 
 /// The history whose text the bytes are, in either version. A text of the second version needs no
@@ -37,11 +36,11 @@ pub fn read_history(alloc: Global, text: &[u8]) -> Result<Vec<Entry>, HistoryErr
     let Some((version, mut rest)) = version_first(text) else {
         return Err(HistoryError::Version);
     };
-    let mut pool = PathPool::new(alloc);
+    let mut reading = Reading::new(alloc);
     let mut entries = Vec::new(alloc);
     let mut line = 2;
     while !rest.is_empty() {
-        match line_first(alloc, version, rest, &mut pool) {
+        match line_first(alloc, version, rest, &mut reading) {
             Ok((entry, behind)) => {
                 entries.push(entry)?;
                 rest = behind;
@@ -87,7 +86,7 @@ fn line_first<'t>(
     alloc: Global,
     version: Version,
     bytes: &'t [u8],
-    pool: &mut PathPool<'t>,
+    reading: &mut Reading<'t>,
 ) -> Result<(Entry, &'t [u8]), LineError>
     ensures found { IfOk result (λ x. IsLineFirst version bytes.now x.0 x.1.now) }
     ensures shorter { IfOk result (λ x. length x.1.now < length bytes.now) }
@@ -98,7 +97,7 @@ fn line_first<'t>(
     let Some(rest) = rest else {
         return Err(LineError::Bad);
     };
-    let entry = line_alone(alloc, version, line, pool)?;
+    let entry = line_alone(alloc, version, line, reading)?;
     Ok((entry, rest))
 }
 
@@ -108,7 +107,7 @@ fn line_alone<'t>(
     alloc: Global,
     version: Version,
     line: &'t [u8],
-    pool: &mut PathPool<'t>,
+    reading: &mut Reading<'t>,
 ) -> Result<Entry, LineError>
     ensures found { IfOk result (IsEntryWords version (slice_split (λ b. b == 32) line.now)) }
     ensures refused { IfErr result (λ e. Refuses e
@@ -118,7 +117,7 @@ fn line_alone<'t>(
     let Some(kind) = kind_first(word) else {
         return Err(LineError::Bad);
     };
-    let entry = entry_alone(alloc, kind, left, pool)?;
+    let entry = entry_alone(alloc, kind, left, reading)?;
     if !is_told(version, &entry) {
         return Err(LineError::Bad);
     }
@@ -173,7 +172,7 @@ fn entry_alone<'t>(
     alloc: Global,
     kind: Kind,
     left: Option<&'t [u8]>,
-    pool: &mut PathPool<'t>,
+    reading: &mut Reading<'t>,
 ) -> Result<Entry, LineError>
     ensures found { IfOk result (IsEntryOf kind (words_left left.entry)) }
     ensures refused { IfErr result (λ e. Refuses e
@@ -181,8 +180,8 @@ fn entry_alone<'t>(
 {
     match kind {
         Kind::Choice => chosen(left),
-        Kind::Start => started(alloc, left, pool),
-        Kind::Finish => built(alloc, left, pool),
+        Kind::Start => started(alloc, left, reading),
+        Kind::Finish => built(alloc, left, reading),
         Kind::Failure => failed(left),
         Kind::Halt => stopped(left),
         Kind::NoChoice => unbuildable(left),
@@ -216,7 +215,7 @@ fn chosen(left: Option<&[u8]>) -> Result<Entry, LineError>
 fn started<'t>(
     alloc: Global,
     left: Option<&'t [u8]>,
-    pool: &mut PathPool<'t>,
+    reading: &mut Reading<'t>,
 ) -> Result<Entry, LineError>
     ensures found { IfOk result (IsEntryOf Kind.Start (words_left left.entry)) }
     ensures refused { IfErr result (λ e. Refuses e
@@ -225,7 +224,7 @@ fn started<'t>(
     let Some((drv, left)) = number_first(left) else {
         return Err(LineError::Bad);
     };
-    let (paths, rest) = paths_first(alloc, left, pool)?;
+    let (paths, rest) = paths_first(alloc, left, &mut reading.pool, &mut reading.paths)?;
     match rest {
         None => Ok(Entry::Started { drv, paths }),
         Some(_) => Err(LineError::Bad),
@@ -237,7 +236,7 @@ fn started<'t>(
 fn built<'t>(
     alloc: Global,
     left: Option<&'t [u8]>,
-    pool: &mut PathPool<'t>,
+    reading: &mut Reading<'t>,
 ) -> Result<Entry, LineError>
     ensures found { IfOk result (IsEntryOf Kind.Finish (words_left left.entry)) }
     ensures refused { IfErr result (λ e. Refuses e
@@ -246,7 +245,7 @@ fn built<'t>(
     let Some((drv, left)) = number_first(left) else {
         return Err(LineError::Bad);
     };
-    let refs = outputs(alloc, left, pool)?;
+    let refs = outputs(alloc, left, reading)?;
     Ok(Entry::Built { drv, refs })
 }
 

@@ -17,7 +17,29 @@ use nd_closure::Refs;
 use nd_history::Why;
 use nd_path::{PathSet, StorePath};
 use nd_path_pool::PathPool;
-use std::alloc::Global;
+use std::alloc::{AllocError, Global};
+
+/// What the paths of a text are read with, one line after another.
+#[derive(Drop)]
+pub(crate) struct Reading<'t> {
+    /// The paths so far, by their bytes.
+    pub(crate) pool: PathPool<'t>,
+    /// The paths of the list that is read. The list itself is made once their number is known.
+    pub(crate) paths: Vec<StorePath>,
+    /// The sets of the outputs that are read, likewise.
+    pub(crate) sets: Vec<PathSet>,
+}
+
+impl<'t> Reading<'t> {
+    /// The beginning, before the first line. It takes no memory.
+    pub(crate) fn new(alloc: Global) -> Reading<'t> {
+        Reading {
+            pool: PathPool::new(alloc),
+            paths: Vec::new(alloc),
+            sets: Vec::new(alloc),
+        }
+    }
+}
 
 /// Whether the two words are the same.
 pub(crate) fn is_word(word: &[u8], other: &[u8]) -> bool
@@ -160,45 +182,56 @@ fn is_rising(paths: &[StorePath]) -> bool
 }
 
 /// The set of paths that the first of the words that are left are, up to an end, and the words from
-/// there on.
+/// there on. They are read into `paths`, whatever stood there.
 pub(crate) fn paths_first<'t>(
     alloc: Global,
     left: Option<&'t [u8]>,
     pool: &mut PathPool<'t>,
+    paths: &mut Vec<StorePath>,
 ) -> Result<(PathSet, Option<&'t [u8]>), LineError>
     ensures found { IfOk result (λ x. ArePathsFirst (words_left left.entry) x.0 (words_left x.1)) }
     ensures shorter { IfOk result (λ x. left_over (option_copied x.1) ≤ left_over (option_copied left.entry)) }
     ensures refused { IfErr result (λ e. Refuses e
         ((paths rest : List (List ℕ)) → ArePathsFirst (words_left left.entry) paths rest → ⊥)) }
 {
-    let (paths, rest) = path_words(alloc, left, pool)?;
+    let rest = path_words(alloc, left, pool, paths)?;
     if !is_rising(paths.as_slice()) {
         return Err(LineError::Bad);
     }
-    let set = PathSet::from_vec(paths)?;
+    let set = PathSet::from_vec(taken(alloc, paths)?)?;
     Ok((set, rest))
 }
 
-/// The paths that the first of the words that are left are, up to an end, and the words from there
-/// on. What is refused is no set of paths either.
+/// Reads the paths that the first of the words that are left are, up to an end, in place of what
+/// stands in `paths`, and answers the words from there on. What is refused is no set of paths either.
 #[tactic(auto, using(crate::proofs::PathLists::path_sets))]
 fn path_words<'t>(
     alloc: Global,
     left: Option<&'t [u8]>,
     pool: &mut PathPool<'t>,
-) -> Result<(Vec<StorePath>, Option<&'t [u8]>), LineError>
-    ensures found { IfOk result (λ x. ArePathWords (words_left left.entry) x.0.items (words_left x.1)) }
-    ensures shorter { IfOk result (λ x. left_over (option_copied x.1) ≤ left_over (option_copied left.entry)) }
+    paths: &mut Vec<StorePath>,
+) -> Result<Option<&'t [u8]>, LineError>
+    ensures found { IfOk result (λ rest. ArePathWords (words_left left.entry) paths.new.items (words_left rest)) }
+    ensures shorter { IfOk result (λ rest. left_over (option_copied rest) ≤ left_over (option_copied left.entry)) }
     ensures refused { IfErr result (λ e. Refuses e
         ((paths rest : List (List ℕ)) → ArePathsFirst (words_left left.entry) paths rest → ⊥)) }
 {
-    let mut paths: Vec<StorePath> = Vec::new(alloc);
+    paths.clear();
     let mut rest = left;
     while let Some((word, behind)) = word_before_end(rest) {
-        push_path(alloc, word, pool, &mut paths)?;
+        push_path(alloc, word, pool, paths)?;
         rest = behind;
     }
-    Ok((paths, rest))
+    Ok(rest)
+}
+
+/// The items of a list that is filled again and again, in a list of their own with room for them alone.
+fn taken<T: Drop>(alloc: Global, filled: &mut Vec<T>) -> Result<Vec<T>, AllocError>
+    ensures { IfOk result (λ items. items.items ≡ filled.old.items) }
+{
+    let mut items = Vec::with_capacity(alloc, filled.len())?;
+    items.append(filled)?;
+    Ok(items)
 }
 
 /// Puts the path that this word is behind those that were read.
@@ -222,22 +255,22 @@ fn push_path<'t>(
 pub(crate) fn outputs<'t>(
     alloc: Global,
     left: Option<&'t [u8]>,
-    pool: &mut PathPool<'t>,
+    reading: &mut Reading<'t>,
 ) -> Result<Refs, LineError>
     ensures found { IfOk result (AreOutputs (words_left left.entry)) }
     ensures refused { IfErr result (λ e. Refuses e
         ((refs : List (List (List ℕ))) → AreOutputs (words_left left.entry) refs → ⊥)) }
 {
-    let mut sets = Vec::new(alloc);
+    reading.sets.clear();
     let mut rest = left;
     while let Some(bytes) = rest {
         let (word, behind) = cut(bytes, b' ');
         if !is_word(word, b"o") {
             return Err(LineError::Bad);
         }
-        let (set, behind) = paths_first(alloc, behind, pool)?;
-        sets.push(set)?;
+        let (set, behind) = paths_first(alloc, behind, &mut reading.pool, &mut reading.paths)?;
+        reading.sets.push(set)?;
         rest = behind;
     }
-    Ok(Refs::new(sets))
+    Ok(Refs::new(taken(alloc, &mut reading.sets)?))
 }
