@@ -1,24 +1,18 @@
 -- On an idle park needs with the same platform and the same required features have the same reply.
-use Rattle.std.proofs.Common.{◌≡◌, ℕ, ◌+◌, ◌<◌, ◌≤◌, Bool, true, false, cond, ◌&&◌, List, [], ◌∷◌, ◌++◌, length, take, replicate, get_or, Option, None, Some, slice_get, subst, sym, refl, ◌∙◌, ◌⊎◌, inl, inr, arith}
+use Rattle.std.proofs.Common.{◌≡◌, ℕ, ◌+◌, ◌<◌, ◌≤◌, Bool, true, List, [], ◌∷◌, ◌++◌, length, take, replicate, get_or, Option, None, Some, slice_get, subst, sym, refl, ◌∙◌, inl, inr, arith}
 use Rattle.std.specs.Prelude.{IsSomeAnd}
 use Rattle.std.specs.List.{AllZip}
 use Rattle.std.specs.Option.{option_map_or}
-use Rattle.std.specs.Ordering.{is_eq}
-use Rattle.std.specs.Cmp.{tied_then}
-use Rattle.std.specs.BTreeMap.{get_by, is_at, BTreeMap}
 use Rattle.std.specs.Io.KnownBytes.{Appends}
 use Rattle.std.proofs.lemmas.Bool.{cases_lt}
-use Rattle.std.proofs.lemmas.List.{get_or-replicate, get_or_past, length-replicate, take_more}
+use Rattle.std.proofs.lemmas.List.{get_or-replicate, get_or-take, get_or_default, get_or_past, length-replicate, length-take, length-take-le, take_more}
 use Rattle.std.proofs.lemmas.Option.{slice_get_read, slice_get_within, slice_get_cases, get_or_from_slice_get}
 use Rattle.std.proofs.lemmas.Slice.Zip.{AllZip-long}
-use Rattle.nd_bytes.specs.Compared.{bytes_cmp, bytes_ties, bytes_same}
 use Rattle.nd_devices.specs.Written.{WritesPart}
 use Rattle.nd_machines.specs.Builders.{Builder}
-use Rattle.nd_machines.specs.FeatureSets.{sets_cmp, sets_ties, sets_same}
 use Rattle.nd_eligible.specs.Settings.{Settings}
 use Rattle.nd_eligible.specs.declared.need.Need.{Need}
 use Rattle.nd_eligible.specs.Eligibility.{Eligible, IsEligibleAt, BuildsFor, IsSubset}
-use Rattle.nd_eligible.specs.Classing.{Kind, compare_kind, kind_cmp}
 use Rattle.nd_choose.specs.Best.{IsFree, is_up_at, load_at, jobs_at}
 use Rattle.nd_hook.specs.declared.kinds.Reply.{Reply}
 use Rattle.nd_hook.specs.declared.kinds.Reply.TheVariants.{Accept, Postpone, Decline, DeclinePermanently}
@@ -29,7 +23,8 @@ use Rattle.nd_cli.proofs.Accepted.{same_reply}
 use Rattle.nd_cli.proofs.LocalTest.{free_here}
 use Rattle.nd_cli.proofs.Replying.{AllZip-snoc, AllZip-at, goes_on, stops}
 use Rattle.nd_cli.specs.Asks.{WritesReplies, WritesSomeReplies}
-use Rattle.nd_cli.specs.ClassReplies.{HaveReplied, IsReplyAt}
+use Rattle.nd_cli.specs.ClassReplies.{IsReplyAt}
+use Rattle.nd_cli.specs.SharedClasses.{SharesClass}
 
 -- ---- an eligible machine is free on an idle park
 
@@ -87,44 +82,6 @@ reply_alike machines local one other reply system features h = let free = free_h
       h.is);
 }
 
--- ---- what is known
-
-both_true : (a b : Bool) → (a && b) ≡ true → (a ≡ true) × (b ≡ true)
-both_true true true h = (refl, refl)
-both_true true false h = absurd (cc)
-both_true false b h = absurd (cc)
-
--- a need's own kind
-kind_of : Need → Kind
-kind_of need = (record { ref_ptr = (0, 0); now = need.system }, record { ref_ptr = (0, 0); now = need.features })
-
-same_kind : (one other : Need) → is_at (compare_kind one) (kind_of other) ≡ true → (one.system ≡ other.system) × (one.features ≡ other.features)
-unfolding kind_of
-same_kind one other h =
-    let both = both_true (is_eq (bytes_cmp one.system other.system)) (is_eq (sets_cmp one.features other.features))
-    (tied_then (bytes_cmp one.system other.system) (sets_cmp one.features other.features) ∙ h) in (
-      bytes_same one.system other.system (bytes_ties one.system other.system ∙ both.0),
-      sets_same one.features other.features (sets_ties one.features other.features ∙ both.1),
-    )
-
-found_at : {X : Type 0} (here : Bool) (x known : X) (before : Option X) → cond here (Some x) before ≡ Some known
-    → ((here ≡ true) × (x ≡ known)) ⊎ ((here ≡ false) × (before ≡ Some known))
-found_at true x known before h = inl (refl, cc)
-found_at false x known before h = inr (refl, h)
-
--- one more is kept
-pub replied_more : (machines : List Builder) (local : Settings) (known then : BTreeMap Kind Reply) (need : Need) (reply : Reply) → HaveReplied machines local known → IsIdleReply machines local need reply
-    → ((kind : Kind) → get_by (kind_cmp kind) then ≡ cond (is_at (compare_kind need) kind) (Some reply) (get_by (kind_cmp kind) known)) → HaveReplied machines local then
-unfolding kind_of
-replied_more machines local known then need reply so_far is updates = record {
-  each = λ other found got. elim (found_at (is_at (compare_kind need) (kind_of other)) reply found (get_by (compare_kind other) known) (sym (updates (kind_of other)) ∙ got)) [
-    | inl new ↦
-        let same = same_kind need other new.0 in
-        subst (λ (some : Reply). IsIdleReply machines local other some) new.1 (reply_alike machines local need other reply same.0 same.1 is)
-    | inr old ↦ so_far.each other found old.1
-  ];
-}
-
 -- ---- at one derivation
 
 pub reply_at : (machines : List Builder) (local : Settings) (needs : List Need) (d : ℕ) (need : Need) (reply : Reply) → d < length needs → need ≡ get_or needs d need → IsIdleReply machines local need reply
@@ -148,8 +105,6 @@ reply_within machines local needs replies d each within =
     let long = AllZip-long (IsIdleReply machines local) needs replies each in
     omega (arith, long, within)
 
--- ---- replies that are written
-
 -- the reply in its place
 pub reply_there : (machines : List Builder) (local : Settings) (needs : List Need) (replies : List Reply) (d : ℕ) (reply : Reply) → AllZip (IsIdleReply machines local) needs replies → d < length needs
     → reply ≡ get_or replies d reply → IsReplyAt machines local needs d reply
@@ -163,6 +118,46 @@ reply_there machines local needs replies d reply each within is = elim (slice_ge
   }
   | inr past ↦ let small = past.0 in absurd (omega (arith, small, within))
 ]
+
+-- ---- a derivation of the class of an earlier one
+
+-- what stands in the first of a list stands in the list
+stands : {X : Type 0} → (xs : List X) (n i : ℕ) (x : X) → i < n → slice_get (take n xs) i ≡ Some x → slice_get xs i ≡ Some x
+stands xs n i x lt is =
+    let within : i < length xs = let some = slice_get_within (take n xs) i x is in omega (arith, some, length-take n xs) in
+    slice_get_read xs (length xs) i x refl within (sym (sym (get_or-take n xs i x lt) ∙ get_or_from_slice_get (take n xs) i x x is))
+
+-- the earlier one has its reply
+pub first_within : (machines : List Builder) (local : Settings) (needs : List Need) (replies : List Reply) (d first : ℕ) → SharesClass needs d first
+    → AllZip (IsIdleReply machines local) (take d needs) replies → first < length replies
+first_within machines local needs replies d first shares each =
+    let long = AllZip-long (IsIdleReply machines local) (take d needs) replies each in
+    let within = slice_get_within needs d shares.other shares.here in
+    let some = length-take-le d needs (omega (arith, within)) in
+    let earlier = shares.earlier in
+    omega (arith, long, some, earlier)
+
+-- the reply about the earlier one is that about this one
+pub reply_shared : (machines : List Builder) (local : Settings) (needs : List Need) (replies : List Reply) (d first : ℕ) (other : Reply) → SharesClass needs d first
+    → AllZip (IsIdleReply machines local) (take d needs) replies → IsReplyAt machines local needs d (get_or replies first other)
+reply_shared machines local needs replies d first other shares each =
+    let reply = get_or replies first other in
+    let within = slice_get_within needs d shares.other shares.here in
+    let some = length-take-le d needs (omega (arith, within)) in
+    let earlier = shares.earlier in
+    let at = reply_there machines local (take d needs) replies first reply each (omega (arith, some, earlier))
+    (get_or_default replies first other reply (first_within machines local needs replies d first shares each)) in
+    let there = stands needs d first at.need earlier at.wants in
+    let shared_there = shares.there in
+    let one : at.need ≡ shares.one = cc in
+    record {
+      need = shares.other;
+      wants = shares.here;
+      is = reply_alike machines local shares.one shares.other reply shares.same.system shares.same.features
+          (subst (λ (need : Need). IsIdleReply machines local need reply) one at.is);
+    }
+
+-- ---- replies that are written
 
 -- after one more
 pub goes_on_at : (machines : List Builder) (local : Settings) (needs : List Need) (d : ℕ) (reply : Reply) (old mid new : Option (List ℕ)) → WritesReplies machines local (take d needs) old mid → IsReplyAt machines local needs d reply

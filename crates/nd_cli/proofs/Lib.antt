@@ -2,5 +2,6 @@ pub mod Replying
 pub mod Accepted
 pub mod Whole
 pub mod LocalTest
+pub mod SameClass
 pub mod ClassReplying
 pub mod Slots

@@ -2,6 +2,7 @@ pub mod Inputs
 pub mod Parks
 pub mod Asks
 pub mod ClassReplies
+pub mod SharedClasses
 pub mod Paths
 pub mod Asked
 pub mod Statuses

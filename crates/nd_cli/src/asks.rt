@@ -1,20 +1,20 @@
 //! The replies that `ask` writes.
 
-ghost use Rattle.std.specs.Prelude.{◌≡◌, ◌<◌, ◌↔◌, ◌⊎◌, ◌||◌, true, false, IsTrue, length, IfOk, OnOk, OnErr, IfErr, is_err};
+ghost use Rattle.std.specs.Prelude.{◌≡◌, ◌<◌, ◌↔◌, ◌⊎◌, ◌||◌, true, false, IsTrue, length, take, IfOk, IfSome, OnOk, OnErr, IfErr, is_err};
 ghost use Rattle.std.specs.List.{AllZip};
 ghost use Rattle.nd_cli.specs.Asks.{WritesReplies, WritesSomeReplies};
-ghost use Rattle.nd_cli.specs.ClassReplies.{HaveReplied, IsReplyAt};
+ghost use Rattle.nd_cli.specs.ClassReplies.{IsReplyAt};
+ghost use Rattle.nd_cli.specs.SharedClasses.{SharesClass};
 ghost use Rattle.nd_cli.specs.Inputs.{is_write_fault, is_write_failure};
 ghost use Rattle.nd_hook.specs.Idle.{IsFreeHere, IsIdleReply, idle, all_up};
 
+use crate::classes::Firsts;
 use crate::fault::CliFault;
-use nd_bytes::ByteString;
 use nd_devices::{Fault, Told, WriteError};
 use nd_eligible::{Local, Need, eligible_places, local_ok};
 use nd_hook::{Reply, reply_in, write_reply};
-use nd_machines::{FeatureSet, Machine};
+use nd_machines::Machine;
 use std::alloc::{AllocError, Global};
-use std::collections::BTreeMap;
 use std::io::Write;
 
 /// Writes for each need, in order, the reply on an idle park: no slot is taken, and every machine
@@ -66,48 +66,47 @@ fn replies_about(
 {
     let loads = vec![in alloc; 0u32; machines.len()]?;
     let up = vec![in alloc; true; machines.len()]?;
-    let mut known = BTreeMap::new(alloc);
+    let mut known = Firsts::new(alloc);
     let mut replies = Vec::with_capacity(alloc, needs.len())?;
     for drv in 0..needs.len() {
-        let reply = reply_about(alloc, machines, local, needs, &loads, &up, &mut known, drv)?;
+        let first = known.meet(needs, drv)?;
+        let reply = reply_about(
+            alloc, machines, local, needs, &loads, &up, &replies, drv, first,
+        )?;
         replies.push(reply)?;
     }
     Ok(replies)
 }
 
-/// What the reply about a derivation depends on where no slot is taken and every machine is up: the platform and
-/// the required features of its need. These say which machines are eligible, and each of those is free then; so
-/// whether the local machine may build it and has a free slot too changes nothing.
-type Class<'a> = (&'a ByteString, &'a FeatureSet);
-
-/// The reply about the derivation with this number, where no slot is taken and every machine is up. `known` has
-/// those that were made, by their classes; one that wasn't is made now.
-#[tactic(auto, using(crate::proofs::ClassReplying::replied_more))]
-fn reply_about<'a>(
+/// The reply about the derivation with this number, where no slot is taken and every machine is up. `replies` are
+/// those about the derivations before it. `first` is one of these that has the same class, if one is known.
+#[tactic(auto, using(crate::proofs::ClassReplying::first_within, crate::proofs::ClassReplying::reply_shared))]
+fn reply_about(
     alloc: Global,
     machines: &[Machine],
     local: &Local,
-    needs: &'a [Need],
+    needs: &[Need],
     loads: &[u32],
     up: &[bool],
-    known: &mut BTreeMap<Class<'a>, Reply>,
+    replies: &[Reply],
     number: usize,
+    first: Option<usize>,
 ) -> Result<Reply, AllocError>
     requires loads { loads.now ≡ idle machines.now }
     requires up { up.now ≡ all_up machines.now }
     requires number { number < length needs.now }
-    requires known { HaveReplied machines.now local.now known.old }
-    ensures reply { IfOk result (IsReplyAt machines.now local.now needs.now number) }
-    ensures known { OnOk result (HaveReplied machines.now local.now known.new) }
+    requires replies { AllZip (IsIdleReply machines.now local.now) (take number needs.now) replies.now }
+    requires first { IfSome first (SharesClass needs.now number) }
+    ensures { IfOk result (IsReplyAt machines.now local.now needs.now number) }
 {
-    let need = &needs[number];
-    let class = (&need.system, &need.features);
-    if let Some(reply) = known.get(&class) {
-        return Ok(*reply);
+    match first {
+        Some(first) => Ok(replies[first]),
+        None => {
+            let need = &needs[number];
+            let reply = make_reply(alloc, machines, local, loads, up, need)?;
+            Ok(reply)
+        }
     }
-    let reply = make_reply(alloc, machines, local, loads, up, need)?;
-    known.insert(class, reply)?;
-    Ok(reply)
 }
 
 /// The reply about a derivation with this need, where no slot is taken and every machine is up.

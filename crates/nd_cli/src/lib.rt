@@ -4,6 +4,8 @@
 
 mod ask;
 mod asks;
+mod class_marks;
+mod classes;
 mod fault;
 mod input;
 mod listing;
