@@ -14,7 +14,6 @@ use Rattle.nd_ledger.specs.Admitting.{IsAdmitRefused}
 use Rattle.nd_ledger.specs.declared.refusal.AdmitError.{AdmitError}
 use Rattle.nd_ledger.specs.declared.refusal.AdmitError.TheVariants.{Illegal as Refused, Memory as NoMemory}
 use Rattle.nd_report.specs.declared.audit_error.AuditError.{AuditError}
-use Rattle.nd_report.specs.declared.audit_error.AuditError.TheVariants.{Memory}
 use Rattle.nd_report.specs.Audits.{IsFirstIllegal, IsAuditRefused, answer_at}
 
 -- a dispatch has these inputs, and admitted these n entries
@@ -24,14 +23,14 @@ pub record IsAdmitted (i : Premises) (seen : List Entry) (world : World) (n : �
   pub place : n ≡ length seen
   pub legal : IsLegal i (reverse world.history)
 
-turned : (before : List Entry) (e : Entry) (after : List Entry) → reverse (before ++ e ∷ after) ≡ reverse after ++ e ∷ reverse before
+pub turned : (before : List Entry) (e : Entry) (after : List Entry) → reverse (before ++ e ∷ after) ≡ reverse after ++ e ∷ reverse before
 turned before e after =
     reverse-append before (e ∷ after) ∙ ap (λ (l : List Entry). l ++ reverse before) (reverse_cons e after) ∙ append_assoc (reverse after) (e ∷ []) (reverse before)
 
 pub none_admitted : (i : Premises) (world : World) → world.inputs ≡ i → world.history ≡ [] → IsAdmitted i [] world 0
 none_admitted i world inputs none = record { inputs = inputs; same = none; place = refl; legal = subst (λ (l : List Entry). IsLegal i (reverse l)) (sym none) tt }
 
-grown : (world new : World) (e : Entry) → new ≡ record world { history = world.history ++ e ∷ [] } → new.history ≡ world.history ++ e ∷ []
+pub grown : (world new : World) (e : Entry) → new ≡ record world { history = world.history ++ e ∷ [] } → new.history ≡ world.history ++ e ∷ []
 grown world new e h = ap (λ (w : World). w.history) h
 
 pub one_admitted : (i : Premises) (seen : List Entry) (world new : World) (n : ℕ) (e : Entry) → IsAdmitted i seen world n
@@ -77,16 +76,5 @@ pub refused_at : (i : Premises) (entries seen after : List Entry) (world : World
     → entries ≡ seen ++ e ∷ after → IsAdmitRefused world.inputs (reverse world.history) e fault → answer ≡ answer_at n fault → IsAuditRefused i entries answer
 refused_at i entries seen after world n e fault answer h whole refused same =
     subst (IsAuditRefused i entries) (sym same) (answer_right i entries seen after world n e fault h whole refused)
-
--- .. in a legal history
-memory_alone : (i : Premises) (entries seen after : List Entry) (world : World) (n : ℕ) (e : Entry) (fault : AdmitError) → IsAdmitted i seen world n → entries ≡ seen ++ e ∷ after
-    → IsAdmitRefused world.inputs (reverse world.history) e fault → IsLegal i (reverse entries) → answer_at n fault ≡ Memory
-memory_alone i entries seen after world n e (Refused rule) h whole refused legal =
-    absurd (none_illegal i entries n rule (one_refused i entries seen after world n e rule h whole refused) legal)
-memory_alone i entries seen after world n e NoMemory h whole refused legal = refl
-
-pub memory_at : (i : Premises) (entries seen after : List Entry) (world : World) (n : ℕ) (e : Entry) (fault : AdmitError) (answer : AuditError) → IsAdmitted i seen world n
-    → entries ≡ seen ++ e ∷ after → IsAdmitRefused world.inputs (reverse world.history) e fault → answer ≡ answer_at n fault → IsLegal i (reverse entries) → answer ≡ Memory
-memory_at i entries seen after world n e fault answer h whole refused same legal = same ∙ memory_alone i entries seen after world n e fault h whole refused legal
 
 pub ruleset audits = (none_admitted, one_admitted, all_admitted)

@@ -1,3 +1,4 @@
 pub mod Rows
 pub mod Admitting
+pub mod Admissions
 pub mod Ending

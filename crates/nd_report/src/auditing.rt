@@ -1,9 +1,9 @@
 //! The audit of a history.
 
-ghost use Rattle.std.specs.Prelude.{◌≡◌, ◌≤◌, [], length, reverse, IfOk, IfErr, OnOk};
-ghost use Rattle.nd_history.specs.Legal.{IsLegal};
+ghost use Rattle.std.specs.Prelude.{◌≡◌, ◌≤◌, [], ◌∷◌, ◌++◌, length, reverse, IfErr, OnOk, OnErr};
+ghost use Rattle.nd_history.specs.Legal.{IsAllowed, IsLegal};
 ghost use Rattle.nd_report.specs.declared.audit_error.AuditError.{AuditError};
-ghost use Rattle.nd_report.specs.Audits.{IsAuditRefused, answer_at, premises};
+ghost use Rattle.nd_report.specs.Audits.{IsAuditRefused, IsAdmissionRefused, IsRefusedAt, answer_at, premises};
 
 use crate::audit_error::AuditError;
 use nd_closure::RefTable;
@@ -19,7 +19,6 @@ use std::alloc::Global;
 ///
 /// Refuses with `Illegal` (1), the place of the first entry that isn't, from 0, and the first rule
 /// that refuses it; and with `Memory` (2) where an allocation is refused.
-#[tactic(auto, using(crate::proofs::Admitting::audits))]
 pub fn audit(
     alloc: Global,
     graph: Graph,
@@ -42,19 +41,57 @@ pub fn audit(
             return Err(AuditError::Memory);
         }
     };
+    let answer = admit_all(alloc, &mut dispatch, entries);
+    drop(dispatch);
+    answer
+}
+
+/// Appends these entries to the history of a dispatch, each if it is allowed after those before it. The
+/// entries are taken over, and the dispatch stays with the caller.
+///
+/// Refuses with `Illegal` (1), the place of the first entry that isn't allowed, from 0 among these
+/// entries, and the first rule that refuses it; and with `Memory` (2) where an allocation is refused.
+/// The entries before that one are then appended, and no others.
+#[tactic(auto, using(crate::proofs::Admissions::admissions))]
+pub fn admit_all(
+    alloc: Global,
+    dispatch: &mut Dispatch,
+    entries: Vec<Entry>,
+) -> Result<(), AuditError>
+    ensures inputs { dispatch.new.inputs ≡ dispatch.old.inputs }
+    ensures history { OnOk result (dispatch.new.history ≡ dispatch.old.history ++ entries.items) }
+    ensures legal { OnOk result (IsLegal dispatch.old.inputs (reverse (dispatch.old.history ++ entries.items))) }
+    ensures refused { IfErr result (IsAdmissionRefused dispatch.old entries.items dispatch.new) }
+    ensures exactly { IsLegal dispatch.old.inputs (reverse (dispatch.old.history ++ entries.items)) → IfErr result (λ e. e ≡ AuditError.Memory) }
+{
+    // For the proof: the history of a dispatch is legal.
+    let _before = dispatch.history();
     let mut index = 0;
     'admitting: for entry in entries {
-        match dispatch.admit(alloc, entry) {
-            Ok(()) => {}
-            Err(fault) => {
-                drop(dispatch);
-                return Err(refusal_at(index, fault));
-            }
-        }
+        admit_at(alloc, dispatch, index, entry)?;
         index += 1;
     }
-    drop(dispatch);
     Ok(())
+}
+
+/// Appends an entry, which has this place among those that are to be, to the history of a dispatch if it
+/// is allowed there.
+#[tactic(auto, using(crate::proofs::Admissions::refused_there))]
+fn admit_at(
+    alloc: Global,
+    dispatch: &mut Dispatch,
+    index: usize,
+    entry: Entry,
+) -> Result<(), AuditError>
+    ensures appended { OnOk result (dispatch.new ≡ record dispatch.old { history = dispatch.old.history ++ entry ∷ [] }) }
+    ensures allowed { OnOk result (IsAllowed dispatch.old.inputs entry (reverse dispatch.old.history)) }
+    ensures refused { IfErr result (IsRefusedAt dispatch.old.inputs (reverse dispatch.old.history) entry index) }
+    ensures kept { OnErr result (dispatch.new ≡ dispatch.old) }
+{
+    match dispatch.admit(alloc, entry) {
+        Ok(()) => Ok(()),
+        Err(fault) => Err(refusal_at(index, fault)),
+    }
 }
 
 /// What an audit answers where the entry at this place is refused.

@@ -1,25 +1,13 @@
-use Rattle.std.proofs.Common.{List, ◌∷◌, ◌++◌, ap, sym, ◌∙◌, append_assoc}
-use Rattle.std.specs.Vec.Iter.{into_iter_items}
-use Rattle.nd_history.specs.declared.entry.Entry.{Entry}
-use Rattle.nd_report.proofs.Admitting.{refused_at, memory_at, one_admitted}
+use Rattle.std.proofs.lemmas.Result.{on_ok_weaker, IfErr-weaker}
+use Rattle.nd_report.proofs.Admissions.{audit_legal, audit_whole, audit_refused}
 use Rattle.nd_report.proofs.auditing.audit.Goals as goal
 
-pub admitting-preserved : goal.admitting-preserved
-admitting-preserved c = record {
-  admitted = one_admitted _ c.admitting.yielded c.admitting.dispatch c.admit.new.self c.admitting.index c.in-Some.entry c.admitting.invariant.admitted c.in-Ok-admit.ensures.ok c.in-Ok-admit.ensures.allowed;
-  whole =
-      c.admitting.invariant.whole ∙ ap (λ (rest : List Entry). c.admitting.yielded ++ rest) c.in-Some.ensures.steps.0
-      ∙ sym (append_assoc c.admitting.yielded (c.in-Some.entry ∷ _) (into_iter_items c.next.new.self));
-}
+pub returns-clause-legal : goal.returns-clause-legal
+returns-clause-legal c = on_ok_weaker _ (audit_legal _ c.in-Ok.dispatch c.args.entries.items c.in-Ok.ensures.inputs c.in-Ok.ensures.empty) c.admit_all-answer.ensures.legal
 
-pub returns-in-Err-admit-clause-refused : goal.returns-in-Err-admit-clause-refused
-returns-in-Err-admit-clause-refused c =
-    refused_at _ c.args.entries.items c.admitting.yielded (into_iter_items c.next.new.self) c.admitting.dispatch c.admitting.index c.in-Some.entry c.in-Err-admit.fault c.refusal_at.result
-    c.admitting.invariant.admitted (c.admitting.invariant.whole ∙ ap (λ (rest : List Entry). c.admitting.yielded ++ rest) c.in-Some.ensures.steps.0)
-    c.in-Err-admit.ensures.refused c.refusal_at.ensures
+pub returns-clause-refused : goal.returns-clause-refused
+returns-clause-refused c =
+    IfErr-weaker _ _ _ (audit_refused _ c.in-Ok.dispatch c.admit_all-answer.new.dispatch c.args.entries.items c.in-Ok.ensures.inputs c.in-Ok.ensures.empty) c.admit_all-answer.ensures.refused
 
-pub returns-in-Err-admit-clause-exactly : goal.returns-in-Err-admit-clause-exactly
-returns-in-Err-admit-clause-exactly c =
-    memory_at _ c.args.entries.items c.admitting.yielded (into_iter_items c.next.new.self) c.admitting.dispatch c.admitting.index c.in-Some.entry c.in-Err-admit.fault c.refusal_at.result
-    c.admitting.invariant.admitted (c.admitting.invariant.whole ∙ ap (λ (rest : List Entry). c.admitting.yielded ++ rest) c.in-Some.ensures.steps.0)
-    c.in-Err-admit.ensures.refused c.refusal_at.ensures
+pub returns-clause-exactly : goal.returns-clause-exactly
+returns-clause-exactly c = λ legal. c.admit_all-answer.ensures.exactly (audit_whole _ c.in-Ok.dispatch c.args.entries.items c.in-Ok.ensures.inputs c.in-Ok.ensures.empty legal)
