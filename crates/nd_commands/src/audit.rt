@@ -1,20 +1,24 @@
 //! The command `audit`.
 
-ghost use Rattle.std.specs.Prelude.{◌≡◌, ◌≤◌, ◌||◌, ℕ, List, Some, false, length, is_err, IfOk, IfErr, OnOk, OnErr};
+ghost use Rattle.std.specs.Prelude.{◌≡◌, ◌≤◌, ◌||◌, ℕ, List, Some, false, length, reverse, is_err, IfOk, IfErr, OnOk, OnErr};
 ghost use Rattle.std.specs.Io.KnownBytes.{Appends};
 ghost use Rattle.nd_devices.specs.Written.{WritesPart};
 ghost use Rattle.nd_cli.specs.declared.fault.CliFault.{CliFault};
 ghost use Rattle.nd_cli.specs.Statuses.{RefusesNoInput};
 ghost use Rattle.nd_cli.specs.Inputs.{is_write_fault, is_read_failure, is_write_failure};
+ghost use Rattle.nd_history.specs.Legal.{IsLegal};
+ghost use Rattle.nd_report.specs.Audits.{IsAuditRefused};
 ghost use Rattle.nd_commands.specs.Opened.{park_inputs};
 ghost use Rattle.nd_commands.specs.Audited.{IsAuditAccepted, AnswersAudit, LeavesAudit, IsAuditFault, WritesVerdict, LeavesVerdict, IsVerdictFault, legal_line, illegal_line};
 
+use crate::opening::close_dispatch;
 use crate::reading::read_audit_inputs;
 use crate::verdict::{write_illegal, write_legal};
 use nd_cli::{CliFault, Park, ParkOptions};
 use nd_devices::{Fault, Told};
 use nd_history::{Entry, Rule};
-use nd_report::{AuditError, audit};
+use nd_ledger::Dispatch;
+use nd_report::{AuditError, admit_all};
 use std::alloc::Global;
 use std::io::{Read, Write};
 use std::thread::Threads;
@@ -73,19 +77,38 @@ fn write_verdict<W: Write>(
     ensures untouched { IfErr result (λ e. is_write_fault e ≡ false → output.new ≡ output.old) }
 {
     let count = entries.len();
-    match audit(
+    match judge(alloc, park, keep_going, entries) {
+        Ok(()) => say_legal(count, output),
+        Err(AuditError::Illegal { index, rule }) => say_illegal(index, rule, output),
+        Err(AuditError::Memory) => Err(CliFault::Memory),
+    }
+}
+
+/// Whether these entries are a legal history of the park, as `audit` of `nd_report` says it. The dispatch
+/// that says so is left to the system, since the command ends with it.
+fn judge(alloc: Global, park: Park, keep_going: bool, entries: Vec<Entry>) -> Result<(), AuditError>
+    requires few { length park.machines.items ≤ 1024 }
+    ensures legal { OnOk result (IsLegal (park_inputs park keep_going) (reverse entries.items)) }
+    ensures refused { IfErr result (IsAuditRefused (park_inputs park keep_going) entries.items) }
+{
+    let mut dispatch = match Dispatch::new(
         alloc,
         park.graph,
         park.machines,
         park.local,
         park.info,
         keep_going,
-        entries,
     ) {
-        Ok(()) => say_legal(count, output),
-        Err(AuditError::Illegal { index, rule }) => say_illegal(index, rule, output),
-        Err(AuditError::Memory) => Err(CliFault::Memory),
-    }
+        Ok(dispatch) => dispatch,
+        Err(parts) => {
+            drop(parts);
+            drop(entries);
+            return Err(AuditError::Memory);
+        }
+    };
+    let answer = admit_all(alloc, &mut dispatch, entries);
+    close_dispatch(dispatch);
+    answer
 }
 
 /// Writes that a history of so many entries is legal, and answers the status.
