@@ -150,7 +150,7 @@ fn selected_at<S: Selection>(
 
 /// Reads a derivation text as [`parse_view`](crate::parse_view) does, and keeps less: no arguments, and of
 /// the environment the variables alone whose names are asked for, each of these also where there are
-/// several of one name. What isn't kept takes no memory. Each refusal comes where it comes there.
+/// several of one name. No value that isn't kept takes memory. Each refusal comes where it comes there.
 pub fn parse_selected<S: Selection>(
     alloc: Global,
     bytes: &[u8],

@@ -12,8 +12,8 @@ use nd_graph::Graph;
 use std::alloc::Global;
 use std::thread::Threads;
 
-/// The graph of a bundle, as `plain::read_bundle`; the lines of a bundle of 64 KiB or more are read by as
-/// many threads as there are processors. The answer is that of `plain::read_bundle`, unless one of the two
+/// The graph of a bundle, as `plain::read_bundle`; the lines of a bundle of 128 KiB or more are read by many
+/// threads, two for each processor. The answer is that of `plain::read_bundle`, unless one of the two
 /// wants memory (`laws::one_bundle`).
 ///
 /// Refuses with the first of the refusals 1 to 6 of `GraphError` on the first line that has one,

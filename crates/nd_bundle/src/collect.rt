@@ -17,13 +17,12 @@ use rayon::prelude::*;
 use std::alloc::{AllocError, Global};
 use std::thread::Threads;
 
-/// The least length of a piece that a thread reads: one thread has read a shorter one before another has
-/// started.
+/// The least length of a piece for a thread: one thread has read a shorter one before another has started.
 const LONG: usize = 65_536;
 
 /// What the lines of the text say, in order, or the refusal of the first that has one; read by this thread
-/// where the text is short, and else by as many threads as there are processors. With `check` each line's
-/// path has to be the text path of its derivation.
+/// where the text hasn't enough for two, and else by many threads. With `check` each line's path has to be
+/// the text path of its derivation.
 pub(crate) fn read_lines_side_by_side<'t>(
     rt: &(impl Threads + Sync),
     alloc: Global,
@@ -33,7 +32,7 @@ pub(crate) fn read_lines_side_by_side<'t>(
     ensures ok { IfOk result (SayColumns check (lines text.now)) }
     ensures err { IfErr result (IsFirstFault check text.now) }
 {
-    if text.len() < LONG {
+    if text.len() < 2 * LONG {
         return read_lines(alloc, text, check);
     }
     read_lines_in_parallel(rt, alloc, text, check)
@@ -80,7 +79,7 @@ fn read_piece<'t>(alloc: Global, text: &'t [u8], check: bool) -> Result<Piece<'t
     })
 }
 
-/// The same as `read_lines`, read by as many threads as there are processors, two pieces each.
+/// The same as `read_lines`, in pieces that threads read, two for each processor and of about the same length.
 fn read_lines_in_parallel<'t>(
     rt: &(impl Threads + Sync),
     alloc: Global,
@@ -90,13 +89,16 @@ fn read_lines_in_parallel<'t>(
     ensures ok { IfOk result (SayColumns check (lines text.now)) }
     ensures err { IfErr result (IsFirstFault check text.now) }
 {
-    let least = text.len() / current_num_threads(rt) / 2;
-    let texts = cut_pieces(alloc, text, least.max(LONG))?;
+    let count = current_num_threads(rt)
+        .saturating_mul(2)
+        .min(text.len() / LONG)
+        .max(1);
+    let texts = cut_pieces(alloc, text, text.len() / count + 1)?;
     let pieces = read_each(rt, alloc, texts.as_slice(), check)?;
     join_pieces(alloc, pieces)
 }
 
-/// What the lines of each of these texts say, in order, read by as many threads as there are processors.
+/// What the lines of each of these texts say, in order, each read by a thread of its own.
 fn read_each<'t>(
     rt: &(impl Threads + Sync),
     alloc: Global,

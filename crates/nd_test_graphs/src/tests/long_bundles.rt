@@ -77,9 +77,11 @@ fn odd_lines(rt: HostRuntime) {
     );
 }
 
-/// Where an odd line stands among 1,300 plain ones, which threads read in four pieces: at the ends, and about where
-/// one piece ends and another begins.
-const PLACES: [usize; 12] = [0, 1, 312, 324, 325, 326, 649, 650, 651, 975, 1298, 1299];
+/// Where an odd line stands among 1,300 plain ones, which threads read in three pieces, or in two where there is one
+/// processor: at the ends, and about where one piece ends and another begins.
+const PLACES: [usize; 15] = [
+    0, 1, 432, 433, 434, 435, 650, 651, 652, 866, 867, 868, 869, 1298, 1299,
+];
 
 /// Whether both readers refuse an empty line at each of these places, with its number. Want of memory is a no.
 fn is_odd_refused_anywhere<R: Threads + Sync>(rt: &R, alloc: Global) -> bool {
