@@ -1,5 +1,5 @@
 -- When a dispatch gets the history of a journal, and why it doesn't. Histories stand oldest first.
--- Public clauses cite this, but for `IsRefusedAt`, which serves a private one.
+-- Public clauses cite this.
 use Rattle.std.specs.Prelude.{◌≡◌, ℕ, List, ◌++◌, reverse, Result, MatchResult, codes}
 use Rattle.std.specs.Fmt.{decimal}
 use Rattle.nd_history.specs.declared.entry.Entry.{Entry}
@@ -7,10 +7,7 @@ use Rattle.nd_history.specs.declared.rule.Rule.{Rule}
 use Rattle.nd_history.specs.Audit.{rule_name}
 use Rattle.nd_history.specs.Premises.{Premises}
 use Rattle.nd_history.specs.Legal.{IsLegal}
-use Rattle.nd_ledger.specs.Admitting.{IsAdmitRefused}
-use Rattle.nd_ledger.specs.declared.refusal.AdmitError.{AdmitError}
-use Rattle.nd_report.specs.Audits.{IsFirstIllegal, answer_at}
-use Rattle.nd_report.specs.declared.audit_error.AuditError.{AuditError}
+use Rattle.nd_report.specs.Audits.{IsFirstIllegal}
 use Rattle.nd_journal.specs.JournalTexts.{IsReadAs, IsJournalRefused}
 use Rattle.nd_journal.specs.declared.journal.JournalError.TheVariants.{BadLine as BadJournalLine}
 use Rattle.nd_serve_command.specs.declared.resume_error.ResumeError.{ResumeError}
@@ -32,12 +29,6 @@ abbrev pub IsResumeRefused : Premises → List ℕ → ResumeError → Type 0
 IsResumeRefused i bytes (BadLine number) = IsJournalRefused bytes (BadJournalLine number)
 IsResumeRefused i bytes (Illegal index rule) = IsIllegalJournal i bytes index rule
 IsResumeRefused i bytes Memory = Unit {0}
-
--- an audit's answer about the entry at this place, which isn't admitted behind these, newest first
-pub record IsRefusedAt (i : Premises) (past : List Entry) (e : Entry) (index : ℕ) (answer : AuditError) : Type 0 where
-  pub fault : AdmitError
-  pub refused : IsAdmitRefused i past e fault
-  pub is : answer ≡ answer_at index fault
 
 -- the dispatch has these entries, unless memory ran out
 abbrev pub ResumesUnlessMemory : Result ℕ ResumeError → List Entry → List Entry → Type 0
