@@ -1,6 +1,6 @@
 -- What a worker notes: receipts, and beside each a copy of its entry. No clause of `run` cites these definitions: those of
 -- the functions between a worker's notes and the comparison with the history do. This project's own choice.
-use Rattle.std.specs.Prelude.{◌≡◌, ℕ, ◌+◌, ◌==◌, ◌≤◌, List, [], ◌∷◌, ◌++◌, ◌⊎◌, Bool, true, false, slice_get, take, reverse, Some, Vec}
+use Rattle.std.specs.Prelude.{◌≡◌, ℕ, ◌+◌, ◌==◌, ◌<◌, ◌≤◌, List, [], ◌∷◌, ◌++◌, ◌⊎◌, Bool, true, false, length, slice_get, take, reverse, Option, Some, None, Vec}
 use Rattle.std.specs.List.{AllZip}
 use Rattle.nd_history.specs.declared.entry.Entry.{Entry}
 use Rattle.nd_history.specs.declared.entry.Entry.TheVariants.{Chosen, NoBuilder, Started, Down, Built, Failed, Stop, Drain, Enable}
@@ -202,3 +202,18 @@ pub record AreRowsNotedBy {A B : Type 0} (these : ℕ → Bool) (history : List 
 
 abbrev pub AreRowsNoted : {A B : Type 0} → ℕ → List Entry → List (Vec Receipt A) → List (Vec Entry B) → Type 0
 AreRowsNoted opened history rows copies = AreRowsNotedBy (λ d. is_building d (reverse (take opened history))) history rows copies
+
+-- .. one row, beside the copies that stand there: both have to be there
+abbrev pub IsRowNotedBy : {A B : Type 0} → (ℕ → Bool) → List Entry → Option (Vec Receipt A) → Option (Vec Entry B) → Type 0
+IsRowNotedBy these history (Some row) (Some beside) = AllZip (IsNotedBy these history) row.items beside.items
+IsRowNotedBy these history (Some row) None = ⊥
+IsRowNotedBy these history None (Some beside) = ⊥
+IsRowNotedBy these history None None = ⊥
+
+-- .. the row at this place
+abbrev pub IsRowNotedAt : {A B : Type 0} → (ℕ → Bool) → List Entry → List (Vec Receipt A) → List (Vec Entry B) → ℕ → Type 0
+IsRowNotedAt these history rows copies place = IsRowNotedBy these history (slice_get rows place) (slice_get copies place)
+
+-- .. the row at each place; there may be more copies
+pub record AreNotedByPlace {A B : Type 0} (these : ℕ → Bool) (history : List Entry) (rows : List (Vec Receipt A)) (copies : List (Vec Entry B)) : Type 0 where
+  pub each : (place : ℕ) → place < length rows → IsRowNotedAt these history rows copies place
