@@ -1,5 +1,5 @@
 //! The worked examples of runs: leases that workers serve through stand-ins and agents, each in a thread of
-//! its own; and what one stand-in answers.
+//! its own; what one stand-in answers; and receipts that are compared by one thread and by many.
 #![tactic(auto)]
 
 #[cfg(test)]

@@ -4,5 +4,6 @@ mod agents;
 mod meeting;
 mod parks;
 mod punishing;
+mod rows;
 mod runs;
 mod stand_ins;
