@@ -8,7 +8,7 @@ use nd_commands::{audit_engine, sim_engine};
 use nd_devices::Told;
 use nd_keeping::NoJournal;
 use nd_ledger::Dispatch;
-use nd_run_command::{RunInputs, run_engine, run_inputs, stand_ins};
+use nd_run_command::{RunInputs, run_alone_engine, run_inputs, stand_ins};
 use nd_serve_command::{Devices, Opened, open_session, serve_engine};
 use nd_transports::StandIn;
 use nd_workers::Seat;
@@ -96,7 +96,7 @@ fn run_seated<R: Threads + Wait + Sync>(
     requires manned { AreManned dispatch.inputs (map (λ w. w.place) seats.items) }
 {
     let mut output = Told::new(Vec::new(alloc));
-    match run_engine(rt, dispatch, seats, true, &mut output) {
+    match run_alone_engine(rt, dispatch, seats, true, &mut output) {
         Ok(_) => Some(output.into_inner()),
         Err(_) => None,
     }

@@ -8,6 +8,6 @@ mod given;
 mod seating;
 
 pub use ending::{refusal, write_end};
-pub use engine::run_engine;
+pub use engine::{run_alone_engine, run_engine};
 pub use given::{RunInputs, run_inputs};
 pub use seating::{places, stand_ins};

@@ -2,6 +2,7 @@
 //! entries, and with the lock free they call a transport, or make lines durable.
 #![tactic(auto)]
 
+mod alone;
 mod bells;
 mod calling;
 mod floor;
@@ -10,6 +11,7 @@ mod leasing;
 mod scribing;
 mod working;
 
+pub use alone::Post;
 pub use bells::Bells;
 pub use calling::Guarded;
 pub use floor::{Floor, Shared};

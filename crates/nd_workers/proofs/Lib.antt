@@ -1,4 +1,5 @@
 pub mod Compared
+pub mod Crews
 pub mod Faulted
 pub mod Manned
 pub mod Stints

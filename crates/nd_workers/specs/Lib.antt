@@ -1,4 +1,5 @@
 pub mod AtWork
+pub mod Crews
 pub mod Faults
 pub mod Runs
 pub mod Served

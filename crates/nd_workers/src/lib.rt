@@ -2,6 +2,8 @@
 //! its own, and what comes back of them.
 #![tactic(auto)]
 
+mod alone;
+mod crew;
 mod faults;
 mod manning;
 mod preparing;
@@ -12,6 +14,7 @@ mod settling;
 mod threads;
 mod writing;
 
+pub use alone::run_alone;
 pub use run_end::{Evidence, NotRun, NotWritten, Ran, RunError, RunFault, Written};
 pub use running::{MOST_SLOTS, run};
 pub use seat::Seat;

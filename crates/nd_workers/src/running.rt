@@ -9,6 +9,7 @@ ghost use Rattle.nd_receipts.specs.Judged.{AreMisreports};
 ghost use Rattle.nd_receipts.specs.Dealt.{AreApart};
 ghost use Rattle.nd_receipts.specs.Standing.{IsIdle};
 ghost use Rattle.nd_receipts.specs.Walks.{AreUnknown};
+ghost use Rattle.nd_workers.specs.Crews.{crew_room, crew_size};
 ghost use Rattle.nd_workers.specs.Faults.{IsFaultFrom, IsFaultOf, AreAllWrong};
 ghost use Rattle.nd_workers.specs.Runs.{AreManned, IsRunRefused, Agrees, IsOver, AreServed, AreReceiptedSince, since};
 ghost use Rattle.nd_workers.specs.Served.{places_served, HaveServed, is_refused, receipts_in};
@@ -16,14 +17,15 @@ ghost use Rattle.nd_run_desk.specs.Leaves.{IsFrontOf};
 ghost use Rattle.nd_run_desk.specs.Steps.{RunsOn, StopsAreTold};
 ghost use Rattle.nd_run_desk.specs.Written.{IsWritten, IsWrittenWhole};
 
+use crate::crew::{Crew, Staff, serve_by};
 use crate::preparing::{Posts, prepare};
 use crate::run_end::{NotRun, NotWritten, Ran, RunError, RunFault, Written};
 use crate::seat::Seat;
 use crate::settling::{Back, Plan, Served, make_back, settle};
-use crate::threads::{Ended, Joined, Ready, Running, Stint, in_scope};
+use crate::threads::{Ended, Joined, Stint};
 use nd_keeping::{Journal, NoJournal, Scribe};
 use nd_ledger::Dispatch;
-use nd_receipts::count_made;
+use nd_receipts::{ParkPlace, count_made};
 use nd_run_desk::{Closed, Desk, Opened, Writing};
 use nd_transports::Transport;
 use nd_work::Shared;
@@ -39,16 +41,20 @@ pub const MOST_SLOTS: usize = 1024;
 /// Room for what comes back of a run.
 #[derive(Drop)]
 struct Room<L: Opened, T: Transport> {
-    running: Vec<Running<L, T>>,
+    crew: Crew<L, T>,
     stints: Vec<Stint<T>>,
     back: Back<T>,
-    ghost no_threads: { vec_len running ≡ 0 },
+    ghost no_crew: { crew_size crew ≡ 0 },
     ghost no_stints: { vec_len stints ≡ 0 },
 }
 
-/// Room for so many workers.
-fn make_room<L: Opened, T: Transport>(alloc: Global, count: usize) -> Result<Room<L, T>, AllocError>
-    ensures running { IfOk result (λ r. count ≤ vec_capacity r.running) }
+/// Room for so many workers, whom the calling thread serves where they have to do with it `alone`.
+fn make_room<L: Opened, T: Transport>(
+    alloc: Global,
+    count: usize,
+    alone: bool,
+) -> Result<Room<L, T>, AllocError>
+    ensures crew { IfOk result (λ r. count ≤ crew_room r.crew) }
     ensures stints { IfOk result (λ r. count ≤ vec_capacity r.stints) }
     ensures workers { IfOk result (λ r. count ≤ vec_capacity r.back.workers) }
     ensures receipts { IfOk result (λ r. count ≤ vec_capacity r.back.receipts) }
@@ -62,12 +68,8 @@ fn make_room<L: Opened, T: Transport>(alloc: Global, count: usize) -> Result<Roo
             return Err(error);
         }
     };
-    match Vec::with_capacity(alloc, count) {
-        Ok(running) => Ok(Room {
-            running,
-            stints,
-            back,
-        }),
+    match Crew::with_capacity(alloc, count, alone) {
+        Ok(crew) => Ok(Room { crew, stints, back }),
         Err(error) => {
             drop(back);
             drop(stints);
@@ -125,7 +127,8 @@ fn serve_leases<
     dispatch: Dispatch,
     seats: Vec<Seat<T>>,
     posts: Posts,
-    running: Vec<Running<L, T>>,
+    places: &[ParkPlace],
+    crew: Crew<L, T>,
     stints: Vec<Stint<T>>,
     blank: Blank,
     paper: Paper<J>,
@@ -138,8 +141,9 @@ fn serve_leases<
     requires keeps { paper.keeps ≡ L.keeping.keeps }
     requires handed { IsFrontOf paper.scribe.handed.entries dispatch.history }
     requires durable { IsFrontOf paper.scribe.kept.entries dispatch.history }
-    requires no_threads { vec_len running ≡ 0 }
-    requires running_room { vec_len seats ≤ vec_capacity running }
+    requires placed { length places.now ≡ vec_len seats }
+    requires no_crew { crew_size crew ≡ 0 }
+    requires crew_room { vec_len seats ≤ crew_room crew }
     requires no_stints { vec_len stints ≡ 0 }
     requires stints_room { vec_len seats ≤ vec_capacity stints }
     ensures runs { RunsOn dispatch result.served.dispatch }
@@ -157,13 +161,20 @@ fn serve_leases<
     let mut desk = Desk::open(alloc, dispatch, manned, book, &scribe);
     desk.begin(seats.len());
     let shared = Shared::new(desk, bells, keeps, scribe.kept());
-    let ready = Ready {
+    let staff = Staff {
         seats,
         rest,
-        running,
         stints,
     };
-    let Joined { ended, writing } = in_scope(rt, alloc, &shared, ready, Writing::new(scribe));
+    let Joined { ended, writing } = serve_by(
+        rt,
+        alloc,
+        &shared,
+        places,
+        crew,
+        staff,
+        Writing::new(scribe),
+    );
     let Ended { all, stints } = ended;
     let closed = shared.into_desk().close(all, keeps, &writing);
     let Writing { scribe, .. } = writing;
@@ -208,7 +219,8 @@ fn run_in<
     requires durable { IsFrontOf paper.scribe.kept.entries dispatch.history }
     requires opened { plan.opened ≡ length dispatch.history }
     requires choices { AreUnknown (length plan.places.items) plan.tables.choices.items }
-    requires running { vec_len seats ≤ vec_capacity room.running }
+    requires placed { length plan.places.items ≡ vec_len seats }
+    requires crew { vec_len seats ≤ crew_room room.crew }
     requires stints { vec_len seats ≤ vec_capacity room.stints }
     requires workers { vec_len seats ≤ vec_capacity room.back.workers }
     requires receipts { vec_len seats ≤ vec_capacity room.back.receipts }
@@ -230,16 +242,13 @@ fn run_in<
     ensures misreports { AreMisreports result.run.dispatch.inputs result.run.dispatch.history result.run.evidence.misreports }
     ensures fault { IsFaultOf dispatch result.run.dispatch plan.places.items result.run.receipts.items result.run.evidence result.run.fault }
 {
-    let Room {
-        running,
-        stints,
-        back,
-    } = room;
+    let Room { crew, stints, back } = room;
+    let places = plan.places.as_slice();
     let brought = serve_leases(
-        rt, alloc, dispatch, seats, posts, running, stints, blank, paper,
+        rt, alloc, dispatch, seats, posts, places, crew, stints, blank, paper,
     );
     let Brought { served, scribe } = brought;
-    let run = settle(served, plan, back);
+    let run = settle(rt, served, plan, back);
     Written { run, scribe }
 }
 
@@ -258,6 +267,7 @@ fn run_named<
     plan: Plan,
     blank: Blank,
     paper: Paper<J>,
+    alone: bool,
 ) -> Result<Written<T, J>, NotWritten<T, J>>
     requires name { blank.name ≡ L.name }
     requires parts { blank.parts ≡ L.parts }
@@ -269,6 +279,7 @@ fn run_named<
     requires durable { IsFrontOf paper.scribe.kept.entries dispatch.history }
     requires opened { plan.opened ≡ length dispatch.history }
     requires choices { AreUnknown (length plan.places.items) plan.tables.choices.items }
+    requires placed { length plan.places.items ≡ vec_len seats }
     requires sized { length plan.tables.choices.items ≡ drvs_in dispatch.inputs }
     ensures why { IfErr result (λ r. r.run.why ≡ RunError.Memory) }
     ensures dispatch { IfErr result (λ r. r.run.dispatch ≡ dispatch) }
@@ -290,7 +301,7 @@ fn run_named<
     ensures misreports { IfOk result (λ e. AreMisreports e.run.dispatch.inputs e.run.dispatch.history e.run.evidence.misreports) }
     ensures fault { IfOk result (λ e. IsFaultOf dispatch e.run.dispatch plan.places.items e.run.receipts.items e.run.evidence e.run.fault) }
 {
-    let Ok(room) = make_room::<L, T>(alloc, seats.len()) else {
+    let Ok(room) = make_room::<L, T>(alloc, seats.len(), alone) else {
         drop(posts);
         drop(plan);
         drop(blank);
@@ -300,13 +311,15 @@ fn run_named<
     Ok(run_in(rt, alloc, dispatch, seats, posts, plan, room, blank, paper))
 }
 
-/// As [`run`], where a run that `keeps` its history does so by the scribe.
+/// As [`run`], where a run that `keeps` its history does so by the scribe; or where the calling thread is `alone` as
+/// [`run_alone`](crate::run_alone).
 pub(crate) fn run_by<T: Transport, J: Journal + Send + Drop, R: Threads + Wait + Sync>(
     rt: &R,
     dispatch: Dispatch,
     workers: Vec<Seat<T>>,
     scribe: Scribe<J>,
     keeps: bool,
+    alone: bool,
 ) -> Result<Written<T, J>, NotWritten<T, J>>
     requires handed { IsFrontOf scribe.handed.entries dispatch.history }
     requires durable { IsFrontOf scribe.kept.entries dispatch.history }
@@ -338,7 +351,9 @@ pub(crate) fn run_by<T: Transport, J: Journal + Send + Drop, R: Threads + Wait +
             let (posts, plan) = prepared;
             let blank = Blank::new(workers.len() as u64 + 1);
             let paper = Paper { scribe, keeps };
-            run_named::<Brand, T, J, R>(rt, alloc, dispatch, workers, posts, plan, blank, paper)
+            run_named::<Brand, T, J, R>(
+                rt, alloc, dispatch, workers, posts, plan, blank, paper, alone,
+            )
         }
         Err(why) => refused(why, dispatch, workers, scribe),
     }
@@ -391,7 +406,7 @@ pub fn run<T: Transport, R: Threads + Wait + Sync>(
     ensures fault { IfOk result (λ e. IsFaultOf dispatch e.dispatch (places_served workers.items) e.receipts.items e.evidence e.fault) }
 {
     let scribe = Scribe::fresh(*workers.allocator(), NoJournal);
-    match run_by(rt, dispatch, workers, scribe, false) {
+    match run_by(rt, dispatch, workers, scribe, false, false) {
         Ok(Written { run, scribe }) => {
             drop(scribe);
             Ok(run)

@@ -32,6 +32,7 @@ pub(crate) fn run_stand_ins<
             opened,
             seats,
             journal,
+            true,
             options.get_flag("report"),
         ),
         Err(fault) => {

@@ -2,3 +2,6 @@ use Rattle.nd_workers.proofs.running.run.Goals as goal
 
 pub returns-in-Ok-clause-receipted : goal.returns-in-Ok-clause-receipted
 returns-in-Ok-clause-receipted g c = c.in-Ok.ensures.receipted
+
+pub returns-in-Ok-clause-calls : goal.returns-in-Ok-clause-calls
+returns-in-Ok-clause-calls g c = c.in-Ok.ensures.calls
