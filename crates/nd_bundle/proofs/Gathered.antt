@@ -1,5 +1,5 @@
 -- The lines' inputs by number, put together.
-use Rattle.std.proofs.Common.{◌≡◌, ℕ, ◌+◌, ◌<◌, ◌≤◌, List, [], ◌∷◌, ◌++◌, true≢false, length, take, take_all, get_or, map, Contains, Option, None, Some, Result, Ok, Err, refl, sym, ap, ◌∙◌, subst, inl, inr, arith}
+use Rattle.std.proofs.Common.{◌≡◌, ℕ, ◌+◌, ◌<◌, ◌≤◌, List, [], ◌∷◌, ◌++◌, true≢false, length, take, get_or, map, Contains, Option, None, Some, Result, Ok, Err, refl, sym, ap, ◌∙◌, subst, inl, inr, arith}
 use Rattle.std.specs.Prelude.{is_none}
 use Rattle.std.specs.List.{AllZip}
 use Rattle.std.specs.Option.{unwrap_or}
@@ -17,7 +17,7 @@ use Rattle.nd_bundle.specs.declared.fault.GraphError.TheVariants as bundle
 use Rattle.nd_line.specs.declared.line.NamedInput.{NamedInput}
 use Rattle.nd_bundle.specs.declared.link_error.LinkError.{LinkError}
 use Rattle.nd_bundle.specs.declared.link_error.LinkError.TheVariants.{NoInput, NoOutput, Memory}
-use Rattle.nd_bundle.proofs.Linked.{taken, is_item, numbered_reach, output_missing, rows_reach}
+use Rattle.nd_bundle.proofs.Linked.{is_item, numbered_reach, output_missing, rows_reach}
 use Rattle.nd_bundle.proofs.Zipped.{zip_at, zip_length, zip_push}
 
 -- what inputs are looked up in

@@ -8,6 +8,7 @@ pub mod OneBundle
 pub mod OneDrvPath
 pub mod Pieced
 pub mod Placed
+pub mod Pooled
 pub mod Taken
 pub mod Told
 pub mod Zipped

@@ -1,5 +1,5 @@
 -- Cutting a text into its lines, and into pieces of whole lines.
-use Rattle.std.proofs.Common.{◌≡◌, ℕ, ◌==◌, ◌<◌, ◌+◌, ◌-◌, List, [], ◌∷◌, ◌++◌, length, take, drop, take-append-drop, Bool, true, false, true≢false, if◌then◌else◌, Option, Some, None, map, inl, inr, refl, ap, sym, ◌∙◌, arith, append_assoc, Bor}
+use Rattle.std.proofs.Common.{◌≡◌, ℕ, ◌==◌, ◌<◌, ◌+◌, ◌-◌, List, [], ◌∷◌, ◌++◌, length, take, drop, take-append-drop, Bool, true, false, true≢false, if◌then◌else◌, Option, Some, map, inl, inr, refl, ap, sym, ◌∙◌, arith, append_assoc, Bor}
 use Rattle.std.proofs.lemmas.List.{append-nil, map-append, length-append}
 use Rattle.std.proofs.Math.Seq.{drop-append_seam, take-append_seam}
 use Rattle.std.proofs.lemmas.List.Splits.{length-slice_split, slice_split-cons_no, slice_split-cons_yes}

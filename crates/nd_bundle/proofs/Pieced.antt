@@ -1,5 +1,5 @@
 -- What was read of the pieces of a bundle, put together.
-use Rattle.std.proofs.Common.{◌≡◌, ℕ, ◌+◌, ◌<◌, ◌≤◌, Bool, List, [], ◌∷◌, ◌++◌, length, get_or, drop, take, take_all, take-append-drop, map, Option, Some, None, Result, Ok, Err, refl, sym, ap, ◌∙◌, subst, append_assoc, Bor}
+use Rattle.std.proofs.Common.{◌≡◌, ℕ, ◌+◌, ◌<◌, ◌≤◌, Bool, List, [], ◌∷◌, ◌++◌, length, get_or, drop, take, take_all, take-append-drop, map, Some, None, Result, Ok, refl, sym, ap, ◌∙◌, subst, append_assoc, Bor}
 use Rattle.std.proofs.lemmas.List.{append-nil, map-append, take_more}
 use Rattle.std.specs.List.{AllZip}
 use Rattle.std.specs.declared.alloc.AllocError.{AllocError}
@@ -10,7 +10,7 @@ use Rattle.nd_bundle.specs.Bundles.{IsFirstFault}
 use Rattle.nd_bundle.specs.Columned.{HasColumns, SayColumns}
 use Rattle.nd_bundle.specs.Lines.{lines, lines_in}
 use Rattle.nd_bundle.specs.Numbered.{fault_at}
-use Rattle.nd_bundle.specs.Pieces.{AreJoined, IsAppended, IsJoinFault, IsPieceFault, IsReadPiece, IsReadText, IsReadTo, IsReadUpTo, Joins}
+use Rattle.nd_bundle.specs.Pieces.{AreJoined, IsAppended, IsJoinFault, IsPieceFault, IsReadText, IsReadUpTo, Joins}
 use Rattle.nd_bundle.specs.declared.columns.Columns.{Columns}
 use Rattle.nd_bundle.specs.declared.fault.GraphError.{GraphError}
 use Rattle.nd_bundle.specs.declared.fault.GraphError.TheVariants as bundle

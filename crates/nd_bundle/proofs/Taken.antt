@@ -1,7 +1,6 @@
 -- The nodes of lines, put in columns.
 use Rattle.std.proofs.Common.{◌≡◌, ℕ, Bool, List, [], ◌∷◌, ◌++◌, length, map, sym, ap, ◌∙◌}
 use Rattle.std.proofs.lemmas.List.{length-map, map-append}
-use Rattle.std.specs.List.{AllZip}
 use Rattle.nd_bundle.specs.Columned.{HasColumns, SayColumns}
 use Rattle.nd_bundle.specs.Pieces.{IsAppended}
 use Rattle.nd_line.specs.Reads.{IsLine}

@@ -1,5 +1,5 @@
 -- From what was read of each line to the bundle.
-use Rattle.std.proofs.Common.{◌≡◌, ℕ, ◌+◌, Bool, List, [], ◌∷◌, ◌++◌, length, get_or, map, Result, Ok, Err, IfOk, refl, sym, ap, ◌∙◌, subst, arith, append_assoc}
+use Rattle.std.proofs.Common.{◌≡◌, ℕ, Bool, List, [], length, get_or, Result, Ok, Err, IfOk, sym, ap, ◌∙◌, subst, arith}
 use Rattle.std.specs.List.{AllZip}
 use Rattle.std.proofs.lemmas.List.{length-map}
 use Rattle.nd_aterm.specs.declared.records.Output.{Output}
@@ -9,7 +9,7 @@ use Rattle.nd_graph.specs.Walks.{IsAcyclic}
 use Rattle.nd_bundle.specs.declared.columns.Columns.{Columns}
 use Rattle.nd_bundle.specs.Lines.{lines}
 use Rattle.nd_bundle.specs.Numbered.{fault_at}
-use Rattle.nd_line.specs.Reads.{IsFaulty, IsLine, Reads}
+use Rattle.nd_line.specs.Reads.{IsLine}
 use Rattle.nd_bundle.specs.Columned.{HasColumns, SayColumns}
 use Rattle.nd_bundle.specs.Settled.{links_in, AllNamesRise, AreFit, ArePaired, AreSized, IsFit, IsGraphOfColumns}
 use Rattle.nd_bundle.specs.Whole.{links_of, AllNumbered, IsGraphOf, IsWholeFault, Links}
@@ -21,7 +21,6 @@ use Rattle.nd_line.specs.declared.refusal.LineError.TheVariants.{BadLine, BadPat
 use Rattle.nd_bundle.proofs.Assembled.{columns_paired, columns_rising, columns_sized}
 use Rattle.nd_line.proofs.Rising.{names_rise}
 use Rattle.nd_bundle.proofs.Zipped.{zip_at, zip_length}
-use Rattle.rayon.proofs.ListFacts.{AllZip-append}
 
 -- a line's node has as many output names as output paths, and its output names rise
 node_fit : (check : Bool) (line : List ℕ) (node : LineNode) → IsLine check line node → IsFit node

@@ -4,6 +4,7 @@ pub mod DrvPaths
 pub mod Lines
 pub mod Linking
 pub mod Names
+pub mod Naming
 pub mod Numbered
 pub mod Numbering
 pub mod OneBundle

@@ -11,6 +11,7 @@ use crate::columns::Columns;
 use crate::cutting::{cut_lines, cut_pieces};
 use crate::fault::GraphError;
 use crate::piece::Piece;
+use crate::pool::Pool;
 use nd_line::read_line;
 use rayon::current_num_threads;
 use rayon::prelude::*;
@@ -23,12 +24,12 @@ const LONG: usize = 65_536;
 /// What the lines of the text say, in order, or the refusal of the first that has one; read by this thread
 /// where the text hasn't enough for two, and else by many threads. With `check` each line's path has to be
 /// the text path of its derivation.
-pub(crate) fn read_lines_side_by_side<'t>(
+pub(crate) fn read_lines_side_by_side(
     rt: &(impl Threads + Sync),
     alloc: Global,
-    text: &'t [u8],
+    text: &[u8],
     check: bool,
-) -> Result<Columns<'t>, GraphError>
+) -> Result<Columns, GraphError>
     ensures ok { IfOk result (SayColumns check (lines text.now)) }
     ensures err { IfErr result (IsFirstFault check text.now) }
 {
@@ -40,11 +41,7 @@ pub(crate) fn read_lines_side_by_side<'t>(
 
 /// The same, read by this thread.
 #[tactic(auto, using(crate::proofs::Pieced::says_fault))]
-pub(crate) fn read_lines<'t>(
-    alloc: Global,
-    text: &'t [u8],
-    check: bool,
-) -> Result<Columns<'t>, GraphError>
+pub(crate) fn read_lines(alloc: Global, text: &[u8], check: bool) -> Result<Columns, GraphError>
     ensures ok { IfOk result (SayColumns check (lines text.now)) }
     ensures err { IfErr result (IsFirstFault check text.now) }
 {
@@ -57,14 +54,15 @@ pub(crate) fn read_lines<'t>(
 
 /// What the lines of a piece of a text say, up to the first that is refused.
 #[tactic(auto, using(crate::proofs::Taken::says_none, crate::proofs::Pieced::said_all))]
-fn read_piece<'t>(alloc: Global, text: &'t [u8], check: bool) -> Result<Piece<'t>, AllocError>
+fn read_piece(alloc: Global, text: &[u8], check: bool) -> Result<Piece, AllocError>
     ensures { IfOk result (λ piece. IsReadTo check (lines text.now) piece.columns piece.refused) }
 {
     let lines = cut_lines(alloc, text)?;
     let mut columns = Columns::with_capacity(alloc, lines.len())?;
+    let mut pool = Pool::new(alloc);
     for line in &lines {
         match read_line(alloc, line, check) {
-            Ok(node) => columns.push(node)?,
+            Ok(node) => columns.push(alloc, &mut pool, node)?,
             Err(fault) => {
                 return Ok(Piece {
                     columns,
@@ -80,12 +78,12 @@ fn read_piece<'t>(alloc: Global, text: &'t [u8], check: bool) -> Result<Piece<'t
 }
 
 /// The same as `read_lines`, in pieces that threads read, two for each processor and of about the same length.
-fn read_lines_in_parallel<'t>(
+fn read_lines_in_parallel(
     rt: &(impl Threads + Sync),
     alloc: Global,
-    text: &'t [u8],
+    text: &[u8],
     check: bool,
-) -> Result<Columns<'t>, GraphError>
+) -> Result<Columns, GraphError>
     ensures ok { IfOk result (SayColumns check (lines text.now)) }
     ensures err { IfErr result (IsFirstFault check text.now) }
 {
@@ -99,19 +97,19 @@ fn read_lines_in_parallel<'t>(
 }
 
 /// What the lines of each of these texts say, in order, each read by a thread of its own.
-fn read_each<'t>(
+fn read_each(
     rt: &(impl Threads + Sync),
     alloc: Global,
-    texts: &[&'t [u8]],
+    texts: &[&[u8]],
     check: bool,
-) -> Result<Vec<Result<Piece<'t>, AllocError>>, AllocError>
+) -> Result<Vec<Result<Piece, AllocError>>, AllocError>
     ensures { IfOk result (λ read. AllZip (IsReadText check) (map (λ text. text.now) texts.now) read.items) }
 {
     texts
         .par_iter()
         .with_min_len(1)
         .map(
-            |text: &&[u8]| -> Result<Piece<'_>, AllocError>
+            |text: &&[u8]| -> Result<Piece, AllocError>
                 ensures { IsReadText check text.now.now result }
             { read_piece(alloc, text, check) },
         )
@@ -120,12 +118,9 @@ fn read_each<'t>(
 
 /// What the lines of these pieces say, one piece after another, or the refusal of the first line that has one.
 #[tactic(auto, using(crate::proofs::Pieced::joined_none, crate::proofs::Pieced::fault_at_once))]
-fn join_pieces<'t>(
-    alloc: Global,
-    pieces: Vec<Result<Piece<'t>, AllocError>>,
-) -> Result<Columns<'t>, GraphError>
-    ensures ok { IfOk result (AreJoined pieces.entry.items) }
-    ensures err { IfErr result (IsJoinFault pieces.entry.items) }
+fn join_pieces(alloc: Global, pieces: Vec<Result<Piece, AllocError>>) -> Result<Columns, GraphError>
+    ensures ok { IfOk result (AreJoined pieces.items) }
+    ensures err { IfErr result (IsJoinFault pieces.items) }
 {
     let mut columns = Columns::with_capacity(alloc, count_nodes(pieces.as_slice()))?;
     for piece in pieces {
@@ -137,12 +132,9 @@ fn join_pieces<'t>(
 /// Adds what the lines of a piece say, or answers the refusal that it has, with the line's number: so many nodes
 /// were said before, and one.
 #[tactic(auto, using(crate::proofs::Pieced::joins, crate::proofs::Pieced::fault_behind, crate::proofs::Pieced::fault_of_memory))]
-fn join_piece<'t>(
-    columns: &mut Columns<'t>,
-    piece: Result<Piece<'t>, AllocError>,
-) -> Result<(), GraphError>
-    ensures ok { OnOk result (Joins columns.old piece.entry columns.new) }
-    ensures err { IfErr result (IsPieceFault columns.old piece.entry) }
+fn join_piece(columns: &mut Columns, piece: Result<Piece, AllocError>) -> Result<(), GraphError>
+    ensures ok { OnOk result (Joins columns.old piece columns.new) }
+    ensures err { IfErr result (IsPieceFault columns.old piece) }
 {
     let Piece {
         columns: more,
@@ -157,7 +149,7 @@ fn join_piece<'t>(
 }
 
 /// How many nodes the pieces have.
-fn count_nodes(pieces: &[Result<Piece<'_>, AllocError>]) -> usize {
+fn count_nodes(pieces: &[Result<Piece, AllocError>]) -> usize {
     let mut count = 0usize;
     for read in pieces {
         if let Ok(piece) = read {

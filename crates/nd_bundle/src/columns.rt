@@ -5,27 +5,29 @@ ghost use Rattle.nd_bundle.specs.Columned.{HasColumns};
 ghost use Rattle.nd_bundle.specs.Pieces.{IsAppended};
 ghost use Rattle.nd_line.specs.declared.line.LineNode.{LineNode};
 
-use nd_aterm::Leaf;
+use crate::names::Names;
+use crate::pool::Pool;
+use crate::want::Want;
 use nd_bytes::Items;
 use nd_eligible::Need;
-use nd_line::{InputView, LineView};
+use nd_line::LineView;
 use nd_path::StorePath;
 use std::alloc::{AllocError, Global};
 
 /// The parts of a bundle's nodes, as lists with one item per node.
 #[derive(Drop)]
-pub(crate) struct Columns<'t> {
+pub(crate) struct Columns {
     pub paths: Vec<StorePath>,
     pub needs: Vec<Need>,
-    pub wants: Vec<Items<InputView<'t>>>,
+    pub wants: Vec<Items<Want>>,
     pub sources: Vec<Items<StorePath>>,
-    pub names: Vec<Items<Leaf<'t>>>,
+    pub names: Vec<Names>,
     pub outputs: Vec<Items<StorePath>>,
 }
 
-impl<'t> Columns<'t> {
+impl Columns {
     /// No node, and room for so many.
-    pub(crate) fn with_capacity(alloc: Global, count: usize) -> Result<Columns<'t>, AllocError>
+    pub(crate) fn with_capacity(alloc: Global, count: usize) -> Result<Columns, AllocError>
         ensures { IfOk result (HasColumns []) }
     {
         let paths = Vec::with_capacity(alloc, count)?;
@@ -44,9 +46,15 @@ impl<'t> Columns<'t> {
         })
     }
 
-    /// Adds the parts of a node. Where memory is refused some of them may have been added.
+    /// Adds the parts of a node, which share what the pool has. Where memory is refused some of them may have
+    /// been added.
     #[tactic(auto, using(crate::proofs::Taken::pushed))]
-    pub(crate) fn push(&mut self, node: LineView<'t>) -> Result<(), AllocError>
+    pub(crate) fn push(
+        &mut self,
+        alloc: Global,
+        pool: &mut Pool,
+        node: LineView<'_>,
+    ) -> Result<(), AllocError>
         ensures { OnOk result ((nodes : List LineNode) → HasColumns nodes self.old → HasColumns (nodes ++ node.entry ∷ []) self.new) }
     {
         let LineView {
@@ -57,19 +65,21 @@ impl<'t> Columns<'t> {
             output_names,
             outputs,
         } = node;
+        let wants = pool.wants(alloc, inputs.as_slice())?;
+        let names = pool.names(alloc, output_names.as_slice())?;
         self.paths.push(path)?;
         self.needs.push(need)?;
-        self.wants.push(inputs)?;
+        self.wants.push(wants)?;
         self.sources.push(sources)?;
-        self.names.push(output_names)?;
+        self.names.push(names)?;
         self.outputs.push(outputs)?;
         Ok(())
     }
 
     /// Adds the parts of other nodes behind these. Where memory is refused some of them may have been added.
     #[tactic(auto, using(crate::proofs::Taken::appended))]
-    pub(crate) fn append(&mut self, others: Columns<'t>) -> Result<(), AllocError>
-        ensures { OnOk result (IsAppended self.old others.entry self.new) }
+    pub(crate) fn append(&mut self, others: Columns) -> Result<(), AllocError>
+        ensures { OnOk result (IsAppended self.old others self.new) }
     {
         let Columns {
             paths,

@@ -11,12 +11,16 @@ pub mod laws;
 mod link_error;
 mod linking;
 mod missing;
+mod name;
+mod names;
 mod number;
 mod path_bytes;
 mod piece;
 pub mod plain;
+mod pool;
 mod register;
 mod resolve;
+mod want;
 mod whole;
 
 pub use bundle::read_bundle;

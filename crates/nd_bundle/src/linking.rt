@@ -7,13 +7,13 @@ ghost use Rattle.nd_bundle.specs.Settled.{AllNamesRise, IsLinkFault, IsResolved}
 use crate::fault::GraphError;
 use crate::link_error::LinkError;
 use crate::missing::check_inputs;
+use crate::names::Names;
 use crate::register::Register;
 use crate::resolve::link_line;
+use crate::want::Want;
 use indexmap::IndexSet;
-use nd_aterm::Leaf;
 use nd_bytes::Items;
 use nd_graph::Input;
-use nd_line::InputView;
 use nd_path::StorePath;
 use rayon::prelude::*;
 use std::alloc::{AllocError, Global};
@@ -23,16 +23,16 @@ use std::thread::Threads;
 ///
 /// Refuses with `MissingInput` and the first line with an input derivation that has no line, else with
 /// `MissingOutput` and the first line that names an output that there isn't, and with `Memory`.
-pub(crate) fn link<'t>(
+pub(crate) fn link(
     alloc: Global,
     paths: &IndexSet<StorePath>,
-    names: &[Items<Leaf<'t>>],
-    wants: Vec<Items<InputView<'t>>>,
+    names: &[Names],
+    wants: Vec<Items<Want>>,
 ) -> Result<Vec<Items<Input>>, GraphError>
     requires sized { length names.now ≡ length paths.now.keys }
     requires rising { AllNamesRise names.now }
-    ensures ok { IfOk result (λ inputs. IsResolved paths.now.keys names.now wants.entry.items inputs.items) }
-    ensures err { IfErr result (IsLinkFault paths.now.keys names.now wants.entry.items) }
+    ensures ok { IfOk result (λ inputs. IsResolved paths.now.keys names.now wants.items inputs.items) }
+    ensures err { IfErr result (IsLinkFault paths.now.keys names.now wants.items) }
 {
     let register = Register::new(paths, names);
     let rows = link_lines(alloc, &register, wants)?;
@@ -44,17 +44,17 @@ pub(crate) fn link<'t>(
 const MANY: usize = 131_072;
 
 /// The same; many inputs are linked by as many threads as there are processors.
-pub(crate) fn link_side_by_side<'t>(
+pub(crate) fn link_side_by_side(
     rt: &(impl Threads + Sync),
     alloc: Global,
     paths: &IndexSet<StorePath>,
-    names: &[Items<Leaf<'t>>],
-    wants: Vec<Items<InputView<'t>>>,
+    names: &[Names],
+    wants: Vec<Items<Want>>,
 ) -> Result<Vec<Items<Input>>, GraphError>
     requires sized { length names.now ≡ length paths.now.keys }
     requires rising { AllNamesRise names.now }
-    ensures ok { IfOk result (λ inputs. IsResolved paths.now.keys names.now wants.entry.items inputs.items) }
-    ensures err { IfErr result (IsLinkFault paths.now.keys names.now wants.entry.items) }
+    ensures ok { IfOk result (λ inputs. IsResolved paths.now.keys names.now wants.items inputs.items) }
+    ensures err { IfErr result (IsLinkFault paths.now.keys names.now wants.items) }
 {
     if count_inputs(wants.as_slice()) < MANY {
         return link(alloc, paths, names, wants);
@@ -65,7 +65,7 @@ pub(crate) fn link_side_by_side<'t>(
 }
 
 /// How many inputs the lines have.
-fn count_inputs(wants: &[Items<InputView<'_>>]) -> usize {
+fn count_inputs(wants: &[Items<Want>]) -> usize {
     let mut count = 0usize;
     for inputs in wants {
         count = count.saturating_add(inputs.len());
@@ -75,12 +75,12 @@ fn count_inputs(wants: &[Items<InputView<'_>>]) -> usize {
 
 /// The inputs of each line by number, or why they have none.
 #[tactic(auto, using(crate::proofs::Gathered::links_none, crate::proofs::Gathered::links_more))]
-fn link_lines<'t>(
+fn link_lines(
     alloc: Global,
-    register: &Register<'_, 't>,
-    wants: Vec<Items<InputView<'t>>>,
+    register: &Register<'_>,
+    wants: Vec<Items<Want>>,
 ) -> Result<Vec<Result<Items<Input>, LinkError>>, AllocError>
-    ensures { IfOk result (λ rows. AreLinks register.now wants.entry.items rows.items) }
+    ensures { IfOk result (λ rows. AreLinks register.now wants.items rows.items) }
 {
     let mut rows = Vec::with_capacity(alloc, wants.len())?;
     for inputs in wants {
@@ -90,19 +90,19 @@ fn link_lines<'t>(
 }
 
 /// The same, by as many threads as there are processors.
-fn link_lines_in_parallel<'t>(
+fn link_lines_in_parallel(
     rt: &(impl Threads + Sync),
     alloc: Global,
-    register: &Register<'_, 't>,
-    wants: Vec<Items<InputView<'t>>>,
+    register: &Register<'_>,
+    wants: Vec<Items<Want>>,
 ) -> Result<Vec<Result<Items<Input>, LinkError>>, AllocError>
-    ensures { IfOk result (λ rows. AreLinks register.now wants.entry.items rows.items) }
+    ensures { IfOk result (λ rows. AreLinks register.now wants.items rows.items) }
 {
     wants
         .into_par_iter()
         .map(
-            |inputs: Items<InputView<'_>>| -> Result<Items<Input>, LinkError>
-                ensures { IsLink register.entry.now inputs.entry result }
+            |inputs: Items<Want>| -> Result<Items<Input>, LinkError>
+                ensures { IsLink register.entry.now inputs result }
             { link_line(alloc, register, inputs.as_slice()) },
         )
         .collect(rt, alloc)

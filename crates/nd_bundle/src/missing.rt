@@ -7,9 +7,9 @@ ghost use Rattle.nd_bundle.specs.Whole.{HasInputs, LacksInput};
 use crate::fault::GraphError;
 use crate::link_error::LinkError;
 use crate::register::Register;
+use crate::want::Want;
 use nd_bytes::Items;
 use nd_graph::Input;
-use nd_line::InputView;
 
 /// Refuses with `MissingInput` and the first line, from 1, with an input derivation that has no line,
 /// and with `Memory` where memory was wanting on a line before it.
@@ -40,7 +40,7 @@ fn fault_of_inputs(row: &Result<Items<Input>, LinkError>) -> Option<LinkError>
 
 /// Whether each input derivation has a line.
 #[tactic(auto, using(crate::proofs::Linked::inputs_none, crate::proofs::Linked::inputs_more, crate::proofs::Linked::inputs_all, crate::proofs::Linked::input_lacking))]
-pub(crate) fn has_inputs(register: &Register<'_, '_>, wants: &[InputView<'_>]) -> bool
+pub(crate) fn has_inputs(register: &Register<'_>, wants: &[Want]) -> bool
     ensures { MatchBool result (HasInputs register.now.paths wants.now) (LacksInput register.now.paths wants.now) }
 {
     for want in wants {
@@ -53,7 +53,7 @@ pub(crate) fn has_inputs(register: &Register<'_, '_>, wants: &[InputView<'_>]) -
 
 /// Whether an input derivation has a line.
 #[tactic(auto, using(crate::proofs::Gathered::path_there, crate::proofs::Gathered::path_lacks))]
-fn is_there(register: &Register<'_, '_>, want: &InputView<'_>) -> bool
+fn is_there(register: &Register<'_>, want: &Want) -> bool
     ensures { MatchBool result (HasPath register.now want.now) (LacksPath register.now want.now) }
 {
     match register.find(want.path()) {

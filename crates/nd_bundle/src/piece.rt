@@ -6,7 +6,7 @@ use nd_line::LineError;
 /// What was read of a piece of a bundle: what its lines say, or those up to the first that is refused, and
 /// that refusal.
 #[derive(Drop)]
-pub(crate) struct Piece<'t> {
-    pub columns: Columns<'t>,
+pub(crate) struct Piece {
+    pub columns: Columns,
     pub refused: Option<LineError>,
 }

@@ -6,21 +6,21 @@ ghost use Rattle.nd_graph.specs.Graphs.{IsNumber};
 ghost use Rattle.nd_bundle.specs.Linking.{known_of};
 ghost use Rattle.nd_bundle.specs.Settled.{AllNamesRise, NamesRise};
 
+use crate::name::Name;
+use crate::names::Names;
 use crate::path_bytes::find_bytes;
 use indexmap::IndexSet;
-use nd_aterm::Leaf;
-use nd_bytes::Items;
 use nd_path::StorePath;
 use std::marker::Model;
 
 /// The nodes of a bundle by number: their paths, and the names of the outputs of each, which rise.
 #[derive(Drop)]
-pub(crate) struct Register<'n, 't> {
+pub(crate) struct Register<'n> {
     paths: &'n IndexSet<StorePath>,
-    names: &'n [Items<Leaf<'t>>],
+    names: &'n [Names],
 }
 
-impl<'n, 't> Model for Register<'n, 't> {
+impl<'n> Model for Register<'n> {
     ghost use Rattle.nd_bundle.specs.Linking.{known_of, IsKnown, Known};
 
     ghost Value = { Known };
@@ -30,12 +30,9 @@ impl<'n, 't> Model for Register<'n, 't> {
     ghost invariant = { λ r. IsKnown (known_of r.paths.now.keys r.names.now) };
 }
 
-impl<'n, 't> Register<'n, 't> {
+impl<'n> Register<'n> {
     /// The nodes with these paths and these output names.
-    pub(crate) fn new(
-        paths: &'n IndexSet<StorePath>,
-        names: &'n [Items<Leaf<'t>>],
-    ) -> Register<'n, 't>
+    pub(crate) fn new(paths: &'n IndexSet<StorePath>, names: &'n [Names]) -> Register<'n>
         requires sized { length names.now ≡ length paths.now.keys }
         requires rising { AllNamesRise names.now }
         ensures { result ≡ known_of paths.now.keys names.now }
@@ -51,7 +48,7 @@ impl<'n, 't> Register<'n, 't> {
     }
 
     /// The names of the outputs of a node, which rise.
-    pub(crate) fn names_of(&self, node: usize) -> &[Leaf<'t>]
+    pub(crate) fn names_of(&self, node: usize) -> &[Name]
         requires { node < length self.now.paths }
         ensures names { result.now ≡ slice_index_or self.now.names node [] }
         ensures rising { NamesRise result.now }
@@ -62,7 +59,7 @@ impl<'n, 't> Register<'n, 't> {
 
 /// The names at a place, which rise.
 #[tactic(auto, using(crate::proofs::Linked::names_rise_at))]
-fn row_of<'n, 't>(names: &'n [Items<Leaf<'t>>], node: usize) -> &'n [Leaf<'t>]
+fn row_of<'n>(names: &'n [Names], node: usize) -> &'n [Name]
     requires within { node < length names.now }
     requires rising { AllNamesRise names.now }
     ensures names { result.now ≡ slice_index_or names.now node [] }

@@ -9,18 +9,18 @@ ghost use Rattle.nd_bundle.specs.Whole.{AreNumbered, ArePlaces, IsNumbered};
 
 use crate::link_error::LinkError;
 use crate::missing::has_inputs;
+use crate::name::Name;
 use crate::register::Register;
-use nd_aterm::Leaf;
+use crate::want::Want;
 use nd_bytes::Items;
 use nd_graph::{Input, Places};
-use nd_line::InputView;
 use std::alloc::{AllocError, Global};
 
 /// The inputs of a line by number, or why they have none.
-pub(crate) fn link_line<'t>(
+pub(crate) fn link_line(
     alloc: Global,
-    register: &Register<'_, 't>,
-    wants: &[InputView<'t>],
+    register: &Register<'_>,
+    wants: &[Want],
 ) -> Result<Items<Input>, LinkError>
     ensures { IsLink register.now wants.now result }
 {
@@ -33,11 +33,7 @@ pub(crate) fn link_line<'t>(
 /// The first cause for which the inputs of a line have no numbers, of which one is known: an input
 /// derivation that has no line comes before an output that is missing.
 #[tactic(auto, using(crate::proofs::Gathered::output_alone))]
-fn first_fault<'t>(
-    register: &Register<'_, 't>,
-    wants: &[InputView<'t>],
-    fault: LinkError,
-) -> LinkError
+fn first_fault(register: &Register<'_>, wants: &[Want], fault: LinkError) -> LinkError
     requires { IsRowFault register.now wants.now fault }
     ensures { IsLineFault register.now wants.now result }
 {
@@ -55,10 +51,10 @@ fn first_fault<'t>(
 
 /// The inputs of a line by number, each looked up once.
 #[tactic(auto, using(crate::proofs::Linked::row_none, crate::proofs::Linked::row_more, crate::proofs::Linked::row_all, crate::proofs::Gathered::row_refused))]
-fn number_row<'t>(
+fn number_row(
     alloc: Global,
-    register: &Register<'_, 't>,
-    wants: &[InputView<'t>],
+    register: &Register<'_>,
+    wants: &[Want],
 ) -> Result<Items<Input>, LinkError>
     ensures ok { IfOk result (AreNumbered register.now.paths register.now.names wants.now) }
     ensures err { IfErr result (IsRowFault register.now wants.now) }
@@ -75,11 +71,7 @@ fn number_row<'t>(
 
 /// An input by number.
 #[tactic(auto, using(crate::proofs::Gathered::path_lacks, crate::proofs::Gathered::path_at))]
-fn number_input<'t>(
-    alloc: Global,
-    register: &Register<'_, 't>,
-    want: &InputView<'t>,
-) -> Result<Input, LinkError>
+fn number_input(alloc: Global, register: &Register<'_>, want: &Want) -> Result<Input, LinkError>
     ensures ok { IfOk result (IsNumbered register.now.paths register.now.names want.now) }
     ensures err { IfErr result (IsInputFault register.now want.now) }
 {
@@ -91,10 +83,10 @@ fn number_input<'t>(
 
 /// An input by number, whose node is known.
 #[tactic(auto, using(crate::proofs::Linked::input_lacks, crate::proofs::Linked::input_numbered))]
-fn number_outputs<'t>(
+fn number_outputs(
     alloc: Global,
-    register: &Register<'_, 't>,
-    want: &InputView<'t>,
+    register: &Register<'_>,
+    want: &Want,
     node: usize,
 ) -> Result<Input, LinkError>
     requires { IsAt register.now.paths want.now.path node }
@@ -110,11 +102,7 @@ fn number_outputs<'t>(
 /// The places of the wanted names in a rising list, or none where one is missing. Mostly one name is wanted,
 /// whose place takes no memory.
 #[tactic(auto, using(crate::proofs::Linked::only_wanted))]
-fn places_of<'t>(
-    alloc: Global,
-    names: &[Leaf<'t>],
-    wanted: &[Leaf<'t>],
-) -> Result<Option<Places>, AllocError>
+fn places_of(alloc: Global, names: &[Name], wanted: &[Name]) -> Result<Option<Places>, AllocError>
     requires { NamesRise names.now }
     ensures { IfOk result (λ r. MatchOption r (LacksItem names.now wanted.now) (λ places. ArePlaces names.now wanted.now places)) }
 {
@@ -126,7 +114,7 @@ fn places_of<'t>(
 
 /// The place of the one wanted name, or none where it is missing.
 #[tactic(auto, using(crate::proofs::Linked::only_at, crate::proofs::Linked::only_lacks))]
-fn only_place<'t>(names: &[Leaf<'t>], name: &Leaf<'t>) -> Option<Places>
+fn only_place(names: &[Name], name: &Name) -> Option<Places>
     requires { NamesRise names.now }
     ensures { MatchOption result (LacksItem names.now (name.now ∷ [])) (λ places. ArePlaces names.now (name.now ∷ []) places) }
 {
@@ -138,11 +126,7 @@ fn only_place<'t>(names: &[Leaf<'t>], name: &Leaf<'t>) -> Option<Places>
 
 /// The places of the wanted names, each found by a search of its own, or none where one is missing.
 #[tactic(auto, using(crate::proofs::Linked::places_none, crate::proofs::Linked::places_more, crate::proofs::Linked::places_all, crate::proofs::Linked::item_lacks))]
-fn list_places<'t>(
-    alloc: Global,
-    names: &[Leaf<'t>],
-    wanted: &[Leaf<'t>],
-) -> Result<Option<Places>, AllocError>
+fn list_places(alloc: Global, names: &[Name], wanted: &[Name]) -> Result<Option<Places>, AllocError>
     requires { NamesRise names.now }
     ensures { IfOk result (λ r. MatchOption r (LacksItem names.now wanted.now) (λ places. ArePlaces names.now wanted.now places)) }
 {
@@ -157,7 +141,7 @@ fn list_places<'t>(
 }
 
 /// The place of a name in a rising list, found by a binary search.
-fn place_of<'t>(names: &[Leaf<'t>], name: &Leaf<'t>) -> Option<usize>
+fn place_of(names: &[Name], name: &Name) -> Option<usize>
     requires { NamesRise names.now }
     ensures { IsNumber names.now name.now result }
 {

@@ -20,14 +20,14 @@ use std::thread::Threads;
 
 /// The graph of the nodes with these parts, or the first refusal over the whole.
 #[tactic(auto, using(crate::proofs::Gathered::whole_numbered))]
-pub(crate) fn graph_of(alloc: Global, columns: Columns<'_>) -> Result<Graph, GraphError>
+pub(crate) fn graph_of(alloc: Global, columns: Columns) -> Result<Graph, GraphError>
     requires sized { AreSized columns }
     requires paired { ArePaired columns.names.items columns.outputs.items }
     requires rising { AllNamesRise columns.names.items }
-    ensures ok { IfOk result (IsGraphOfColumns columns.entry) }
+    ensures ok { IfOk result (IsGraphOfColumns columns) }
     ensures sound { IfOk result IsSound }
     ensures acyclic { IfOk result (λ graph. IsAcyclic (rows_of graph)) }
-    ensures err { IfErr result (IsWholeFault (links_in columns.entry)) }
+    ensures err { IfErr result (IsWholeFault (links_in columns)) }
 {
     let Columns {
         paths,
@@ -48,15 +48,15 @@ pub(crate) fn graph_of(alloc: Global, columns: Columns<'_>) -> Result<Graph, Gra
 pub(crate) fn graph_side_by_side(
     rt: &(impl Threads + Sync),
     alloc: Global,
-    columns: Columns<'_>,
+    columns: Columns,
 ) -> Result<Graph, GraphError>
     requires sized { AreSized columns }
     requires paired { ArePaired columns.names.items columns.outputs.items }
     requires rising { AllNamesRise columns.names.items }
-    ensures ok { IfOk result (IsGraphOfColumns columns.entry) }
+    ensures ok { IfOk result (IsGraphOfColumns columns) }
     ensures sound { IfOk result IsSound }
     ensures acyclic { IfOk result (λ graph. IsAcyclic (rows_of graph)) }
-    ensures err { IfErr result (IsWholeFault (links_in columns.entry)) }
+    ensures err { IfErr result (IsWholeFault (links_in columns)) }
 {
     let Columns {
         paths,

@@ -81,8 +81,8 @@ impl<'t> InputView<'t> {
         self.names.as_slice()
     }
 
-    /// The input derivation's path on its own.
-    pub(crate) fn store_path(&self, alloc: Global) -> Result<StorePath, AllocError>
+    /// The input derivation's path on its own. Refuses where an allocation is refused.
+    pub fn store_path(&self, alloc: Global) -> Result<StorePath, AllocError>
         ensures { IfOk result (λ path. path ≡ self.now.path) }
     {
         StorePath::from_path(alloc, self.path.as_slice())

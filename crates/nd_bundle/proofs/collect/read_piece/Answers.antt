@@ -1,6 +1,5 @@
-use Rattle.std.proofs.Common.{◌≡◌, List, ℕ, Bor, ap, ◌∙◌, map}
-use Rattle.nd_bundle.specs.Lines.{lines}
-use Rattle.nd_bundle.proofs.Pieced.{refused_here, said_all, said_here}
+use Rattle.std.proofs.Common.{List, ℕ, Bor, ap, ◌∙◌, map}
+use Rattle.nd_bundle.proofs.Pieced.{refused_here, said_here}
 use Rattle.nd_bundle.proofs.collect.read_piece.Goals as goal
 
 pub returns-in-Err : goal.returns-in-Err
