@@ -6,6 +6,7 @@ pub mod Linked
 pub mod Numbers
 pub mod OneBundle
 pub mod OneDrvPath
+pub mod Parted
 pub mod Pieced
 pub mod Placed
 pub mod Pooled

@@ -1,6 +1,6 @@
 -- Cutting a text into its lines, and into pieces of whole lines.
-use Rattle.std.proofs.Common.{◌≡◌, ℕ, ◌==◌, ◌<◌, ◌+◌, ◌-◌, List, [], ◌∷◌, ◌++◌, length, take, drop, take-append-drop, Bool, true, false, true≢false, if◌then◌else◌, Option, Some, map, inl, inr, refl, ap, sym, ◌∙◌, arith, append_assoc, Bor}
-use Rattle.std.proofs.lemmas.List.{append-nil, map-append, length-append}
+use Rattle.std.proofs.Common.{◌≡◌, ℕ, ◌==◌, ◌<◌, ◌+◌, ◌-◌, List, [], ◌∷◌, ◌++◌, length, get_or, take, drop, take-append-drop, Bool, true, false, true≢false, if◌then◌else◌, Option, Some, map, inl, inr, refl, ap, sym, ◌∙◌, arith, append_assoc, Bor}
+use Rattle.std.proofs.lemmas.List.{append-nil, map-append, length-append, take_more}
 use Rattle.std.proofs.Math.Seq.{drop-append_seam, take-append_seam}
 use Rattle.std.proofs.lemmas.List.Splits.{length-slice_split, slice_split-cons_no, slice_split-cons_yes}
 use Rattle.std.proofs.lemmas.Bool.{cases_Bool, eqb-true}
@@ -11,6 +11,7 @@ use Rattle.nd_bytes.specs.Cut.{behind, pieces, until}
 use Rattle.nd_bytes.specs.Lines.{lines_of, without_empty_end}
 use Rattle.nd_bytes.proofs.TextLines.{no_lines, lines_more}
 use Rattle.nd_bundle.specs.Lines.{lines, lines_in}
+use Rattle.nd_bundle.specs.Parts.{HasWholeLines, IsLineEnd}
 
 -- what the found lines are
 abbrev pub shown : List (Bor (List ℕ)) → List (List ℕ)
@@ -94,6 +95,35 @@ cut_behind text rest least is =
     let left : drop (length text - length rest) text ≡ rest = ap (λ (n : ℕ). drop n text) at ∙ ap (λ (xs : List ℕ). drop (length (front ++ 10 ∷ [])) xs) parts ∙ drop-append_seam (front ++ 10 ∷ []) rest in
     ap (λ (xs : List ℕ). lines xs ++ lines (drop (length text - length rest) text)) piece ∙ ap (λ (xs : List ℕ). lines (front ++ 10 ∷ []) ++ lines xs) left
     ∙ lines_behind front rest ∙ ap (λ (xs : List ℕ). lines xs) (sym (append_assoc front (10 ∷ []) rest) ∙ sym parts)
+
+-- .. which the text before is with it
+abbrev pub up_to : List ℕ → List ℕ → List ℕ
+up_to text rest = take (length text - length rest) text
+
+pub line_end : (text rest end : List ℕ) → behind newline text ≡ Some rest → end ≡ up_to text rest → IsLineEnd end
+line_end text rest end is cut =
+    let front : List ℕ = until newline text in
+    let parts : text ≡ (front ++ 10 ∷ []) ++ rest = at_newline text rest is ∙ sym (append_assoc front (10 ∷ []) rest) in
+    let long : length text ≡ length (front ++ 10 ∷ []) + length rest = ap (λ (xs : List ℕ). length xs) parts ∙ length-append (front ++ 10 ∷ []) rest in
+    let at : length text - length rest ≡ length (front ++ 10 ∷ []) = omega arith in
+    record { front = front; is = cut ∙ ap (λ (n : ℕ). take n text) at ∙ ap (λ (xs : List ℕ). take (length (front ++ 10 ∷ [])) xs) parts ∙ take-append_seam (front ++ 10 ∷ []) rest }
+
+-- whole lines end with a newline
+has_whole : (text front : List ℕ) → text ≡ front ++ 10 ∷ [] → HasWholeLines text
+has_whole text front is = record {
+  whole = λ rest.
+      ap (λ (xs : List ℕ). lines (xs ++ rest)) is ∙ ap (λ (xs : List ℕ). lines xs) (append_assoc front (10 ∷ []) rest) ∙ sym (lines_behind front rest) ∙ ap (λ (xs : List ℕ). lines xs ++ lines rest) (sym is);
+}
+
+-- .. with what stands before the line too
+pub line_ends : (rest end : List ℕ) → IsLineEnd end → HasWholeLines (rest ++ end)
+line_ends rest end ended = has_whole (rest ++ end) (rest ++ ended.front) (ap (λ (xs : List ℕ). rest ++ xs) ended.is ∙ sym (append_assoc rest ended.front (10 ∷ [])))
+
+pub no_line : (text : List ℕ) → text ≡ [] → HasWholeLines text
+no_line text is = record { whole = λ rest. ap (λ (xs : List ℕ). lines (xs ++ rest)) is ∙ ap (λ (ls : List (List ℕ)). ls ++ lines rest) (sym no_lines) ∙ ap (λ (xs : List ℕ). lines xs ++ lines rest) (sym is) }
+
+pub whole_to : (text front : List ℕ) (at : ℕ) → at < length text → get_or text at 0 ≡ 10 → front ≡ take (at + 1) text → HasWholeLines front
+whole_to text front at within is cut = has_whole front (take at text) (cut ∙ take_more text at 0 within ∙ ap (λ (b : ℕ). take at text ++ b ∷ []) is)
 
 -- .. or it is one piece
 pub whole_piece : (text : List ℕ) → lines text ++ lines [] ≡ lines text

@@ -8,6 +8,8 @@ pub mod Naming
 pub mod Numbered
 pub mod Numbering
 pub mod OneBundle
+pub mod Parts
 pub mod Pieces
+pub mod Reading
 pub mod Settled
 pub mod Whole

@@ -1,15 +1,12 @@
 -- What is read of the pieces of a bundle, and how it is put together. Serves proofs alone.
 use Rattle.std.specs.Prelude.{◌≡◌, ℕ, Bool, List, ◌∷◌, ◌++◌, Result, Ok, Err, Option, Some, None}
-use Rattle.std.specs.List.{AllZip}
 use Rattle.std.specs.declared.alloc.AllocError.{AllocError}
 use Rattle.nd_line.specs.Reads.{IsFaulty}
 use Rattle.nd_line.specs.declared.line.LineNode.{LineNode}
 use Rattle.nd_line.specs.declared.refusal.LineError.{LineError}
-use Rattle.nd_bundle.specs.Bundles.{IsFirstFault}
 use Rattle.nd_bundle.specs.Columned.{HasColumns, SayColumns}
-use Rattle.nd_bundle.specs.Lines.{lines, lines_in}
+use Rattle.nd_bundle.specs.Lines.{lines}
 use Rattle.nd_bundle.specs.declared.columns.Columns.{Columns}
-use Rattle.nd_bundle.specs.declared.fault.GraphError.{GraphError}
 use Rattle.nd_bundle.specs.declared.piece.Piece.{Piece}
 
 -- the columns have the nodes that these lines say, up to one that is refused so
@@ -38,19 +35,3 @@ IsReadText check text piece = IsReadPiece check (lines text) piece
 -- the nodes of the others stand behind the old ones
 pub record IsAppended (old others new : Columns) : Type 0 where
   pub has : (some more : List LineNode) → HasColumns some old → HasColumns more others → HasColumns (some ++ more) new
-
--- what the lines of a piece say stands behind what lines before them say
-pub record Joins (old : Columns) (piece : Result Piece AllocError) (new : Columns) : Type 0 where
-  pub joined : (check : Bool) (ls more : List (List ℕ)) → SayColumns check ls old → IsReadPiece check more piece → SayColumns check (ls ++ more) new
-
--- why a piece can't be put behind lines of a text that were read: the first refusal of that text
-pub record IsPieceFault (old : Columns) (piece : Result Piece AllocError) (error : GraphError) : Type 0 where
-  pub first : (check : Bool) (text : List ℕ) (ls more behind : List (List ℕ)) → lines text ≡ ls ++ (more ++ behind) → SayColumns check ls old → IsReadPiece check more piece → IsFirstFault check text error
-
--- what the lines of all pieces say
-pub record AreJoined (pieces : List (Result Piece AllocError)) (columns : Columns) : Type 0 where
-  pub joined : (check : Bool) (texts : List (List ℕ)) → AllZip (IsReadText check) texts pieces → SayColumns check (lines_in texts) columns
-
--- why the pieces of a text can't be put together: the first refusal of that text
-pub record IsJoinFault (pieces : List (Result Piece AllocError)) (error : GraphError) : Type 0 where
-  pub first : (check : Bool) (text : List ℕ) (texts : List (List ℕ)) → lines text ≡ lines_in texts → AllZip (IsReadText check) texts pieces → IsFirstFault check text error

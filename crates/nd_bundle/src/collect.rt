@@ -1,15 +1,17 @@
 //! Reading the lines of a bundle, one after another or in many threads.
 
-ghost use Rattle.std.specs.Prelude.{map, IfErr, IfOk, OnOk};
+ghost use Rattle.std.specs.Prelude.{map, IfErr, IfOk};
 ghost use Rattle.std.specs.List.{AllZip};
 ghost use Rattle.nd_bundle.specs.Bundles.{IsFirstFault};
 ghost use Rattle.nd_bundle.specs.Columned.{SayColumns};
 ghost use Rattle.nd_bundle.specs.Lines.{lines};
-ghost use Rattle.nd_bundle.specs.Pieces.{AreJoined, IsJoinFault, IsPieceFault, IsReadText, IsReadTo, Joins};
+ghost use Rattle.nd_bundle.specs.Parts.{ArePieces};
+ghost use Rattle.nd_bundle.specs.Pieces.{IsReadText, IsReadTo};
 
 use crate::columns::Columns;
 use crate::cutting::{cut_lines, cut_pieces};
 use crate::fault::GraphError;
+use crate::found::Found;
 use crate::piece::Piece;
 use crate::pool::Pool;
 use nd_line::read_line;
@@ -24,6 +26,7 @@ const LONG: usize = 65_536;
 /// What the lines of the text say, in order, or the refusal of the first that has one; read by this thread
 /// where the text hasn't enough for two, and else by many threads. With `check` each line's path has to be
 /// the text path of its derivation.
+#[tactic(auto, using(crate::proofs::Parted::all_said, crate::proofs::Parted::first_refused, crate::proofs::Parted::fault_for_memory))]
 pub(crate) fn read_lines_side_by_side(
     rt: &(impl Threads + Sync),
     alloc: Global,
@@ -33,10 +36,14 @@ pub(crate) fn read_lines_side_by_side(
     ensures ok { IfOk result (SayColumns check (lines text.now)) }
     ensures err { IfErr result (IsFirstFault check text.now) }
 {
-    if text.len() < 2 * LONG {
-        return read_lines(alloc, text, check);
-    }
-    read_lines_in_parallel(rt, alloc, text, check)
+    let mut found = Found::new(alloc);
+    found.read_lines(rt, alloc, text, check)?;
+    found.into_columns()
+}
+
+/// Whether the text hasn't enough for two threads.
+pub(crate) fn is_short(text: &[u8]) -> bool {
+    text.len() < 2 * LONG
 }
 
 /// The same, read by this thread.
@@ -54,7 +61,7 @@ pub(crate) fn read_lines(alloc: Global, text: &[u8], check: bool) -> Result<Colu
 
 /// What the lines of a piece of a text say, up to the first that is refused.
 #[tactic(auto, using(crate::proofs::Taken::says_none, crate::proofs::Pieced::said_all))]
-fn read_piece(alloc: Global, text: &[u8], check: bool) -> Result<Piece, AllocError>
+pub(crate) fn read_piece(alloc: Global, text: &[u8], check: bool) -> Result<Piece, AllocError>
     ensures { IfOk result (λ piece. IsReadTo check (lines text.now) piece.columns piece.refused) }
 {
     let lines = cut_lines(alloc, text)?;
@@ -77,23 +84,22 @@ fn read_piece(alloc: Global, text: &[u8], check: bool) -> Result<Piece, AllocErr
     })
 }
 
-/// The same as `read_lines`, in pieces that threads read, two for each processor and of about the same length.
-fn read_lines_in_parallel(
+/// What is read of pieces of the text, which threads read, two for each processor and of about the same length.
+#[tactic(auto, using(crate::proofs::Parted::are_pieces))]
+pub(crate) fn read_pieces(
     rt: &(impl Threads + Sync),
     alloc: Global,
     text: &[u8],
     check: bool,
-) -> Result<Columns, GraphError>
-    ensures ok { IfOk result (SayColumns check (lines text.now)) }
-    ensures err { IfErr result (IsFirstFault check text.now) }
+) -> Result<Vec<Result<Piece, AllocError>>, AllocError>
+    ensures { IfOk result (λ pieces. ArePieces check text.now pieces.items) }
 {
     let count = current_num_threads(rt)
         .saturating_mul(2)
         .min(text.len() / LONG)
         .max(1);
     let texts = cut_pieces(alloc, text, text.len() / count + 1)?;
-    let pieces = read_each(rt, alloc, texts.as_slice(), check)?;
-    join_pieces(alloc, pieces)
+    read_each(rt, alloc, texts.as_slice(), check)
 }
 
 /// What the lines of each of these texts say, in order, each read by a thread of its own.
@@ -114,47 +120,4 @@ fn read_each(
             { read_piece(alloc, text, check) },
         )
         .collect(rt, alloc)
-}
-
-/// What the lines of these pieces say, one piece after another, or the refusal of the first line that has one.
-#[tactic(auto, using(crate::proofs::Pieced::joined_none, crate::proofs::Pieced::fault_at_once))]
-fn join_pieces(alloc: Global, pieces: Vec<Result<Piece, AllocError>>) -> Result<Columns, GraphError>
-    ensures ok { IfOk result (AreJoined pieces.items) }
-    ensures err { IfErr result (IsJoinFault pieces.items) }
-{
-    let mut columns = Columns::with_capacity(alloc, count_nodes(pieces.as_slice()))?;
-    for piece in pieces {
-        join_piece(&mut columns, piece)?;
-    }
-    Ok(columns)
-}
-
-/// Adds what the lines of a piece say, or answers the refusal that it has, with the line's number: so many nodes
-/// were said before, and one.
-#[tactic(auto, using(crate::proofs::Pieced::joins, crate::proofs::Pieced::fault_behind, crate::proofs::Pieced::fault_of_memory))]
-fn join_piece(columns: &mut Columns, piece: Result<Piece, AllocError>) -> Result<(), GraphError>
-    ensures ok { OnOk result (Joins columns.old piece columns.new) }
-    ensures err { IfErr result (IsPieceFault columns.old piece) }
-{
-    let Piece {
-        columns: more,
-        refused,
-    } = piece?;
-    columns.append(more)?;
-    let line = columns.paths.len() + 1;
-    match refused {
-        None => Ok(()),
-        Some(fault) => Err(GraphError::of_line(fault, line)),
-    }
-}
-
-/// How many nodes the pieces have.
-fn count_nodes(pieces: &[Result<Piece, AllocError>]) -> usize {
-    let mut count = 0usize;
-    for read in pieces {
-        if let Ok(piece) = read {
-            count = count.saturating_add(piece.columns.paths.len());
-        }
-    }
-    count
 }

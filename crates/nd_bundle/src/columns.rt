@@ -26,6 +26,20 @@ pub(crate) struct Columns {
 }
 
 impl Columns {
+    /// No node. It takes no memory.
+    pub(crate) fn new(alloc: Global) -> Columns
+        ensures { HasColumns [] result }
+    {
+        Columns {
+            paths: Vec::new(alloc),
+            needs: Vec::new(alloc),
+            wants: Vec::new(alloc),
+            sources: Vec::new(alloc),
+            names: Vec::new(alloc),
+            outputs: Vec::new(alloc),
+        }
+    }
+
     /// No node, and room for so many.
     pub(crate) fn with_capacity(alloc: Global, count: usize) -> Result<Columns, AllocError>
         ensures { IfOk result (HasColumns []) }

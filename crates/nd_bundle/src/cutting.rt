@@ -1,7 +1,8 @@
 //! Cutting the text of a bundle into its lines, and into pieces of whole lines.
 
-ghost use Rattle.std.specs.Prelude.{◌≡◌, ◌<◌, ◌++◌, length, map, IfOk};
+ghost use Rattle.std.specs.Prelude.{◌≡◌, ◌<◌, ◌++◌, length, map, IfOk, IfSome};
 ghost use Rattle.nd_bundle.specs.Lines.{lines, lines_in};
+ghost use Rattle.nd_bundle.specs.Parts.{HasWholeLines, IsLineEnd};
 
 use nd_bytes::cut;
 use std::alloc::{AllocError, Global};
@@ -53,4 +54,31 @@ fn first_piece(text: &[u8], least: usize) -> (&[u8], &[u8])
         (_, Some(behind)) => text.split_at(text.len() - behind.len()),
         (_, None) => (text, &[]),
     }
+}
+
+/// The text up to its first newline, which is with it, and what stands behind; or `None` where it has no newline.
+pub(crate) fn cut_line(text: &[u8]) -> Option<(&[u8], &[u8])>
+    ensures parts { IfSome result (λ r. text.now ≡ r.0.now ++ r.1.now) }
+    ensures end { IfSome result (λ r. IsLineEnd r.0.now) }
+{
+    match cut(text, b'\n') {
+        (_, Some(behind)) => Some(text.split_at(text.len() - behind.len())),
+        (_, None) => None,
+    }
+}
+
+/// The whole lines of the text, and what stands behind its last newline.
+#[tactic(auto, using(crate::proofs::Newlines::no_line, crate::proofs::Newlines::whole_to))]
+pub(crate) fn whole_lines(text: &[u8]) -> (&[u8], &[u8])
+    ensures parts { text.now ≡ result.0.now ++ result.1.now }
+    ensures whole { HasWholeLines result.0.now }
+{
+    let mut end = text.len();
+    while end > 0 {
+        if text[end - 1] == b'\n' {
+            return text.split_at(end);
+        }
+        end -= 1;
+    }
+    (&[], text)
 }

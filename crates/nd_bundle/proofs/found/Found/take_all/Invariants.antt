@@ -1,10 +1,10 @@
 use Rattle.std.proofs.Common.{◌≡◌, ◌++◌}
 use Rattle.std.specs.Vec.Iter.{into_iter_items}
-use Rattle.nd_bundle.specs.Pieces.{AreJoined}
-use Rattle.nd_bundle.proofs.collect.join_pieces.Given as goal
+use Rattle.nd_bundle.specs.Parts.{TakesAll}
+use Rattle.nd_bundle.proofs.found.Found.take_all.Given as goal
 
 abbrev pub invariant-loop-piece : goal.invariant-loop-piece
 invariant-loop-piece l = record {
-  joined : AreJoined l.yielded l.columns;
+  taken : TakesAll l.fn.self l.yielded l.self;
   whole : l.fn.pieces.items ≡ l.yielded ++ into_iter_items l.piece-iterator;
 }

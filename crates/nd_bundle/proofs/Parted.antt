@@ -1,0 +1,261 @@
+-- What was read of a text that comes in parts, put together.
+use Rattle.std.proofs.Common.{◌≡◌, ℕ, ◌+◌, Bool, List, [], ◌∷◌, ◌++◌, length, Option, Some, None, Result, Ok, Err, IfOk, refl, sym, ap, ◌∙◌, subst, append_assoc}
+use Rattle.std.proofs.lemmas.List.{append-nil}
+use Rattle.std.specs.List.{AllZip}
+use Rattle.std.specs.declared.alloc.AllocError.{AllocError}
+use Rattle.nd_line.specs.declared.refusal.LineError.{LineError}
+use Rattle.nd_bundle.specs.Bundles.{IsFirstFault}
+use Rattle.nd_bundle.specs.Columned.{HasColumns, SayColumns}
+use Rattle.nd_bundle.specs.Lines.{lines, lines_in}
+use Rattle.nd_bundle.specs.Numbered.{fault_at}
+use Rattle.nd_bundle.specs.Parts.{ArePieces, GoesOn, HasWholeLines, IsFaultBy, IsFaultOf, IsFoundIn, IsFoundNowhere, IsFoundTo, IsLineEnd, IsReadAsFar, IsReadBehind, IsReading, IsReadUntil, IsRefusedAsFar, IsSpent, IsToldBy, IsUnread, ReadsLines, Takes, TakesAll}
+use Rattle.nd_bundle.specs.Pieces.{IsAppended, IsReadPiece, IsReadText, IsReadTo}
+use Rattle.nd_bundle.specs.Reading.{Reading}
+use Rattle.nd_bundle.specs.declared.columns.Columns.{Columns}
+use Rattle.nd_bundle.specs.declared.fault.GraphError.{GraphError}
+use Rattle.nd_bundle.specs.declared.fault.GraphError.TheVariants as bundle
+use Rattle.nd_bundle.specs.declared.found.Found.{Found}
+use Rattle.nd_bundle.specs.declared.piece.Piece.{Piece}
+use Rattle.nd_bundle.specs.declared.progress.Progress.{Progress}
+use Rattle.nd_bundle.proofs.Newlines.{line_ends, lines_in-append}
+use Rattle.nd_bundle.proofs.Pieced.{fault_here}
+use Rattle.nd_bundle.proofs.Taken.{says_more, says_none}
+
+-- ---- one piece
+
+pub found_none : (found : Found) → found.refused ≡ None → HasColumns [] found.columns → IsFoundNowhere found
+found_none found none has = record { nowhere = λ check. subst (λ (r : Option GraphError). IsFoundTo check [] found.columns r) (sym none) (says_none check found.columns has) }
+
+-- what was found with no refusal
+said : (check : Bool) (ls : List (List ℕ)) (found : Found) → found.refused ≡ None → IsFoundIn check ls found → SayColumns check ls found.columns
+said check ls found none so = subst (λ (r : Option GraphError). IsFoundTo check ls found.columns r) none so
+
+-- a refusal stays the first one, whatever is behind
+refused_still : (check : Bool) (ls more : List (List ℕ)) (found : Found) (fault : GraphError) → found.refused ≡ Some fault → IsFoundIn check ls found → IsFoundIn check (ls ++ more) found
+refused_still check ls more found fault is so =
+    let of : IsFaultOf check ls fault = subst (λ (r : Option GraphError). IsFoundTo check ls found.columns r) is so in
+    subst (λ (r : Option GraphError). IsFoundTo check (ls ++ more) found.columns r) (sym is) (record { first = λ text behind parts. of.first text (more ++ behind) (parts ∙ append_assoc ls more behind) })
+
+pub passes : (old : Found) (read : Result Piece AllocError) (fault : GraphError) → old.refused ≡ Some fault → Takes old read old
+passes old read fault is = record { taken = λ check ls more so also. refused_still check ls more old fault is so }
+
+pub takes_said : (old new : Found) (columns : Columns) → old.refused ≡ None → new.refused ≡ None → IsAppended old.columns columns new.columns → Takes old (Ok (record { columns = columns; refused = None })) new
+takes_said old new columns none still joined = record {
+  taken = λ check ls more so also.
+      subst (λ (r : Option GraphError). IsFoundTo check (ls ++ more) new.columns r) (sym still) (says_more check ls more old.columns columns new.columns (said check ls old none so) also joined);
+}
+
+pub takes_refused : (old new : Found) (columns : Columns) (fault : LineError) (error : GraphError) → old.refused ≡ None → new.refused ≡ Some error → error ≡ fault_at fault (length new.columns.paths.items + 1) → IsAppended old.columns columns new.columns
+    → Takes old (Ok (record { columns = columns; refused = Some fault })) new
+takes_refused old new columns fault error none is number joined = record {
+  taken = λ check ls more so up.
+      subst (λ (r : Option GraphError). IsFoundTo check (ls ++ more) new.columns r) (sym is) (record {
+        first = λ text behind parts.
+            let front : List (List ℕ) = ls ++ up.before in
+            let rest : List (List ℕ) = up.behind ++ behind in
+            let cut : more ++ behind ≡ up.before ++ up.line ∷ rest = ap (λ (xs : List (List ℕ)). xs ++ behind) up.parts ∙ append_assoc up.before (up.line ∷ up.behind) behind in
+            let whole : lines text ≡ front ++ up.line ∷ rest = parts ∙ append_assoc ls more behind ∙ ap (λ (xs : List (List ℕ)). ls ++ xs) cut ∙ sym (append_assoc ls up.before (up.line ∷ rest)) in
+            subst (λ (e : GraphError). IsFirstFault check text e) (sym number)
+            (fault_here check text front up.line rest new.columns fault whole (says_more check ls up.before old.columns columns new.columns (said check ls old none so) up.says joined) up.refused);
+      });
+}
+
+-- ---- all pieces
+
+-- the partner of an item that stands between others
+record IsBetween {A B : Type 0} (R : A → B → Type 0) (xs : List A) (ys : List B) (y : B) : Type 0 where
+  front : List A
+  x : A
+  behind : List A
+  parts : xs ≡ front ++ x ∷ behind
+  before : AllZip R front ys
+  here : R x y
+
+between : {A B : Type 0} (R : A → B → Type 0) (xs : List A) (ys : List B) (y : B) (rest : List B) → AllZip R xs (ys ++ y ∷ rest) → IsBetween R xs ys y
+between R [] [] y rest zip = absurd zip
+between R [] (b ∷ ys) y rest zip = absurd zip
+between R (a ∷ xs) [] y rest zip = record { front = []; x = a; behind = xs; parts = refl; before = tt; here = zip.0 }
+between R (a ∷ xs) (b ∷ ys) y rest zip =
+    let more = between R xs ys y rest zip.1 in
+    record { front = a ∷ more.front; x = more.x; behind = more.behind; parts = ap (λ zs. a ∷ zs) more.parts; before = (zip.0, more.before); here = more.here }
+
+-- no item stands behind the last
+none_behind : {A B : Type 0} (R : A → B → Type 0) (front : List A) (x : A) (behind : List A) (ys : List B) (y : B) → AllZip R front ys → AllZip R (front ++ x ∷ behind) (ys ++ y ∷ []) → behind ≡ []
+none_behind R [] x [] [] y before zip = refl
+none_behind R [] x (a ∷ behind) [] y before zip = absurd zip.1
+none_behind R [] x behind (b ∷ ys) y before zip = absurd before
+none_behind R (a ∷ front) x behind [] y before zip = absurd before
+none_behind R (a ∷ front) x behind (b ∷ ys) y before zip = none_behind R front x behind ys y before.1 zip.1
+
+pub takes_none : (found : Found) → TakesAll found [] found
+takes_none found = record { taken = λ check ls texts so zip. takes_nothing check ls texts so zip }
+  where
+    takes_nothing : (check : Bool) (ls texts : List (List ℕ)) → IsFoundIn check ls found → AllZip (IsReadText check) texts [] → IsFoundIn check (ls ++ lines_in texts) found
+    takes_nothing check ls [] so zip = subst (λ (xs : List (List ℕ)). IsFoundIn check xs found) (sym (append-nil ls)) so
+    takes_nothing check ls (t ∷ texts) so zip = absurd zip
+
+pub takes_more : (first old new : Found) (pieces : List (Result Piece AllocError)) (piece : Result Piece AllocError) → TakesAll first pieces old → Takes old piece new → TakesAll first (pieces ++ piece ∷ []) new
+takes_more first old new pieces piece so one = record {
+  taken = λ check ls texts before zip.
+      let R : List ℕ → Result Piece AllocError → Type 0 = IsReadText check in
+      let at = between R texts pieces piece [] zip in
+      let last : at.behind ≡ [] = none_behind R at.front at.x at.behind pieces piece at.before (subst (λ (ts : List (List ℕ)). AllZip R ts (pieces ++ piece ∷ [])) at.parts zip) in
+      let are : lines_in texts ≡ lines_in at.front ++ lines at.x =
+      ap (λ (ts : List (List ℕ)). lines_in ts) (at.parts ∙ ap (λ (ts : List (List ℕ)). at.front ++ at.x ∷ ts) last) ∙ lines_in-append at.front (at.x ∷ []) ∙ ap (λ (xs : List (List ℕ)). lines_in at.front ++ xs) (append-nil (lines at.x)) in
+      subst (λ (xs : List (List ℕ)). IsFoundIn check xs new) (append_assoc ls (lines_in at.front) (lines at.x) ∙ ap (λ (xs : List (List ℕ)). ls ++ xs) (sym are))
+      (one.taken check (ls ++ lines_in at.front) (lines at.x) (so.taken check ls at.front before at.before) at.here);
+}
+
+-- ---- the lines of a text
+
+is_read : (check : Bool) (ls : List (List ℕ)) (read : Result Piece AllocError) → IfOk read (λ piece. IsReadTo check ls piece.columns piece.refused) → IsReadPiece check ls read
+is_read check ls (Ok piece) is = is
+is_read check ls (Err refused) is = tt
+
+pub reads_none : (check : Bool) (text : List ℕ) (old : Found) (fault : GraphError) → old.refused ≡ Some fault → ReadsLines check text old old
+reads_none check text old fault is = record { on = λ ls so. refused_still check ls (lines text) old fault is so }
+
+pub reads_piece : (check : Bool) (text : List ℕ) (old new : Found) (read : Result Piece AllocError) → IfOk read (λ piece. IsReadTo check (lines text) piece.columns piece.refused) → Takes old read new → ReadsLines check text old new
+reads_piece check text old new read is takes = record { on = λ ls so. takes.taken check ls (lines text) so (is_read check (lines text) read is) }
+
+pub are_pieces : (check : Bool) (text : List ℕ) (texts : List (List ℕ)) (pieces : List (Result Piece AllocError)) → lines_in texts ≡ lines text → AllZip (IsReadText check) texts pieces → ArePieces check text pieces
+are_pieces check text texts pieces are read = record { texts = texts; are = are; read = read }
+
+pub reads_pieces : (check : Bool) (text : List ℕ) (old new : Found) (pieces : List (Result Piece AllocError)) → ArePieces check text pieces → TakesAll old pieces new → ReadsLines check text old new
+reads_pieces check text old new pieces are takes = record {
+  on = λ ls so. subst (λ (xs : List (List ℕ)). IsFoundIn check (ls ++ xs) new) are.are (takes.taken check ls are.texts so are.read);
+}
+
+-- what was found in all lines of a text
+pub all_said : (check : Bool) (text : List ℕ) (nowhere found : Found) (columns : Columns) → IsFoundNowhere nowhere → ReadsLines check text nowhere found → columns ≡ found.columns → found.refused ≡ None → SayColumns check (lines text) columns
+all_said check text nowhere found columns none reads same still = subst (λ (cs : Columns). SayColumns check (lines text) cs) (sym same) (said check (lines text) found still (reads.on [] (none.nowhere check)))
+
+-- the refusal of the first line that has one
+fault_in : (check : Bool) (text : List ℕ) (ls : List (List ℕ)) (found : Found) (fault : GraphError) → lines text ≡ ls → IsFoundIn check ls found → found.refused ≡ Some fault → IsFirstFault check text fault
+fault_in check text ls found fault are so is =
+    let refused : IsFaultOf check ls fault = subst (λ (r : Option GraphError). IsFoundTo check ls found.columns r) is so in
+    refused.first text [] (are ∙ sym (append-nil ls))
+
+pub first_refused : (check : Bool) (text : List ℕ) (nowhere found : Found) (fault : GraphError) → IsFoundNowhere nowhere → ReadsLines check text nowhere found → found.refused ≡ Some fault → IsFirstFault check text fault
+first_refused check text nowhere found fault none reads is = fault_in check text (lines text) found fault refl (reads.on [] (none.nowhere check)) is
+
+pub fault_for_memory : (check : Bool) (text : List ℕ) (fault : GraphError) → fault ≡ bundle.Memory → IsFirstFault check text fault
+fault_for_memory check text fault is = subst (λ (e : GraphError). IsFirstFault check text e) (sym is) tt
+
+-- ---- parts of a text
+
+-- the columns or the refusal of lines, behind which the rest stands
+settled : (check : Bool) (text : List ℕ) (columns : Columns) (rest : List ℕ) (refused : Option GraphError) (ls : List (List ℕ)) → IsFoundTo check ls columns refused → ((behind : List ℕ) → lines (text ++ behind) ≡ ls ++ lines (rest ++ behind)) → IsReadUntil check text columns rest refused
+settled check text columns rest None ls so cut = record { ls = ls; says = so; cut = cut }
+settled check text columns rest (Some fault) ls so cut = record { first = λ behind. so.first (text ++ behind) (lines (rest ++ behind)) (cut behind) }
+
+pub is_unread : (progress : Progress) → IsFoundNowhere progress.found → progress.rest.items ≡ [] → IsUnread progress
+is_unread progress none empty = record {
+  nothing = λ check.
+      settled check [] progress.found.columns progress.rest.items progress.found.refused [] (none.nowhere check) (λ behind. ap (λ (xs : List ℕ). lines (xs ++ behind)) (sym empty));
+}
+
+pub is_spent : (progress : Progress) → progress.found.refused ≡ Some bundle.Memory → IsSpent progress
+is_spent progress is = record {
+  whatever = λ check text. subst (λ (r : Option GraphError). IsReadUntil check text progress.found.columns progress.rest.items r) (sym is) (record { first = λ behind. tt });
+}
+
+pub goes_spent : (check : Bool) (text : List ℕ) (old new : Progress) → IsSpent new → GoesOn check text old new
+goes_spent check text old new spent = record { goes = λ before so. spent.whatever check (before ++ text) }
+
+-- what was read with no refusal
+as_far : (check : Bool) (text : List ℕ) (progress : Progress) → progress.found.refused ≡ None → IsReading check text progress → IsReadAsFar check text progress.found.columns progress.rest.items
+as_far check text progress none so = subst (λ (r : Option GraphError). IsReadUntil check text progress.found.columns progress.rest.items r) none so
+
+-- .. up to a refusal
+refused_as_far : (check : Bool) (text : List ℕ) (progress : Progress) (fault : GraphError) → progress.found.refused ≡ Some fault → IsReading check text progress → IsRefusedAsFar check text fault
+refused_as_far check text progress fault is so = subst (λ (r : Option GraphError). IsReadUntil check text progress.found.columns progress.rest.items r) is so
+
+-- .. is what was found in the lines
+found_as_far : (check : Bool) (text : List ℕ) (progress : Progress) → progress.found.refused ≡ None → (far : IsReadAsFar check text progress.found.columns progress.rest.items) → IsFoundIn check far.ls progress.found
+found_as_far check text progress none far = subst (λ (r : Option GraphError). IsFoundTo check far.ls progress.found.columns r) (sym none) far.says
+
+pub goes_refused : (check : Bool) (text : List ℕ) (old : Progress) (fault : GraphError) → old.found.refused ≡ Some fault → GoesOn check text old old
+goes_refused check text old fault is = record {
+  goes = λ before so.
+      let of : IsRefusedAsFar check before fault = refused_as_far check before old fault is so in
+      subst (λ (r : Option GraphError). IsReadUntil check (before ++ text) old.found.columns old.rest.items r) (sym is)
+      (record { first = λ behind. subst (λ (xs : List ℕ). IsFirstFault check xs fault) (sym (append_assoc before text behind)) (of.first (text ++ behind)) });
+}
+
+-- the text has no newline
+pub goes_within : (check : Bool) (text : List ℕ) (old new : Progress) → old.found.refused ≡ None → new.found ≡ old.found → new.rest.items ≡ old.rest.items ++ text → GoesOn check text old new
+goes_within check text old new none same grown = record {
+  goes = λ before so.
+      let far = as_far check before old none so in
+      settled check (before ++ text) new.found.columns new.rest.items new.found.refused far.ls
+      (subst (λ (f : Found). IsFoundIn check far.ls f) (sym same) (found_as_far check before old none far))
+      (λ behind. ap (λ (xs : List ℕ). lines xs) (append_assoc before text behind) ∙ far.cut (text ++ behind)
+      ∙ ap (λ (xs : List ℕ). far.ls ++ lines xs) (sym (append_assoc old.rest.items text behind)) ∙ ap (λ (xs : List ℕ). far.ls ++ lines (xs ++ behind)) (sym grown));
+}
+
+pub read_behind : (check : Bool) (text : List ℕ) (old new : Progress) (front rest : List ℕ) → old.rest.items ≡ [] → text ≡ front ++ rest → HasWholeLines front → ReadsLines check front old.found new.found → new.rest.items ≡ old.rest.items ++ rest
+    → IsReadBehind check text old new
+read_behind check text old new front rest empty parts whole reads grown = record {
+  front = front;
+  parts = parts ∙ ap (λ (xs : List ℕ). front ++ xs) (sym (grown ∙ ap (λ (xs : List ℕ). xs ++ rest) empty));
+  whole = whole;
+  lines_on = reads;
+}
+
+-- the text has a newline
+pub goes_lines : (check : Bool) (text : List ℕ) (old mid new : Progress) (end behind : List ℕ) → old.found.refused ≡ None → text ≡ end ++ behind → IsLineEnd end → ReadsLines check (old.rest.items ++ end) old.found mid.found → IsReadBehind check behind mid new
+    → GoesOn check text old new
+goes_lines check text old mid new end behind none parts ended reads more = record {
+  goes = λ before so.
+      let far = as_far check before old none so in
+      let rest : List ℕ = old.rest.items in
+      let left : List ℕ = new.rest.items in
+      let one : List (List ℕ) = lines (rest ++ end) in
+      let two : List (List ℕ) = lines more.front in
+      settled check (before ++ text) new.found.columns left new.found.refused ((far.ls ++ one) ++ two) (more.lines_on.on (far.ls ++ one) (reads.on far.ls (found_as_far check before old none far))) (λ tail.
+      let whole : rest ++ (text ++ tail) ≡ (rest ++ end) ++ (more.front ++ (left ++ tail)) =
+      ap (λ (xs : List ℕ). rest ++ (xs ++ tail)) (parts ∙ ap (λ (xs : List ℕ). end ++ xs) more.parts)
+      ∙ ap (λ (xs : List ℕ). rest ++ xs) (append_assoc end (more.front ++ left) tail ∙ ap (λ (xs : List ℕ). end ++ xs) (append_assoc more.front left tail)) ∙ sym (append_assoc rest end (more.front ++ (left ++ tail))) in
+      let cut : lines (rest ++ (text ++ tail)) ≡ one ++ (two ++ lines (left ++ tail)) =
+      ap (λ (xs : List ℕ). lines xs) whole ∙ (line_ends rest end ended).whole (more.front ++ (left ++ tail)) ∙ ap (λ (ls : List (List ℕ)). one ++ ls) (more.whole.whole (left ++ tail)) in
+      ap (λ (xs : List ℕ). lines xs) (append_assoc before text tail) ∙ far.cut (text ++ tail) ∙ ap (λ (ls : List (List ℕ)). far.ls ++ ls) cut
+      ∙ sym (append_assoc far.ls one (two ++ lines (left ++ tail))) ∙ sym (append_assoc (far.ls ++ one) two (lines (left ++ tail))));
+}
+
+-- ---- the end
+
+-- the lines of the text are those that were read, and the rest's
+all_lines : (check : Bool) (text : List ℕ) (columns : Columns) (rest : List ℕ) (far : IsReadAsFar check text columns rest) → lines text ≡ far.ls ++ lines rest
+all_lines check text columns rest far = ap (λ (xs : List ℕ). lines xs) (sym (append-nil text)) ∙ far.cut [] ∙ ap (λ (xs : List ℕ). far.ls ++ lines xs) (append-nil rest)
+
+pub told_by : (check : Bool) (progress : Progress) (found : Found) (columns : Columns) → progress.found.refused ≡ None → ReadsLines check progress.rest.items progress.found found → columns ≡ found.columns → found.refused ≡ None → IsToldBy check progress columns
+told_by check progress found columns none reads same still = record {
+  says = λ text so.
+      let far = as_far check text progress none so in
+      let all : IsFoundIn check (lines text) found = subst (λ (ls : List (List ℕ)). IsFoundIn check ls found) (sym (all_lines check text progress.found.columns progress.rest.items far)) (reads.on far.ls (found_as_far check text progress none far)) in
+      subst (λ (cs : Columns). SayColumns check (lines text) cs) (sym same) (said check (lines text) found still all);
+}
+
+pub fault_by : (check : Bool) (progress : Progress) (found : Found) (fault : GraphError) → progress.found.refused ≡ None → ReadsLines check progress.rest.items progress.found found → found.refused ≡ Some fault → IsFaultBy check progress fault
+fault_by check progress found fault none reads is = record {
+  first = λ text so.
+      let far = as_far check text progress none so in
+      fault_in check text (far.ls ++ lines progress.rest.items) found fault (all_lines check text progress.found.columns progress.rest.items far) (reads.on far.ls (found_as_far check text progress none far)) is;
+}
+
+pub fault_before : (check : Bool) (progress : Progress) (fault : GraphError) → progress.found.refused ≡ Some fault → IsFaultBy check progress fault
+fault_before check progress fault is = record {
+  first = λ text so. subst (λ (xs : List ℕ). IsFirstFault check xs fault) (append-nil text) ((refused_as_far check text progress fault is so).first []);
+}
+
+pub fault_of_memory : (check : Bool) (progress : Progress) (fault : GraphError) → fault ≡ bundle.Memory → IsFaultBy check progress fault
+fault_of_memory check progress fault is = record { first = λ text so. fault_for_memory check text fault is }
+
+-- ---- what the reader shows
+
+pub says_of : (reading : Reading) (text : List ℕ) (progress : Progress) (columns : Columns) (check : Bool) → record { check = check; text = text } ≡ reading → IsReading check text progress → IsToldBy check progress columns → SayColumns reading.check (lines reading.text) columns
+says_of reading text progress columns check shown so told = subst (λ (r : Reading). SayColumns r.check (lines r.text) columns) shown (told.says text so)
+
+pub fault_of : (reading : Reading) (text : List ℕ) (progress : Progress) (fault : GraphError) (check : Bool) → record { check = check; text = text } ≡ reading → IsReading check text progress → IsFaultBy check progress fault → IsFirstFault reading.check reading.text fault
+fault_of reading text progress fault check shown so by = subst (λ (r : Reading). IsFirstFault r.check r.text fault) shown (by.first text so)

@@ -1,0 +1,102 @@
+-- What was found in a bundle's text that comes in parts. Serves proofs alone.
+use Rattle.std.specs.Prelude.{◌≡◌, ℕ, Bool, List, [], ◌∷◌, ◌++◌, Option, Some, None, Result}
+use Rattle.std.specs.List.{AllZip}
+use Rattle.std.specs.declared.alloc.AllocError.{AllocError}
+use Rattle.nd_bundle.specs.Bundles.{IsFirstFault}
+use Rattle.nd_bundle.specs.Columned.{SayColumns}
+use Rattle.nd_bundle.specs.Lines.{lines, lines_in}
+use Rattle.nd_bundle.specs.Pieces.{IsReadPiece, IsReadText}
+use Rattle.nd_bundle.specs.declared.columns.Columns.{Columns}
+use Rattle.nd_bundle.specs.declared.fault.GraphError.{GraphError}
+use Rattle.nd_bundle.specs.declared.found.Found.{Found}
+use Rattle.nd_bundle.specs.declared.piece.Piece.{Piece}
+use Rattle.nd_bundle.specs.declared.progress.Progress.{Progress}
+
+-- the first refusal of each text whose lines begin with these
+pub record IsFaultOf (check : Bool) (ls : List (List ℕ)) (fault : GraphError) : Type 0 where
+  pub first : (text : List ℕ) (behind : List (List ℕ)) → lines text ≡ ls ++ behind → IsFirstFault check text fault
+
+-- these lines say the columns, or have this refusal
+abbrev pub IsFoundTo : Bool → List (List ℕ) → Columns → Option GraphError → Type 0
+IsFoundTo check ls columns None = SayColumns check ls columns
+IsFoundTo check ls columns (Some fault) = IsFaultOf check ls fault
+
+-- what was found in these lines
+abbrev pub IsFoundIn : Bool → List (List ℕ) → Found → Type 0
+IsFoundIn check ls found = IsFoundTo check ls found.columns found.refused
+
+-- nothing was found in no lines
+pub record IsFoundNowhere (found : Found) : Type 0 where
+  pub nowhere : (check : Bool) → IsFoundIn check [] found
+
+-- what was read of a piece was put behind what was found before
+pub record Takes (old : Found) (read : Result Piece AllocError) (new : Found) : Type 0 where
+  pub taken : (check : Bool) (ls more : List (List ℕ)) → IsFoundIn check ls old → IsReadPiece check more read → IsFoundIn check (ls ++ more) new
+
+-- .. of several pieces
+pub record TakesAll (old : Found) (pieces : List (Result Piece AllocError)) (new : Found) : Type 0 where
+  pub taken : (check : Bool) (ls texts : List (List ℕ)) → IsFoundIn check ls old → AllZip (IsReadText check) texts pieces → IsFoundIn check (ls ++ lines_in texts) new
+
+-- the pieces of a text were read
+pub record ArePieces (check : Bool) (text : List ℕ) (pieces : List (Result Piece AllocError)) : Type 0 where
+  pub texts : List (List ℕ)
+  pub are : lines_in texts ≡ lines text
+  pub read : AllZip (IsReadText check) texts pieces
+
+-- the lines of this text were read behind those before
+pub record ReadsLines (check : Bool) (text : List ℕ) (old new : Found) : Type 0 where
+  pub on : (ls : List (List ℕ)) → IsFoundIn check ls old → IsFoundIn check (ls ++ lines text) new
+
+-- the text ends with a newline
+pub record IsLineEnd (text : List ℕ) : Type 0 where
+  pub front : List ℕ
+  pub is : text ≡ front ++ 10 ∷ []
+
+-- whatever stands behind the text, its lines are whole
+pub record HasWholeLines (text : List ℕ) : Type 0 where
+  pub whole : (behind : List ℕ) → lines (text ++ behind) ≡ lines text ++ lines behind
+
+-- the columns are what lines of the text say, and the other lines are those of the rest
+pub record IsReadAsFar (check : Bool) (text : List ℕ) (columns : Columns) (rest : List ℕ) : Type 0 where
+  pub ls : List (List ℕ)
+  pub says : SayColumns check ls columns
+  pub cut : (behind : List ℕ) → lines (text ++ behind) ≡ ls ++ lines (rest ++ behind)
+
+-- whatever stands behind the text, this is the first refusal
+pub record IsRefusedAsFar (check : Bool) (text : List ℕ) (fault : GraphError) : Type 0 where
+  pub first : (behind : List ℕ) → IsFirstFault check (text ++ behind) fault
+
+abbrev pub IsReadUntil : Bool → List ℕ → Columns → List ℕ → Option GraphError → Type 0
+IsReadUntil check text columns rest None = IsReadAsFar check text columns rest
+IsReadUntil check text columns rest (Some fault) = IsRefusedAsFar check text fault
+
+-- the text was read as far as its lines are whole, or up to a refusal
+abbrev pub IsReading : Bool → List ℕ → Progress → Type 0
+IsReading check text progress = IsReadUntil check text progress.found.columns progress.rest.items progress.found.refused
+
+-- nothing was read
+pub record IsUnread (progress : Progress) : Type 0 where
+  pub nothing : (check : Bool) → IsReading check [] progress
+
+-- whatever the text is, want of memory is its refusal
+pub record IsSpent (progress : Progress) : Type 0 where
+  pub whatever : (check : Bool) (text : List ℕ) → IsReading check text progress
+
+-- this text was read behind the one before
+pub record GoesOn (check : Bool) (text : List ℕ) (old new : Progress) : Type 0 where
+  pub goes : (before : List ℕ) → IsReading check before old → IsReading check (before ++ text) new
+
+-- the whole lines of this text were read, and what stands behind them is the rest
+pub record IsReadBehind (check : Bool) (text : List ℕ) (old new : Progress) : Type 0 where
+  pub front : List ℕ
+  pub parts : text ≡ front ++ new.rest.items
+  pub whole : HasWholeLines front
+  pub lines_on : ReadsLines check front old.found new.found
+
+-- what the lines of the text that was read say
+pub record IsToldBy (check : Bool) (progress : Progress) (columns : Columns) : Type 0 where
+  pub says : (text : List ℕ) → IsReading check text progress → SayColumns check (lines text) columns
+
+-- the first refusal of the text that was read
+pub record IsFaultBy (check : Bool) (progress : Progress) (fault : GraphError) : Type 0 where
+  pub first : (text : List ℕ) → IsReading check text progress → IsFirstFault check text fault

@@ -1,0 +1,159 @@
+//! How far a bundle's text that comes in parts was read.
+
+ghost use Rattle.std.specs.Prelude.{◌≡◌, ◌++◌, [], None, IfErr, IfOk, OnOk};
+ghost use Rattle.nd_bundle.specs.Parts.{GoesOn, IsFaultBy, IsReadBehind, IsSpent, IsToldBy, IsUnread, ReadsLines};
+
+use crate::columns::Columns;
+use crate::cutting::{cut_line, whole_lines};
+use crate::fault::GraphError;
+use crate::found::Found;
+use std::alloc::{AllocError, Global};
+use std::thread::Threads;
+
+/// How far a bundle's text that comes in parts was read: what was found in its whole lines, and the rest, which
+/// is a line that hasn't ended.
+#[derive(Drop)]
+pub(crate) struct Progress {
+    pub found: Found,
+    pub rest: Vec<u8>,
+}
+
+impl Progress {
+    /// Nothing was read. It takes no memory.
+    #[tactic(auto, using(crate::proofs::Parted::is_unread))]
+    pub(crate) fn new(alloc: Global) -> Progress
+        ensures { IsUnread result }
+    {
+        Progress {
+            found: Found::new(alloc),
+            rest: Vec::new(alloc),
+        }
+    }
+
+    /// Reads on. Where memory is refused nothing is read any more.
+    #[tactic(auto, using(crate::proofs::Parted::goes_spent))]
+    pub(crate) fn read_on(
+        &mut self,
+        rt: &(impl Threads + Sync),
+        alloc: Global,
+        text: &[u8],
+        check: bool,
+    ) -> Result<(), AllocError>
+        ensures { GoesOn check text.now self.old self.new }
+    {
+        match self.read_part(rt, alloc, text, check) {
+            Ok(()) => Ok(()),
+            Err(refused) => {
+                self.end();
+                Err(refused)
+            }
+        }
+    }
+
+    /// Reads nothing any more, for want of memory.
+    #[tactic(auto, using(crate::proofs::Parted::is_spent))]
+    fn end(&mut self)
+        ensures { IsSpent self.new }
+    {
+        self.found.refused = Some(GraphError::Memory);
+    }
+
+    /// Reads on, unless a line was refused.
+    fn read_part(
+        &mut self,
+        rt: &(impl Threads + Sync),
+        alloc: Global,
+        text: &[u8],
+        check: bool,
+    ) -> Result<(), AllocError>
+        ensures { OnOk result (GoesOn check text.now self.old self.new) }
+    {
+        match self.found.refused {
+            Some(_) => Ok(()),
+            None => self.read_text(rt, alloc, text, check),
+        }
+    }
+
+    /// Reads on, where no line was refused.
+    #[tactic(auto, using(crate::proofs::Parted::goes_within, crate::proofs::Parted::goes_lines))]
+    fn read_text(
+        &mut self,
+        rt: &(impl Threads + Sync),
+        alloc: Global,
+        text: &[u8],
+        check: bool,
+    ) -> Result<(), AllocError>
+        requires { self.old.found.refused ≡ None }
+        ensures { OnOk result (GoesOn check text.now self.old self.new) }
+    {
+        match cut_line(text) {
+            None => {
+                self.rest.extend_from_slice(text)?;
+                Ok(())
+            }
+            Some((end, behind)) => {
+                self.end_line(rt, alloc, end, check)?;
+                self.read_behind(rt, alloc, behind, check)
+            }
+        }
+    }
+
+    /// Reads the line that hasn't ended, which ends so.
+    fn end_line(
+        &mut self,
+        rt: &(impl Threads + Sync),
+        alloc: Global,
+        end: &[u8],
+        check: bool,
+    ) -> Result<(), AllocError>
+        ensures lines { OnOk result (ReadsLines check (self.old.rest.items ++ end.now) self.old.found self.new.found) }
+        ensures rest { OnOk result (self.new.rest.items ≡ []) }
+    {
+        self.rest.extend_from_slice(end)?;
+        self.found
+            .read_lines(rt, alloc, self.rest.as_slice(), check)?;
+        self.rest.clear();
+        Ok(())
+    }
+
+    /// Reads the whole lines of the text, where none has begun before it. What stands behind them is kept.
+    #[tactic(auto, using(crate::proofs::Parted::read_behind))]
+    fn read_behind(
+        &mut self,
+        rt: &(impl Threads + Sync),
+        alloc: Global,
+        text: &[u8],
+        check: bool,
+    ) -> Result<(), AllocError>
+        requires { self.old.rest.items ≡ [] }
+        ensures { OnOk result (IsReadBehind check text.now self.old self.new) }
+    {
+        let (front, rest) = whole_lines(text);
+        self.found.read_lines(rt, alloc, front, check)?;
+        self.rest.extend_from_slice(rest)?;
+        Ok(())
+    }
+
+    /// What the lines of the text that was read say, the last line being the rest where there is one; or the
+    /// first refusal.
+    #[tactic(auto, using(crate::proofs::Parted::told_by, crate::proofs::Parted::fault_by, crate::proofs::Parted::fault_before, crate::proofs::Parted::fault_of_memory))]
+    pub(crate) fn into_columns(
+        self,
+        rt: &(impl Threads + Sync),
+        alloc: Global,
+        check: bool,
+    ) -> Result<Columns, GraphError>
+        ensures ok { IfOk result (IsToldBy check self) }
+        ensures err { IfErr result (IsFaultBy check self) }
+    {
+        let Progress { found, rest } = self;
+        match found.refused {
+            Some(fault) => Err(fault),
+            None => {
+                let mut found = found;
+                found.read_lines(rt, alloc, rest.as_slice(), check)?;
+                found.into_columns()
+            }
+        }
+    }
+}

@@ -1,0 +1,90 @@
+//! The reader of a bundle whose text comes in parts.
+
+ghost use Rattle.std.specs.Prelude.{◌≡◌, ◌++◌, [], IfOk, IfErr, MatchResult, OnOk};
+ghost use Rattle.nd_bundle.specs.declared.fault.GraphError.{GraphError};
+ghost use Rattle.nd_bundle.specs.Bundles.{IsBundle, IsFirstFault};
+ghost use Rattle.nd_graph.specs.Graphs.{Nodes};
+
+use crate::fault::GraphError;
+use crate::progress::Progress;
+use crate::so_far::SoFar;
+use crate::whole::graph_side_by_side;
+use nd_graph::Graph;
+use std::alloc::{AllocError, Global};
+use std::marker::Model;
+use std::thread::Threads;
+
+/// A reader of a bundle whose text comes in parts, which may be cut anywhere. No part is kept once it was read,
+/// but for a line that hasn't ended. Its answer is that of `read_bundle` for the whole text, unless one of the
+/// two wants memory (`laws::one_bundle`). Contracts see whether paths are checked, and the text so far.
+#[derive(Drop)]
+pub struct BundleReader {
+    alloc: Global,
+    check: bool,
+    progress: Progress,
+    so_far: SoFar,
+}
+
+impl Model for BundleReader {
+    ghost use Rattle.nd_bundle.specs.Reading.{Reading};
+
+    ghost Value = { Reading };
+
+    ghost use Rattle.nd_bundle.specs.Parts.{IsReading};
+
+    ghost view = { λ r. record { check = r.check; text = r.so_far.bytes } };
+
+    ghost invariant = { λ r. IsReading r.check r.so_far.bytes r.progress };
+}
+
+impl BundleReader {
+    /// A reader that has read nothing. With `check_paths` each line's path has to be the one that its name and
+    /// text have. It takes no memory.
+    pub fn new(alloc: Global, check_paths: bool) -> BundleReader
+        ensures check { result.check ≡ check_paths }
+        ensures text { result.text ≡ [] }
+    {
+        BundleReader {
+            alloc,
+            check: check_paths,
+            progress: Progress::new(alloc),
+            so_far: SoFar::new(),
+        }
+    }
+
+    /// Reads on: `text` stands behind what was read. The lines that end in it are read by many threads where
+    /// they have 128 KiB or more. Behind the first line that is refused nothing is read any more: `finish`
+    /// tells of it.
+    ///
+    /// Refuses where an allocation is refused. Nothing is read any more then, and `finish` answers `Memory`.
+    pub fn feed(&mut self, rt: &(impl Threads + Sync), text: &[u8]) -> Result<(), AllocError>
+        ensures check { self.new.check ≡ self.old.check }
+        ensures text { OnOk result (self.new.text ≡ self.old.text ++ text.now) }
+    {
+        let read = self.progress.read_on(rt, self.alloc, text, self.check);
+        self.so_far = self.so_far.with(text);
+        read
+    }
+
+    /// The graph of the bundle that was read. What stands behind the last newline is its last line.
+    ///
+    /// Refuses with the first of the refusals 1 to 6 of `GraphError` on the first line that has one,
+    /// else with the first of 7 to 11 over the whole, and with `Memory` (12) where an allocation is
+    /// refused.
+    #[tactic(auto, using(crate::proofs::Told::say_sized, crate::proofs::Told::say_paired, crate::proofs::Told::say_rising, crate::proofs::Told::is_bundle, crate::proofs::Told::first_fault))]
+    pub fn finish(self, rt: &(impl Threads + Sync)) -> Result<Graph, GraphError>
+        ensures ok { IfOk result (λ graph. IsBundle self.check self.text graph) }
+        ensures refused { IfErr result (λ fault. IsFirstFault self.check self.text fault) }
+        ensures exactly { (graph : Nodes) → IsBundle self.check self.text graph
+            → MatchResult result (λ g. g ≡ graph) (λ e. e ≡ GraphError.Memory) }
+    {
+        let BundleReader {
+            alloc,
+            check,
+            progress,
+            ..
+        } = self;
+        let columns = progress.into_columns(rt, alloc, check)?;
+        graph_side_by_side(rt, alloc, columns)
+    }
+}
