@@ -7,5 +7,6 @@ mod explaining;
 mod holdings;
 mod lines;
 mod long_bundles;
+mod parts;
 mod reading;
 mod shapes;

@@ -9,7 +9,7 @@ use std::alloc::{AllocError, Global};
 use std::thread::Threads;
 
 /// A line with an output of which the path isn't known.
-const UNKNOWN: &[u8] =
+pub(crate) const UNKNOWN: &[u8] =
     b"/nix/store/00000000000000000000000000000000-n0.drv Derive([(\"out\",\"\",\"\",\"\")],[],[],\"x86_64-linux\",\"/bin/sh\",[],[])\n";
 
 /// The odd line at this place, if there is one.
@@ -23,7 +23,11 @@ fn odd_line<'a>(odd: &[(usize, &'a [u8])], number: usize) -> Option<&'a [u8]> {
 }
 
 /// So many lines, plain but for the odd ones at their places.
-fn many(alloc: Global, len: usize, odd: &[(usize, &[u8])]) -> Result<Vec<u8>, AllocError> {
+pub(crate) fn many(
+    alloc: Global,
+    len: usize,
+    odd: &[(usize, &[u8])],
+) -> Result<Vec<u8>, AllocError> {
     let mut text = Vec::new(alloc);
     for number in 0..len {
         match odd_line(odd, number) {
