@@ -5,6 +5,7 @@ pub mod ClassReplies
 pub mod SharedClasses
 pub mod Paths
 pub mod Asked
+pub mod Blocks
 pub mod Statuses
 pub mod Names
 pub mod SlotLines

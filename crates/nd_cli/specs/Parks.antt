@@ -36,6 +36,12 @@ IsBundleFault options text (TooLarge place) = (place ≡ Place.Drvs) × (limit <
 IsBundleFault options text Memory = length text ≤ limit
 IsBundleFault options text _ = ⊥
 
+-- what a refusal of a bundle is told as
+abbrev pub IsToldAs : GraphError → CliFault → Type 0
+IsToldAs refusal (Drvs e) = (e ≡ refusal) × (refusal ≢ GraphError.Memory)
+IsToldAs refusal Memory = refusal ≡ GraphError.Memory
+IsToldAs refusal _ = ⊥
+
 -- the text of the builders list is within the limit, and these are its machines
 pub record HasBuilders (options : ParkOptions) (machines : List Builder) : Type 0 where
   pub within : length options.builders ≤ limit

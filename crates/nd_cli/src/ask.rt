@@ -8,9 +8,8 @@ ghost use Rattle.nd_cli.specs.Inputs.{is_write_fault, is_read_failure, is_write_
 
 use crate::asks::write_replies;
 use crate::fault::CliFault;
-use crate::input::read_input;
 use crate::options::ParkOptions;
-use crate::park::read_park;
+use crate::park::take_park;
 use nd_devices::Told;
 use std::alloc::Global;
 use std::io::{Read, Write};
@@ -44,9 +43,7 @@ pub fn ask_engine<R: Read, W: Write>(
     ensures untouched { IfErr result (λ e. is_write_fault e ≡ false → output.new ≡ output.old) }
     ensures partly { IfErr result (LeavesAsk options.now R.remaining input.old input.new W.contents output.old output.new) }
 {
-    let text = read_input(alloc, input)?;
-    let park = read_park(rt, alloc, options, text.as_slice())?;
-    drop(text);
+    let park = take_park(rt, alloc, options, input)?;
     let written = write_replies(
         alloc,
         &park.machines,

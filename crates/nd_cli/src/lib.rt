@@ -4,6 +4,7 @@
 
 mod ask;
 mod asks;
+mod blocks;
 mod class_marks;
 mod classes;
 mod fault;
@@ -19,5 +20,5 @@ pub use fault::{CliFault, DerivationError, HistoryTextError, Place};
 pub use input::{LIMIT, read_input};
 pub use listing::park_engine;
 pub use options::ParkOptions;
-pub use park::{Park, read_park};
+pub use park::{Park, read_park, take_park};
 pub use path::path_engine;

@@ -1,21 +1,26 @@
 //! What the command line and the bundle describe: the graph, the local machine and the builders, and
 //! the references of paths.
 
-ghost use Rattle.std.specs.Prelude.{◌≡◌, ◌≤◌, ℕ, List, length, IfOk, IfErr};
+ghost use Rattle.std.specs.Prelude.{◌≡◌, ◌≤◌, ◌||◌, ℕ, List, false, length, IfOk, IfErr};
 ghost use Rattle.nd_machines.specs.Builders.{Builder};
 ghost use Rattle.nd_graph.specs.Graphs.{Nodes};
-ghost use Rattle.nd_cli.specs.Inputs.{OkUnlessMemory};
-ghost use Rattle.nd_cli.specs.Parks.{AnswersAcceptedPark, HasGraph, HasBuilders, HasInfo, HasPark, IsBundleFault, IsBuildersFault, IsInfoFault, IsParkFault, local_of};
+ghost use Rattle.nd_cli.specs.Asked.{IsAskFault, ReadsPark};
+ghost use Rattle.nd_cli.specs.Blocks.{AnswersKnownPark};
+ghost use Rattle.nd_cli.specs.Inputs.{OkUnlessMemory, is_read_failure};
+ghost use Rattle.nd_cli.specs.Parks.{AnswersAcceptedPark, HasGraph, HasBuilders, HasInfo, HasPark, IsAccepted, IsBundleFault, IsBuildersFault, IsInfoFault, IsParkFault, IsToldAs, local_of};
 
+use crate::blocks::take_graph;
 use crate::fault::{CliFault, Place};
 use crate::input::LIMIT;
 use crate::options::ParkOptions;
 use nd_bundle::{GraphError, read_bundle};
 use nd_closure::{InfoError, RefTable, parse_info};
+use nd_devices::Told;
 use nd_eligible::Local;
 use nd_graph::Graph;
 use nd_machines::{FeatureSet, Machine, MachineError, parse_builders};
 use std::alloc::{AllocError, Global};
+use std::io::Read;
 use std::thread::Threads;
 
 /// What a command over a bundle was given, once all of it is accepted.
@@ -49,6 +54,44 @@ pub fn read_park(
     ensures exactly { AnswersAcceptedPark options.now text.now result }
 {
     let graph = read_graph(rt, alloc, options, text)?;
+    park_over(alloc, options, graph)
+}
+
+/// What the bundle on the input and the options describe, as [`read_park`] of its text. The input is read to its
+/// end, or to one byte past [`LIMIT`], in blocks: its text is never in memory whole.
+///
+/// The first refusal in this order is answered: `Read`; `TooLarge` or `Drvs` for the bundle; `TooLarge` or
+/// `Builders` for the builders list; `TooLarge` or `Info` for the info text. `Memory` may come at any point. The
+/// reader is marked exactly at `Read`. Where a reader that is known to have a whole bundle left has one that is
+/// accepted, with the other inputs, nothing but `Read` and `Memory` comes.
+pub fn take_park<R: Read>(
+    rt: &(impl Threads + Sync),
+    alloc: Global,
+    options: &ParkOptions,
+    input: &mut Told<R>,
+) -> Result<Park, CliFault>
+    ensures read { IfOk result (λ park. ReadsPark options.now (R.remaining input.old.device) (R.remaining input.new.device) park.graph park.machines.items park.info.entries) }
+    ensures local { IfOk result (λ park. park.local ≡ local_of options.now) }
+    ensures few { IfOk result (λ park. length park.machines.items ≤ 1024) }
+    ensures fault { IfErr result (IsAskFault options.now R.remaining input.old input.new false) }
+    ensures mark { input.new.is_marked ≡ (input.old.is_marked || is_read_failure result) }
+    ensures exactly { AnswersKnownPark options.now (R.remaining input.old.device) result }
+{
+    let graph = take_graph(rt, alloc, options, input)?;
+    park_over(alloc, options, graph)
+}
+
+/// The park of the options with the graph of its bundle, whatever text it was read from.
+///
+/// The first refusal in this order is answered: `TooLarge` or `Builders` for the builders list, `TooLarge` or
+/// `Info` for the info text. `Memory` may come at any point.
+fn park_over(alloc: Global, options: &ParkOptions, graph: Graph) -> Result<Park, CliFault>
+    ensures read { (text : List ℕ) → HasGraph options.now text graph → IfOk result (λ park. HasPark options.now text park.graph park.machines.items park.info.entries) }
+    ensures local { IfOk result (λ park. park.local ≡ local_of options.now) }
+    ensures few { IfOk result (λ park. length park.machines.items ≤ 1024) }
+    ensures refused { (text : List ℕ) → IsAccepted options.now text → IfErr result (IsParkFault options.now text) }
+    ensures exactly { (text : List ℕ) → ((nodes : Nodes) → HasGraph options.now text nodes → graph ≡ nodes) → AnswersAcceptedPark options.now text result }
+{
     // For the proof: what was read before a refusal is let go by calls, and not in each goal of that exit.
     let machines = match read_builders(alloc, options) {
         Ok(machines) => machines,
@@ -99,8 +142,17 @@ fn read_graph(
     }
     match read_bundle(rt, alloc, text, options.check_paths) {
         Ok(graph) => Ok(graph),
-        Err(GraphError::Memory) => Err(CliFault::Memory),
-        Err(refusal) => Err(CliFault::Drvs(refusal)),
+        Err(refusal) => Err(bundle_fault(refusal)),
+    }
+}
+
+/// What a refusal of a bundle is told as: `Memory` is no refusal of a bundle.
+pub(crate) fn bundle_fault(refusal: GraphError) -> CliFault
+    ensures { IsToldAs refusal result }
+{
+    match refusal {
+        GraphError::Memory => CliFault::Memory,
+        refusal => CliFault::Drvs(refusal),
     }
 }
 

@@ -1,0 +1,41 @@
+-- A bundle that is read from its input in blocks. The clauses of `take_park` cite `AnswersKnownPark`; the rest serves private ones.
+use Rattle.std.specs.Prelude.{◌≡◌, ℕ, ◌<◌, ◌≤◌, List, ◌++◌, length, Option, Some, Result, MatchResult}
+use Rattle.std.specs.Io.KnownBytes.{Consumes, IsAtEnd}
+use Rattle.nd_machines.specs.Builders.{Builder}
+use Rattle.nd_graph.specs.Graphs.{Nodes}
+use Rattle.nd_cli.specs.Inputs.{ReadsWhole}
+use Rattle.nd_cli.specs.Parks.{AreSameParts, HasGraph, HasPark}
+use Rattle.nd_cli.specs.Statuses.{exit_status}
+use Rattle.nd_cli.specs.declared.options.ParkOptions.{ParkOptions}
+use Rattle.nd_cli.specs.declared.park.Park.{Park}
+use Rattle.nd_cli.specs.declared.fault.CliFault.{CliFault}
+
+-- at most so many bytes were read, and fewer only where the input is then at its end
+pub record ReadsPart (most : ℕ) (old new : Option (List ℕ)) (bytes : List ℕ) : Type 0 where
+  pub read : Consumes old new bytes
+  pub bound : length bytes ≤ most
+  pub whole : length bytes < most → IsAtEnd new
+
+-- .. and these, so many, stand behind the text that was there
+pub record FeedsPart (most : ℕ) (old new : Option (List ℕ)) (before after : List ℕ) (count : ℕ) : Type 0 where
+  pub bytes : List ℕ
+  pub part : ReadsPart most old new bytes
+  pub fed : after ≡ before ++ bytes
+  pub counted : count ≡ length bytes
+
+-- the whole input, as the bundle of this graph
+pub record ReadsGraph (options : ParkOptions) (unread left : Option (List ℕ)) (graph : Nodes) : Type 0 where
+  pub text : List ℕ
+  pub read : ReadsWhole unread left text
+  pub has : HasGraph options text graph
+
+-- where an input that is known is the bundle of a graph, the answer is this graph, unless the reader or the memory fails
+abbrev pub AnswersKnownGraph : ParkOptions → Option (List ℕ) → Result Nodes CliFault → Type 0
+AnswersKnownGraph options unread answer =
+    (text : List ℕ) (graph : Nodes) → unread ≡ Some text → HasGraph options text graph → MatchResult answer (λ read. read ≡ graph) (λ e. exit_status e ≡ 5)
+
+-- where an input that is known is accepted, with the other inputs, the answer is their park, unless the reader or the memory fails
+abbrev pub AnswersKnownPark : ParkOptions → Option (List ℕ) → Result Park CliFault → Type 0
+AnswersKnownPark options unread answer =
+    (text : List ℕ) (graph : Nodes) (machines : List Builder) (info : List (List ℕ × List (List ℕ))) → unread ≡ Some text → HasPark options text graph machines info
+    → MatchResult answer (λ park. AreSameParts park.graph graph park.machines.items machines park.info.entries info) (λ e. exit_status e ≡ 5)

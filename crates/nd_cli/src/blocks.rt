@@ -1,0 +1,116 @@
+//! The graph of a bundle that is read from its input in blocks, so that its text is never in memory whole.
+
+ghost use Rattle.std.specs.Prelude.{◌≡◌, ◌<◌, ◌||◌, ℕ, List, [], false, length, IfOk, IfErr};
+ghost use Rattle.nd_graph.specs.Graphs.{Nodes};
+ghost use Rattle.nd_cli.specs.Asked.{IsAskFault};
+ghost use Rattle.nd_cli.specs.Blocks.{AnswersKnownGraph, FeedsPart, ReadsGraph};
+ghost use Rattle.nd_cli.specs.Inputs.{IsReadFault, OkUnlessMemory, ReadsWhole, is_read_failure};
+ghost use Rattle.nd_cli.specs.Parks.{HasGraph, IsBundleFault};
+
+use crate::fault::{CliFault, Place};
+use crate::input::{LIMIT, read_part};
+use crate::options::ParkOptions;
+use crate::park::bundle_fault;
+use nd_bundle::BundleReader;
+use nd_devices::Told;
+use nd_graph::Graph;
+use std::alloc::Global;
+use std::io::Read;
+use std::thread::Threads;
+
+/// How many bytes of a bundle are read at once: lines enough for many threads, and few enough that an allocator
+/// keeps the memory of a block for the next one, and doesn't ask the system for its pages again.
+const BLOCK: usize = 4_194_304;
+
+/// The graph of the bundle on the input, which is read to its end, or to one byte past [`LIMIT`].
+///
+/// `Read`: the reader refused a read, and is then marked. `TooLarge`: the bundle has more than [`LIMIT`] bytes.
+/// `Drvs`: it is refused. `Memory`.
+pub(crate) fn take_graph<R: Read>(
+    rt: &(impl Threads + Sync),
+    alloc: Global,
+    options: &ParkOptions,
+    input: &mut Told<R>,
+) -> Result<Graph, CliFault>
+    ensures read { IfOk result (ReadsGraph options.now (R.remaining input.old.device) (R.remaining input.new.device)) }
+    ensures fault { IfErr result (IsAskFault options.now R.remaining input.old input.new false) }
+    ensures mark { input.new.is_marked ≡ (input.old.is_marked || is_read_failure result) }
+    ensures exactly { AnswersKnownGraph options.now (R.remaining input.old.device) result }
+{
+    let mut reader = BundleReader::new(alloc, options.check_paths);
+    let count = feed_input(rt, alloc, input, &mut reader)?;
+    graph_of_blocks(rt, options, reader, count)
+}
+
+/// The graph of the bundle that the reader was fed, which has `count` bytes.
+///
+/// `TooLarge`: these are more than [`LIMIT`]. `Drvs`: it is refused. `Memory`.
+fn graph_of_blocks(
+    rt: &(impl Threads + Sync),
+    options: &ParkOptions,
+    reader: BundleReader,
+    count: usize,
+) -> Result<Graph, CliFault>
+    requires check { reader.check ≡ options.now.check_paths }
+    requires counted { count ≡ length reader.text }
+    ensures read { IfOk result (HasGraph options.now reader.text) }
+    ensures refused { IfErr result (IsBundleFault options.now reader.text) }
+    ensures exactly { (graph : Nodes) → HasGraph options.now reader.text graph → OkUnlessMemory result (λ read. read ≡ graph) }
+{
+    if count > LIMIT {
+        return Err(CliFault::TooLarge(Place::Drvs));
+    }
+    match reader.finish(rt) {
+        Ok(graph) => Ok(graph),
+        Err(refusal) => Err(bundle_fault(refusal)),
+    }
+}
+
+/// Feeds the reader the whole input, or [`LIMIT`] bytes and one more, and answers how many these are.
+///
+/// `Read`: the device refused a read, and is then marked. `Memory`.
+fn feed_input<R: Read>(
+    rt: &(impl Threads + Sync),
+    alloc: Global,
+    input: &mut Told<R>,
+    reader: &mut BundleReader,
+) -> Result<usize, CliFault>
+    requires begun { reader.old.text ≡ [] }
+    ensures check { reader.new.check ≡ reader.old.check }
+    ensures read { IfOk result (λ _. ReadsWhole (R.remaining input.old.device) (R.remaining input.new.device) reader.new.text) }
+    ensures counted { IfOk result (λ count. count ≡ length reader.new.text) }
+    ensures fault { IfErr result (IsReadFault input.new.is_marked) }
+    ensures mark { input.new.is_marked ≡ (input.old.is_marked || is_read_failure result) }
+{
+    let mut count = 0;
+    while count <= LIMIT {
+        let most = BLOCK.min(LIMIT + 1 - count);
+        let fed = feed_block(rt, alloc, most, input, reader)?;
+        count += fed;
+        if fed < most {
+            return Ok(count);
+        }
+    }
+    Ok(count)
+}
+
+/// Feeds the reader `most` bytes of the input, or fewer where it ends before, and answers how many.
+///
+/// `Read`: the device refused a read, and is then marked. `Memory`.
+fn feed_block<R: Read>(
+    rt: &(impl Threads + Sync),
+    alloc: Global,
+    most: usize,
+    input: &mut Told<R>,
+    reader: &mut BundleReader,
+) -> Result<usize, CliFault>
+    requires some { 0 < most }
+    ensures check { reader.new.check ≡ reader.old.check }
+    ensures read { IfOk result (FeedsPart most (R.remaining input.old.device) (R.remaining input.new.device) reader.old.text reader.new.text) }
+    ensures fault { IfErr result (IsReadFault input.new.is_marked) }
+    ensures mark { input.new.is_marked ≡ (input.old.is_marked || is_read_failure result) }
+{
+    let block = read_part(alloc, most, input)?;
+    reader.feed(rt, block.as_slice())?;
+    Ok(block.len())
+}
