@@ -1,13 +1,16 @@
 -- What an input was refused for, by the readers of a bundle and of a park.
-use Rattle.std.proofs.Common.{◌≡◌, ◌⊎◌, ℕ, Bool, true, false, List, Option, Result, Ok, Err, IfErr, MatchResult, refl, ap, inl, inr}
+use Rattle.std.proofs.Common.{◌≡◌, ◌⊎◌, ℕ, Bool, true, false, List, Option, Result, Ok, Err, IfErr, MatchResult, refl, sym, ap, inl, inr, true≢false}
 use Rattle.nd_devices.specs.Watched.{Watched}
 use Rattle.nd_bundle.specs.declared.fault.GraphError.{GraphError}
+use Rattle.nd_closure.specs.declared.info_error.InfoError.{InfoError}
+use Rattle.nd_machines.specs.declared.machine_error.MachineError.{MachineError}
 use Rattle.nd_cli.specs.Asked.{RefusesPark, IsAskFault}
-use Rattle.nd_cli.specs.Inputs.{ReadsWhole, IsReadFault, OkUnlessMemory, is_read_fault, is_read_failure}
+use Rattle.nd_cli.specs.Inputs.{ReadsWhole, OkUnlessMemory, is_read_fault, is_read_failure}
 use Rattle.nd_cli.specs.Parks.{IsParkFault, IsToldAs}
 use Rattle.nd_cli.specs.Statuses.{exit_status}
 use Rattle.nd_cli.specs.declared.options.ParkOptions.{ParkOptions}
 use Rattle.nd_cli.specs.declared.fault.CliFault.{CliFault}
+use Rattle.nd_cli.specs.declared.fault.Place.{Place}
 use Rattle.nd_cli.specs.declared.fault.CliFault.TheVariants.{Drvs, Builders, Info, TooLarge, Read, Write, Memory}
 
 -- want of memory is told as itself
@@ -41,24 +44,21 @@ park_refused options remaining reader reader_after writer_marked text (TooLarge 
 park_refused options remaining reader reader_after writer_marked text Memory read fault = tt
 park_refused options remaining reader reader_after writer_marked text _ read fault = neither fault
 
--- the input wasn't read
-pub input_refused : {R : Type 0} (options : ParkOptions) (remaining : R → Option (List ℕ)) (reader reader_after : Watched R) (writer_marked : Bool) (e : CliFault) → IsReadFault reader_after.is_marked e
-    → IsAskFault options remaining reader reader_after writer_marked e
-input_refused options remaining reader reader_after writer_marked Read fault = fault
-input_refused options remaining reader reader_after writer_marked Memory fault = tt
-input_refused options remaining reader reader_after writer_marked _ fault = absurd fault
-
--- what holds of a refused park, of a refused read and of want of memory holds of why there is no park
-pub by_ask : {R : Type 0} (P : CliFault → Type 0) (options : ParkOptions) (remaining : R → Option (List ℕ)) (reader reader_after : Watched R) (e : CliFault) → IsAskFault options remaining reader reader_after false e
-    → ((f : CliFault) → RefusesPark options (remaining reader.device) (remaining reader_after.device) f → P f) → (reader_after.is_marked ≡ true → P Read) → P Memory → P e
-by_ask P options remaining reader reader_after (Drvs f) fault park read memory = park (Drvs f) fault
-by_ask P options remaining reader reader_after (Builders f) fault park read memory = park (Builders f) fault
-by_ask P options remaining reader reader_after (Info f) fault park read memory = park (Info f) fault
-by_ask P options remaining reader reader_after (TooLarge place) fault park read memory = park (TooLarge place) fault
-by_ask P options remaining reader reader_after Read fault park read memory = read fault
-by_ask P options remaining reader reader_after Write fault park read memory = absurd (let no : false ≡ true = fault in cc)
-by_ask P options remaining reader reader_after Memory fault park read memory = memory
-by_ask P options remaining reader reader_after _ fault park read memory = absurd fault
+-- what holds of each refusal of a park, of a refused read and of want of memory holds of why there is no park
+pub by_park : {R : Type 0} (P : CliFault → Type 0) (options : ParkOptions) (remaining : R → Option (List ℕ)) (reader reader_after : Watched R) (e : CliFault) → IsAskFault options remaining reader reader_after false e
+    → ((f : GraphError) → RefusesPark options (remaining reader.device) (remaining reader_after.device) (Drvs f) → P (Drvs f))
+    → ((f : MachineError) → RefusesPark options (remaining reader.device) (remaining reader_after.device) (Builders f) → P (Builders f))
+    → ((f : InfoError) → RefusesPark options (remaining reader.device) (remaining reader_after.device) (Info f) → P (Info f))
+    → ((place : Place) → RefusesPark options (remaining reader.device) (remaining reader_after.device) (TooLarge place) → P (TooLarge place))
+    → (reader_after.is_marked ≡ true → P Read) → P Memory → P e
+by_park P options remaining reader reader_after (Drvs f) fault drvs builders info large read memory = drvs f fault
+by_park P options remaining reader reader_after (Builders f) fault drvs builders info large read memory = builders f fault
+by_park P options remaining reader reader_after (Info f) fault drvs builders info large read memory = info f fault
+by_park P options remaining reader reader_after (TooLarge place) fault drvs builders info large read memory = large place fault
+by_park P options remaining reader reader_after Read fault drvs builders info large read memory = read fault
+by_park P options remaining reader reader_after Write fault drvs builders info large read memory = absurd (true≢false (sym fault))
+by_park P options remaining reader reader_after Memory fault drvs builders info large read memory = memory
+by_park P options remaining reader reader_after _ fault drvs builders info large read memory = absurd fault
 
 -- what is so unless memory runs out is so unless the reader or the memory fails
 pub known_answer : {A : Type 0} (answer : Result A CliFault) (IsSo : A → Type 0) → OkUnlessMemory answer IsSo → MatchResult answer IsSo (λ e. exit_status e ≡ 5)

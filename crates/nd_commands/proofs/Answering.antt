@@ -15,22 +15,19 @@ use Rattle.nd_history.specs.Legal.{IsLegal}
 use Rattle.nd_ledger.specs.Worlds.{World}
 use Rattle.nd_report.specs.Audits.{IsFirstIllegal}
 use Rattle.nd_script.specs.declared.command.Command.{Command}
-use Rattle.nd_cli.specs.Inputs.{ReadsWhole, IsReadFault, is_write_fault, is_write_failure}
-use Rattle.nd_cli.specs.Parks.{AreSameParts, HasPark, IsParkFault, local_of}
+use Rattle.nd_cli.specs.Asked.{IsAskFault, ReadsPark}
+use Rattle.nd_cli.specs.Inputs.{is_read_fault, is_read_failure, is_write_fault, is_write_failure}
+use Rattle.nd_cli.specs.Parks.{AreSameParts, HasPark, local_of}
 use Rattle.nd_cli.specs.Statuses.{exit_status}
+use Rattle.nd_cli.proofs.Refused.{by_park}
 use Rattle.nd_cli.specs.declared.options.ParkOptions.{ParkOptions}
-use Rattle.nd_bundle.specs.declared.fault.GraphError.{GraphError}
-use Rattle.nd_closure.specs.declared.info_error.InfoError.{InfoError}
-use Rattle.nd_machines.specs.declared.machine_error.MachineError.{MachineError}
 use Rattle.nd_cli.specs.declared.fault.CliFault.{CliFault}
-use Rattle.nd_cli.specs.declared.fault.Place.{Place}
 use Rattle.nd_cli.specs.declared.fault.CliFault.TheVariants.{Derivation, Drvs, Builders, Info, Script, Stand, History, TooLarge, TooManySlots, Read, Write, Memory, Thread, Receipts}
 use Rattle.nd_history.specs.Standing.{drvs_in}
 use Rattle.nd_sim.specs.declared.fault.SimFault.{SimFault}
 use Rattle.nd_sim.specs.RunParts.{IsSimulationPart}
 use Rattle.nd_sim.specs.Written.{WritesSimulation, WritesSimulationPart}
 use Rattle.nd_commands.specs.Opened.{inputs_of, HasInputs, IsOpened, ReadsInputs}
-use Rattle.nd_commands.specs.Scripts.{HasScript, IsScriptFault}
 use Rattle.nd_commands.specs.Simulated.{IsSimGiven, AnswersSim, AnswersSimInPart, IsSimFault}
 use Rattle.nd_commands.specs.Audited.{HasHistory, IsHistoryFault, legal_line, illegal_line, WritesVerdict, WritesVerdictPart, LeavesVerdict, AnswersAudit, AnswersAuditInPart, IsAuditFault, IsVerdictFault}
 
@@ -114,71 +111,20 @@ opened options text graph machines local info dispatch has is_local made empty =
   empty = empty;
 }
 
-pub inputs_read : (options : ParkOptions) (unread left : Option (List ℕ)) (text : List ℕ) (dispatch : World) → ReadsWhole unread left text → IsOpened options text dispatch
-    → ReadsInputs options unread left dispatch.inputs
-inputs_read options unread left text dispatch read opened = record { text = text; read = read; has = opened.inputs }
-
-pub park_read : (options : ParkOptions) (unread left : Option (List ℕ)) (text : List ℕ) (graph : Nodes) (machines : List Builder) (local : Settings) (info : List (List ℕ × List (List ℕ))) → ReadsWhole unread left text
-    → HasPark options text graph machines info → local ≡ local_of options → ReadsInputs options unread left (inputs_of options graph machines local info)
-park_read options unread left text graph machines local info read has is_local = record {
-  text = text;
-  read = read;
-  has = record { park = has; local = is_local; keep_going = refl };
+pub park_read : (options : ParkOptions) (unread left : Option (List ℕ)) (graph : Nodes) (machines : List Builder) (local : Settings) (info : List (List ℕ × List (List ℕ))) → ReadsPark options unread left graph machines info
+    → local ≡ local_of options → ReadsInputs options unread left (inputs_of options graph machines local info)
+park_read options unread left graph machines local info given is_local = record {
+  text = given.text;
+  read = given.read;
+  has = record { park = given.has; local = is_local; keep_going = refl };
 }
 
--- ---- by the faults that a reading has
-
--- what holds of a refused read and of want of memory holds of what an input wasn't read for
-by_read : (P : CliFault → Type 0) (marked : Bool) (e : CliFault) → IsReadFault marked e → (marked ≡ true → P Read) → P Memory → P e
-by_read P marked Read fault read memory = read fault
-by_read P marked Memory fault read memory = memory
-by_read P marked (Derivation e) fault read memory = absurd fault
-by_read P marked (Drvs e) fault read memory = absurd fault
-by_read P marked (Builders e) fault read memory = absurd fault
-by_read P marked (Info e) fault read memory = absurd fault
-by_read P marked (Script e) fault read memory = absurd fault
-by_read P marked (Stand e) fault read memory = absurd fault
-by_read P marked (History e) fault read memory = absurd fault
-by_read P marked (TooLarge place) fault read memory = absurd fault
-by_read P marked Write fault read memory = absurd fault
-by_read P marked TooManySlots fault read memory = absurd fault
-by_read P marked Thread fault read memory = absurd fault
-by_read P marked Receipts fault read memory = absurd fault
-
--- none of the three readers of a park
-neither : {A B C X : Type 0} → ⊥ ⊎ ((A × ⊥) ⊎ (B × C × ⊥)) → X
-neither (inl a) = absurd a
-neither (inr (inl b)) = absurd b.1
-neither (inr (inr c)) = absurd c.2
-
--- what holds of each refusal of a park and of want of memory holds of what a park was refused for
-by_park : (P : CliFault → Type 0) (options : ParkOptions) (text : List ℕ) (e : CliFault) → IsParkFault options text e
-    → ((f : GraphError) → IsParkFault options text (Drvs f) → P (Drvs f)) → ((f : MachineError) → IsParkFault options text (Builders f) → P (Builders f))
-    → ((f : InfoError) → IsParkFault options text (Info f) → P (Info f)) → ((place : Place) → IsParkFault options text (TooLarge place) → P (TooLarge place)) → P Memory → P e
-by_park P options text (Drvs f) fault drvs builders info large memory = drvs f fault
-by_park P options text (Builders f) fault drvs builders info large memory = builders f fault
-by_park P options text (Info f) fault drvs builders info large memory = info f fault
-by_park P options text (TooLarge place) fault drvs builders info large memory = large place fault
-by_park P options text Memory fault drvs builders info large memory = memory
-by_park P options text (Derivation f) fault drvs builders info large memory = neither fault
-by_park P options text (Script f) fault drvs builders info large memory = neither fault
-by_park P options text (Stand f) fault drvs builders info large memory = neither fault
-by_park P options text (History f) fault drvs builders info large memory = neither fault
-by_park P options text Read fault drvs builders info large memory = neither fault
-by_park P options text Write fault drvs builders info large memory = neither fault
-by_park P options text TooManySlots fault drvs builders info large memory = neither fault
-by_park P options text Thread fault drvs builders info large memory = neither fault
-by_park P options text Receipts fault drvs builders info large memory = neither fault
+-- a dispatch over a park isn't the reader's fault where it isn't made
+pub unmade : {A : Type 0} (answer : Result A CliFault) → IfErr answer (λ e. e ≡ Memory) → is_read_failure answer ≡ false
+unmade (Ok x) memory = refl
+unmade (Err e) memory = ap is_read_fault memory
 
 -- ---- a simulation
-
-pub sim_given : {R : Type 0} (options : ParkOptions) (script : List ℕ) (remaining : R → Option (List ℕ)) (reader reader_after : Watched R) (text : List ℕ) (dispatch : World) (commands : List Command) → ReadsWhole (remaining reader.device) (remaining reader_after.device) text
-    → IsOpened options text dispatch → HasScript dispatch.inputs script commands → IsSimGiven options script remaining reader reader_after dispatch commands
-sim_given options script remaining reader reader_after text dispatch commands read opened says = record {
-  reads = inputs_read options (remaining reader.device) (remaining reader_after.device) text dispatch read opened;
-  empty = opened.empty;
-  says = says;
-}
 
 pub sim_answered : {R W : Type 0} (options : ParkOptions) (script : List ℕ) (status : ℕ) (remaining : R → Option (List ℕ)) (reader reader_after : Watched R) (contents : W → Option (List ℕ)) (writer writer_after : Watched W) (dispatch : World) (commands : List Command)
     → IsSimGiven options script remaining reader reader_after dispatch commands → WritesSimulation dispatch.inputs commands status (contents writer.device) (contents writer_after.device)
@@ -201,43 +147,12 @@ sim_begun options script remaining reader reader_after contents writer writer_af
   begun = begun;
 })
 
--- the input wasn't read
-pub sim_unread : {R : Type 0} (options : ParkOptions) (script : List ℕ) (remaining : R → Option (List ℕ)) (reader reader_after : Watched R) (writer_marked : Bool) (e : CliFault) → IsReadFault reader_after.is_marked e
+-- there is no park to simulate on
+pub sim_unopened : {R : Type 0} (options : ParkOptions) (script : List ℕ) (remaining : R → Option (List ℕ)) (reader reader_after : Watched R) (writer_marked : Bool) (e : CliFault) → IsAskFault options remaining reader reader_after false e
     → IsSimFault options script remaining reader reader_after writer_marked e
-sim_unread options script remaining reader reader_after writer_marked e fault =
-    by_read (IsSimFault options script remaining reader reader_after writer_marked) reader_after.is_marked e fault (λ marked. marked) tt
-
-pub sim_park_refused : {R : Type 0} (options : ParkOptions) (script : List ℕ) (remaining : R → Option (List ℕ)) (reader reader_after : Watched R) (writer_marked : Bool) (text : List ℕ) (e : CliFault) → ReadsWhole (remaining reader.device) (remaining reader_after.device) text
-    → IsParkFault options text e → IsSimFault options script remaining reader reader_after writer_marked e
-sim_park_refused options script remaining reader reader_after writer_marked text e read fault =
-    by_park (IsSimFault options script remaining reader reader_after writer_marked) options text e fault (λ f refused. record { text = text; read = read; refused = refused })
-    (λ f refused. record { text = text; read = read; refused = refused }) (λ f refused. record { text = text; read = read; refused = refused })
-    (λ place refused. inl (record { text = text; read = read; refused = refused })) tt
-
-pub script_fault : {R : Type 0} (options : ParkOptions) (script : List ℕ) (remaining : R → Option (List ℕ)) (reader reader_after : Watched R) (writer_marked : Bool) (text : List ℕ) (dispatch : World) (e : CliFault) → ReadsWhole (remaining reader.device) (remaining reader_after.device) text
-    → IsOpened options text dispatch → IsScriptFault dispatch.inputs script e → IsSimFault options script remaining reader reader_after writer_marked e
-script_fault options script remaining reader reader_after writer_marked text dispatch (Derivation e) read opened fault = absurd fault
-script_fault options script remaining reader reader_after writer_marked text dispatch (Drvs e) read opened fault = absurd fault
-script_fault options script remaining reader reader_after writer_marked text dispatch (Builders e) read opened fault = absurd fault
-script_fault options script remaining reader reader_after writer_marked text dispatch (Info e) read opened fault = absurd fault
-script_fault options script remaining reader reader_after writer_marked text dispatch (Script e) read opened fault = record {
-  inputs = dispatch.inputs;
-  reads = inputs_read options (remaining reader.device) (remaining reader_after.device) text dispatch read opened;
-  refused = fault;
-}
-script_fault options script remaining reader reader_after writer_marked text dispatch (History e) read opened fault = absurd fault
-script_fault options script remaining reader reader_after writer_marked text dispatch (TooLarge place) read opened fault = inr (record {
-  inputs = dispatch.inputs;
-  reads = inputs_read options (remaining reader.device) (remaining reader_after.device) text dispatch read opened;
-  refused = fault;
-})
-script_fault options script remaining reader reader_after writer_marked text dispatch Read read opened fault = absurd fault
-script_fault options script remaining reader reader_after writer_marked text dispatch Write read opened fault = absurd fault
-script_fault options script remaining reader reader_after writer_marked text dispatch (Stand e) read opened fault = absurd fault
-script_fault options script remaining reader reader_after writer_marked text dispatch TooManySlots read opened fault = absurd fault
-script_fault options script remaining reader reader_after writer_marked text dispatch Thread read opened fault = absurd fault
-script_fault options script remaining reader reader_after writer_marked text dispatch Receipts read opened fault = absurd fault
-script_fault options script remaining reader reader_after writer_marked text dispatch Memory read opened fault = tt
+sim_unopened options script remaining reader reader_after writer_marked e fault =
+    by_park (IsSimFault options script remaining reader reader_after writer_marked) options remaining reader reader_after e fault (λ f refused. refused) (λ f refused. refused) (λ f refused. refused)
+    (λ place refused. inl refused) (λ marked. marked) tt
 
 -- ---- an audit
 
@@ -318,43 +233,37 @@ audit_begun options history remaining reader reader_after contents writer writer
   verdict = verdict;
 }
 
-pub audit_unread : {R : Type 0} (options : ParkOptions) (history : List ℕ) (remaining : R → Option (List ℕ)) (reader reader_after : Watched R) (writer_marked : Bool) (e : CliFault) → IsReadFault reader_after.is_marked e
+-- there is no park to audit for
+pub audit_unopened : {R : Type 0} (options : ParkOptions) (history : List ℕ) (remaining : R → Option (List ℕ)) (reader reader_after : Watched R) (writer_marked : Bool) (e : CliFault) → IsAskFault options remaining reader reader_after false e
     → IsAuditFault options history remaining reader reader_after writer_marked e
-audit_unread options history remaining reader reader_after writer_marked e fault =
-    by_read (IsAuditFault options history remaining reader reader_after writer_marked) reader_after.is_marked e fault (λ marked. marked) tt
+audit_unopened options history remaining reader reader_after writer_marked e fault =
+    by_park (IsAuditFault options history remaining reader reader_after writer_marked) options remaining reader reader_after e fault (λ f refused. refused) (λ f refused. refused) (λ f refused. refused)
+    (λ place refused. inl refused) (λ marked. marked) tt
 
-pub audit_park_refused : {R : Type 0} (options : ParkOptions) (history : List ℕ) (remaining : R → Option (List ℕ)) (reader reader_after : Watched R) (writer_marked : Bool) (text : List ℕ) (e : CliFault) → ReadsWhole (remaining reader.device) (remaining reader_after.device) text
-    → IsParkFault options text e → IsAuditFault options history remaining reader reader_after writer_marked e
-audit_park_refused options history remaining reader reader_after writer_marked text e read fault =
-    by_park (IsAuditFault options history remaining reader reader_after writer_marked) options text e fault (λ f refused. record { text = text; read = read; refused = refused })
-    (λ f refused. record { text = text; read = read; refused = refused }) (λ f refused. record { text = text; read = read; refused = refused })
-    (λ place refused. inl (record { text = text; read = read; refused = refused })) tt
-
-pub history_fault : {R : Type 0} (options : ParkOptions) (history : List ℕ) (remaining : R → Option (List ℕ)) (reader reader_after : Watched R) (writer_marked : Bool) (text : List ℕ) (graph : Nodes) (machines : List Builder) (local : Settings) (info : List (List ℕ × List (List ℕ)))
-    (e : CliFault) → ReadsWhole (remaining reader.device) (remaining reader_after.device) text → HasPark options text graph machines info → local ≡ local_of options → IsHistoryFault history e
-    → IsAuditFault options history remaining reader reader_after writer_marked e
-history_fault options history remaining reader reader_after writer_marked text graph machines local info (Derivation e) read has is_local fault = absurd fault
-history_fault options history remaining reader reader_after writer_marked text graph machines local info (Drvs e) read has is_local fault = absurd fault
-history_fault options history remaining reader reader_after writer_marked text graph machines local info (Builders e) read has is_local fault = absurd fault
-history_fault options history remaining reader reader_after writer_marked text graph machines local info (Info e) read has is_local fault = absurd fault
-history_fault options history remaining reader reader_after writer_marked text graph machines local info (Script e) read has is_local fault = absurd fault
-history_fault options history remaining reader reader_after writer_marked text graph machines local info (History e) read has is_local fault = record {
-  inputs = inputs_of options graph machines local info;
-  reads = park_read options (remaining reader.device) (remaining reader_after.device) text graph machines local info read has is_local;
+pub history_fault : {R : Type 0} (options : ParkOptions) (history : List ℕ) (remaining : R → Option (List ℕ)) (reader reader_after : Watched R) (writer_marked : Bool) (inputs : Premises) (e : CliFault)
+    → ReadsInputs options (remaining reader.device) (remaining reader_after.device) inputs → IsHistoryFault history e → IsAuditFault options history remaining reader reader_after writer_marked e
+history_fault options history remaining reader reader_after writer_marked inputs (Derivation e) reads fault = absurd fault
+history_fault options history remaining reader reader_after writer_marked inputs (Drvs e) reads fault = absurd fault
+history_fault options history remaining reader reader_after writer_marked inputs (Builders e) reads fault = absurd fault
+history_fault options history remaining reader reader_after writer_marked inputs (Info e) reads fault = absurd fault
+history_fault options history remaining reader reader_after writer_marked inputs (Script e) reads fault = absurd fault
+history_fault options history remaining reader reader_after writer_marked inputs (History e) reads fault = record {
+  inputs = inputs;
+  reads = reads;
   refused = fault;
 }
-history_fault options history remaining reader reader_after writer_marked text graph machines local info (TooLarge place) read has is_local fault = inr (record {
-  inputs = inputs_of options graph machines local info;
-  reads = park_read options (remaining reader.device) (remaining reader_after.device) text graph machines local info read has is_local;
+history_fault options history remaining reader reader_after writer_marked inputs (TooLarge place) reads fault = inr (record {
+  inputs = inputs;
+  reads = reads;
   refused = fault;
 })
-history_fault options history remaining reader reader_after writer_marked text graph machines local info Read read has is_local fault = absurd fault
-history_fault options history remaining reader reader_after writer_marked text graph machines local info Write read has is_local fault = absurd fault
-history_fault options history remaining reader reader_after writer_marked text graph machines local info (Stand e) read has is_local fault = absurd fault
-history_fault options history remaining reader reader_after writer_marked text graph machines local info TooManySlots read has is_local fault = absurd fault
-history_fault options history remaining reader reader_after writer_marked text graph machines local info Thread read has is_local fault = absurd fault
-history_fault options history remaining reader reader_after writer_marked text graph machines local info Receipts read has is_local fault = absurd fault
-history_fault options history remaining reader reader_after writer_marked text graph machines local info Memory read has is_local fault = tt
+history_fault options history remaining reader reader_after writer_marked inputs Read reads fault = absurd fault
+history_fault options history remaining reader reader_after writer_marked inputs Write reads fault = absurd fault
+history_fault options history remaining reader reader_after writer_marked inputs (Stand e) reads fault = absurd fault
+history_fault options history remaining reader reader_after writer_marked inputs TooManySlots reads fault = absurd fault
+history_fault options history remaining reader reader_after writer_marked inputs Thread reads fault = absurd fault
+history_fault options history remaining reader reader_after writer_marked inputs Receipts reads fault = absurd fault
+history_fault options history remaining reader reader_after writer_marked inputs Memory reads fault = tt
 
 pub verdict_fault : {R : Type 0} (options : ParkOptions) (history : List ℕ) (remaining : R → Option (List ℕ)) (reader reader_after : Watched R) (writer_marked : Bool) (e : CliFault) → IsVerdictFault writer_marked e
     → IsAuditFault options history remaining reader reader_after writer_marked e

@@ -1,5 +1,6 @@
--- The dispatch over what a command was given. The engines' clauses cite this, but for `IsOpened`, which serves a private one.
-use Rattle.std.specs.Prelude.{◌≡◌, ℕ, Bool, List, [], Option}
+-- The dispatch over what a command was given. The engines' clauses cite this, but for `IsOpened`, which those of `open_dispatch` cite,
+-- `AnswersKnownInputs`, which those of `take_dispatch` cite, and `IsMadeOf`, which serves a private one.
+use Rattle.std.specs.Prelude.{◌≡◌, ℕ, Bool, List, [], Option, Some, Result, MatchResult}
 use Rattle.nd_machines.specs.Builders.{Builder}
 use Rattle.nd_eligible.specs.Settings.{Settings}
 use Rattle.nd_graph.specs.Graphs.{Nodes}
@@ -8,6 +9,8 @@ use Rattle.nd_history.specs.Premises.{Premises, premises}
 use Rattle.nd_ledger.specs.Worlds.{World}
 use Rattle.nd_cli.specs.Inputs.{ReadsWhole}
 use Rattle.nd_cli.specs.Parks.{HasPark, local_of}
+use Rattle.nd_cli.specs.Statuses.{exit_status}
+use Rattle.nd_cli.specs.declared.fault.CliFault.{CliFault}
 use Rattle.nd_cli.specs.declared.options.ParkOptions.{ParkOptions}
 use Rattle.nd_cli.specs.declared.park.Park.{Park}
 
@@ -29,6 +32,17 @@ pub record HasInputs (options : ParkOptions) (text : List ℕ) (i : Premises) : 
 pub record IsOpened (options : ParkOptions) (text : List ℕ) (dispatch : World) : Type 0 where
   pub inputs : HasInputs options text dispatch.inputs
   pub empty : dispatch.history ≡ []
+
+-- a dispatch over this park with the empty history
+pub record IsMadeOf (options : ParkOptions) (park : Park) (dispatch : World) : Type 0 where
+  pub inputs : dispatch.inputs ≡ park_inputs park options.keep_going
+  pub empty : dispatch.history ≡ []
+
+-- where an input that is known is accepted, with the other inputs, the answer is a dispatch over them, unless the reader or the memory
+-- fails
+abbrev pub AnswersKnownInputs : ParkOptions → Option (List ℕ) → Result World CliFault → Type 0
+AnswersKnownInputs options unread answer =
+    (text : List ℕ) (inputs : Premises) → unread ≡ Some text → HasInputs options text inputs → MatchResult answer (λ dispatch. dispatch.inputs ≡ inputs) (λ e. exit_status e ≡ 5)
 
 -- the whole input was read, and these are the five inputs
 pub record ReadsInputs (options : ParkOptions) (unread left : Option (List ℕ)) (i : Premises) : Type 0 where

@@ -10,9 +10,9 @@ ghost use Rattle.nd_commands.specs.Simulated.{IsSimAccepted, IsSimGiven, IsSimFa
 ghost use Rattle.nd_commands.specs.Audited.{HasHistory, IsAuditAccepted, IsAuditFault};
 
 use crate::history::read_entries;
-use crate::opening::{close_dispatch, open_dispatch};
+use crate::opening::{close_dispatch, take_dispatch};
 use crate::script::read_script;
-use nd_cli::{CliFault, Park, ParkOptions, read_input, read_park};
+use nd_cli::{CliFault, Park, ParkOptions, take_park};
 use nd_devices::Told;
 use nd_history::Entry;
 use nd_ledger::Dispatch;
@@ -57,8 +57,7 @@ pub(crate) fn read_sim_inputs<R: Read>(
     ensures exactly { (text : List ℕ) → R.remaining input.old.device ≡ Some text → IsSimAccepted options.now text script.now → RefusesNoInput result }
     ensures fault { IfErr result (λ e. (writer_marked : Bool) → IsSimFault options.now script.now R.remaining input.old input.new writer_marked e) }
 {
-    let text = read_input(alloc, input)?;
-    let dispatch = open_dispatch(rt, alloc, options, text.as_slice())?;
+    let dispatch = take_dispatch(rt, alloc, options, input)?;
     match read_script(alloc, &dispatch, script) {
         Ok(commands) => Ok(SimInputs { dispatch, commands }),
         Err(fault) => {
@@ -89,8 +88,7 @@ pub(crate) fn read_audit_inputs<R: Read>(
     ensures exactly { (text : List ℕ) → R.remaining input.old.device ≡ Some text → IsAuditAccepted options.now text history.now → RefusesNoInput result }
     ensures fault { IfErr result (λ e. (writer_marked : Bool) → IsAuditFault options.now history.now R.remaining input.old input.new writer_marked e) }
 {
-    let text = read_input(alloc, input)?;
-    let park = read_park(rt, alloc, options, text.as_slice())?;
+    let park = take_park(rt, alloc, options, input)?;
     let entries = read_entries(alloc, history)?;
     Ok(AuditInputs { park, entries })
 }
