@@ -1,5 +1,5 @@
 -- Why there is nothing to run, and what is given where all is accepted.
-use Rattle.std.proofs.Common.{◌≡◌, ℕ, ◌+◌, List, [], length, Option, ap, subst, ◌∙◌, inr}
+use Rattle.std.proofs.Common.{◌≡◌, ℕ, ◌+◌, List, [], length, Option, false, ap, subst, ◌∙◌, inl, inr}
 use Rattle.nd_machines.specs.Builders.{Builder}
 use Rattle.nd_eligible.specs.Settings.{Settings}
 use Rattle.nd_graph.specs.Graphs.{Nodes, rows_of}
@@ -7,8 +7,10 @@ use Rattle.nd_devices.specs.Watched.{Watched}
 use Rattle.nd_ledger.specs.Worlds.{World}
 use Rattle.nd_history.specs.Premises.{Premises}
 use Rattle.nd_script.specs.declared.rule.Rule.{Rule}
+use Rattle.nd_cli.specs.Asked.{IsAskFault, ReadsPark}
 use Rattle.nd_cli.specs.Inputs.{ReadsWhole}
-use Rattle.nd_cli.specs.Parks.{HasPark, local_of}
+use Rattle.nd_cli.specs.Parks.{local_of}
+use Rattle.nd_cli.proofs.Refused.{by_park}
 use Rattle.nd_cli.specs.declared.options.ParkOptions.{ParkOptions}
 use Rattle.nd_cli.specs.declared.fault.CliFault.{CliFault}
 use Rattle.nd_cli.specs.declared.fault.CliFault.TheVariants.{Derivation, Drvs, Builders, Info, Script, Stand, History, TooLarge, TooManySlots, Read, Write, Memory, Thread, Receipts}
@@ -37,31 +39,40 @@ stand_fault options stand text remaining reader reader_after Thread read h = h.r
 stand_fault options stand text remaining reader reader_after Receipts read h = h.refused
 
 -- the same, of what a body has at hand
-pub stand_refused : {R : Type 0} (options : ParkOptions) (stand text slice : List ℕ) (remaining : R → Option (List ℕ)) (reader reader_after : Watched R) (fault : CliFault) (graph : Nodes) (machines : List Builder)
-    (info : List (List ℕ × List (List ℕ))) (drvs count : ℕ) → ReadsWhole (remaining reader.device) (remaining reader_after.device) text → slice ≡ text → HasPark options slice graph machines info → drvs ≡ length (rows_of graph) → count ≡ length machines
+pub stand_refused : {R : Type 0} (options : ParkOptions) (stand : List ℕ) (remaining : R → Option (List ℕ)) (reader reader_after : Watched R) (fault : CliFault) (graph : Nodes) (machines : List Builder)
+    (info : List (List ℕ × List (List ℕ))) (drvs count : ℕ) → ReadsPark options (remaining reader.device) (remaining reader_after.device) graph machines info → drvs ≡ length (rows_of graph) → count ≡ length machines
     → IsStandFault stand drvs (count + 1) fault → IsGivenFault options stand remaining reader reader_after fault
-stand_refused options stand text slice remaining reader reader_after fault graph machines info drvs count read same park sized counted refused =
-    stand_fault options stand text remaining reader reader_after fault read (record {
+stand_refused options stand remaining reader reader_after fault graph machines info drvs count given sized counted refused =
+    stand_fault options stand given.text remaining reader reader_after fault given.read (record {
       graph = graph;
       machines = machines;
       info = info;
-      park = subst (λ (t : List ℕ). HasPark options t graph machines info) same park;
+      park = given.has;
       refused =
           subst (λ (d : ℕ). IsStandFault stand d (length machines + 1) fault) sized
           (subst (λ (n : ℕ). IsStandFault stand drvs (n + 1) fault) counted refused);
     })
 
-pub is_given : {R : Type 0} (options : ParkOptions) (stand text slice : List ℕ) (remaining : R → Option (List ℕ)) (reader reader_after : Watched R) (graph : Nodes) (machines : List Builder) (local : Settings)
-    (info : List (List ℕ × List (List ℕ))) (dispatch : World) (rules : List Rule) (drvs count : ℕ) → ReadsWhole (remaining reader.device) (remaining reader_after.device) text → slice ≡ text → HasPark options slice graph machines info
+-- there is no park to run on
+pub unopened : {R : Type 0} (options : ParkOptions) (stand : List ℕ) (remaining : R → Option (List ℕ)) (reader reader_after : Watched R) (fault : CliFault) → IsAskFault options remaining reader reader_after false fault
+    → IsGivenFault options stand remaining reader reader_after fault
+unopened options stand remaining reader reader_after fault refused =
+    by_park (IsGivenFault options stand remaining reader reader_after) options remaining reader reader_after fault refused
+    (λ f park. record { text = park.text; read = park.read; refused = inl park.refused }) (λ f park. record { text = park.text; read = park.read; refused = inl park.refused })
+    (λ f park. record { text = park.text; read = park.read; refused = inl park.refused }) (λ place park. record { text = park.text; read = park.read; refused = inl park.refused })
+    (λ marked. marked) tt
+
+pub is_given : {R : Type 0} (options : ParkOptions) (stand : List ℕ) (remaining : R → Option (List ℕ)) (reader reader_after : Watched R) (graph : Nodes) (machines : List Builder) (local : Settings)
+    (info : List (List ℕ × List (List ℕ))) (dispatch : World) (rules : List Rule) (drvs count : ℕ) → ReadsPark options (remaining reader.device) (remaining reader_after.device) graph machines info
     → local ≡ local_of options → dispatch.inputs ≡ premises_with options graph machines local info → dispatch.history ≡ [] → drvs ≡ length (rows_of graph) → count ≡ length machines
     → HasRules stand drvs (count + 1) rules → IsGiven options stand remaining reader reader_after dispatch rules
-is_given options stand text slice remaining reader reader_after graph machines local info dispatch rules drvs count read same park here inputs begun sized counted ruled = record {
-  text = text;
-  read = read;
+is_given options stand remaining reader reader_after graph machines local info dispatch rules drvs count given here inputs begun sized counted ruled = record {
+  text = given.text;
+  read = given.read;
   graph = graph;
   machines = machines;
   info = info;
-  park = subst (λ (t : List ℕ). HasPark options t graph machines info) same park;
+  park = given.has;
   inputs = inputs ∙ ap (λ (l : Settings). premises_with options graph machines l info) here;
   begun = begun;
   ruled =

@@ -6,7 +6,7 @@ ghost use Rattle.nd_cli.specs.Inputs.{OkUnlessMemory, is_read_failure};
 ghost use Rattle.nd_cli.specs.Statuses.{RefusesNoInput};
 ghost use Rattle.nd_run_command.specs.Given.{HasRules, IsGiven, IsGivenAccepted, IsStandFault, IsGivenFault};
 
-use nd_cli::{CliFault, LIMIT, ParkOptions, Place, read_input, read_park};
+use nd_cli::{CliFault, LIMIT, ParkOptions, Place, take_park};
 use nd_devices::Told;
 use nd_ledger::Dispatch;
 use nd_script::{Rule, ScriptError, parse_stand};
@@ -44,8 +44,7 @@ pub fn run_inputs<R: Read>(
     ensures mark { input.new.is_marked ≡ is_read_failure result }
     ensures fault { IfErr result (IsGivenFault options.now stand.now R.remaining input.old input.new) }
 {
-    let text = read_input(alloc, input)?;
-    let park = read_park(rt, alloc, options, text.as_slice())?;
+    let park = take_park(rt, alloc, options, input)?;
     let machines = park.machines.len() + 1;
     // For the proof: with `?` here, beside the park, the search doesn't find what this exit says of the mark.
     let rules = match read_rules(alloc, stand, park.graph.len(), machines) {
