@@ -1,6 +1,7 @@
 //! The tests, by what they are about, and what they share.
 
 mod asking;
+mod blocks;
 mod devices;
 mod examples;
 mod giving;

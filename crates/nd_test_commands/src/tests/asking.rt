@@ -62,7 +62,12 @@ pub(crate) fn options(alloc: Global, park: Park) -> Result<ParkOptions, AllocErr
     })
 }
 /// Whether a command answered as it is to, and wrote this.
-fn is_answer(alloc: Global, answer: Result<u8, CliFault>, written: &[u8], want: Want) -> bool {
+pub(crate) fn is_answer(
+    alloc: Global,
+    answer: Result<u8, CliFault>,
+    written: &[u8],
+    want: Want,
+) -> bool {
     match (&answer, want) {
         (Ok(status), Want::Written(text)) => *status == 0 && written == text,
         (Err(fault), Want::Refused(line)) => {
