@@ -4,9 +4,7 @@ ghost use Rattle.std.specs.Prelude.{◌≡◌, IfOk, IfSome};
 
 use crate::name::Name;
 use crate::names::Names;
-use crate::path_bytes::find_bytes;
 use crate::want::Want;
-use indexmap::IndexSet;
 use nd_aterm::Leaf;
 use nd_bytes::Items;
 use nd_line::InputView;
@@ -16,21 +14,37 @@ use std::alloc::{AllocError, Global};
 /// How many names are kept to be shared. Outputs have few names, and the search goes through all of them.
 const NAME_LIMIT: usize = 16;
 
+/// How many paths are found again, each by three characters of its digest: a search by all of its bytes would take
+/// as long as to read it.
+const PLACES: usize = 4096;
+
+/// Where the second character of a path's digest stands.
+const DIGEST: usize = 12;
+
 /// The paths of inputs and the first names of outputs that were read so far. One that is read again shares
-/// the bytes of the one that is here.
+/// the bytes of the one that is here, unless another path has taken its place since.
 #[derive(Drop)]
 pub(crate) struct Pool {
-    paths: IndexSet<StorePath>,
+    paths: Vec<StorePath>,
+    /// The number of the path that was read last of those with these characters.
+    latest: Vec<usize>,
     names: Vec<Name>,
 }
 
+/// The place of a path among [`PLACES`]: five bits of each of three characters, of which the last has two.
+fn place_of(path: &[u8]) -> usize {
+    let digit = |at: usize| -> usize { path.get(at).map_or(0, |byte| *byte as usize % 32) };
+    (digit(DIGEST) * 32 + digit(DIGEST + 1)) * 4 + digit(DIGEST + 2) % 4
+}
+
 impl Pool {
-    /// No path and no name. It takes no memory.
-    pub(crate) fn new(alloc: Global) -> Pool {
-        Pool {
-            paths: IndexSet::new(alloc),
+    /// No path and no name.
+    pub(crate) fn new(alloc: Global) -> Result<Pool, AllocError> {
+        Ok(Pool {
+            paths: Vec::new(alloc),
+            latest: vec![in alloc; 0; PLACES]?,
             names: Vec::new(alloc),
-        }
+        })
     }
 
     /// The inputs of a line on their own.
@@ -62,12 +76,35 @@ impl Pool {
     fn path(&mut self, alloc: Global, input: &InputView<'_>) -> Result<StorePath, AllocError>
         ensures { IfOk result (λ path. path ≡ input.now.path) }
     {
-        if let Some(path) = find_path(&self.paths, input.path()) {
+        let place = place_of(input.path());
+        if let Some(path) = self.known_at(place, input.path()) {
             return path.try_clone();
         }
         let path = input.store_path(alloc)?;
-        self.paths.insert(path.try_clone()?)?;
+        self.note(place, path.try_clone()?)?;
         Ok(path)
+    }
+
+    /// The path with these bytes, where it has this place.
+    fn known_at(&self, place: usize, bytes: &[u8]) -> Option<&StorePath>
+        ensures { IfSome result (λ path. path.now ≡ bytes.now) }
+    {
+        let number = *self.latest.get(place)?;
+        let path = self.paths.get(number)?;
+        if path.bytes() == bytes {
+            return Some(path);
+        }
+        None
+    }
+
+    /// A path has this place from now on.
+    fn note(&mut self, place: usize, path: StorePath) -> Result<(), AllocError> {
+        let number = self.paths.len();
+        self.paths.push(path)?;
+        if place < self.latest.len() {
+            self.latest[place] = number;
+        }
+        Ok(())
     }
 
     /// Names on their own.
@@ -104,16 +141,6 @@ impl Pool {
             self.names.push(name.try_clone()?)?;
         }
         Ok(name)
-    }
-}
-
-/// The path with these bytes, where it is one of the paths.
-fn find_path<'p>(paths: &'p IndexSet<StorePath>, bytes: &[u8]) -> Option<&'p StorePath>
-    ensures { IfSome result (λ path. path.now ≡ bytes.now) }
-{
-    match find_bytes(paths, bytes) {
-        Some(place) => paths.get_index(place),
-        None => None,
     }
 }
 
