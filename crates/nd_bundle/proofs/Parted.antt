@@ -9,7 +9,7 @@ use Rattle.nd_bundle.specs.Columned.{HasColumns, SayColumns}
 use Rattle.nd_bundle.specs.Lines.{lines, lines_in}
 use Rattle.nd_bundle.specs.Numbered.{fault_at}
 use Rattle.nd_bundle.specs.Parts.{ArePieces, GoesOn, HasWholeLines, IsFaultBy, IsFaultOf, IsFoundIn, IsFoundNowhere, IsFoundTo, IsLineEnd, IsReadAsFar, IsReadBehind, IsReading, IsReadUntil, IsRefusedAsFar, IsSpent, IsToldBy, IsUnread, ReadsLines, Takes, TakesAll}
-use Rattle.nd_bundle.specs.Pieces.{IsAppended, IsReadPiece, IsReadText, IsReadTo}
+use Rattle.nd_bundle.specs.Pieces.{HasSameNodes, IsAppended, IsReadPiece, IsReadText, IsReadTo}
 use Rattle.nd_bundle.specs.Reading.{Reading}
 use Rattle.nd_bundle.specs.declared.columns.Columns.{Columns}
 use Rattle.nd_bundle.specs.declared.fault.GraphError.{GraphError}
@@ -105,6 +105,14 @@ takes_more first old new pieces piece so one = record {
       subst (λ (xs : List (List ℕ)). IsFoundIn check xs new) (append_assoc ls (lines_in at.front) (lines at.x) ∙ ap (λ (xs : List (List ℕ)). ls ++ xs) (sym are))
       (one.taken check (ls ++ lines_in at.front) (lines at.x) (so.taken check ls at.front before at.before) at.here);
 }
+
+-- what was found is found still where there is room for more
+found_still : (check : Bool) (ls : List (List ℕ)) (old new : Columns) (refused : Option GraphError) → HasSameNodes old new → IsFoundTo check ls old refused → IsFoundTo check ls new refused
+found_still check ls old new None same so = record { nodes = so.nodes; says = so.says; has = same.has so.nodes so.has }
+found_still check ls old new (Some fault) same so = record { first = so.first }
+
+pub takes_reserved : (old new : Found) (columns : Columns) (pieces : List (Result Piece AllocError)) → HasSameNodes old.columns columns → TakesAll (record { columns = columns; refused = old.refused }) pieces new → TakesAll old pieces new
+takes_reserved old new columns pieces same takes = record { taken = λ check ls texts so zip. takes.taken check ls texts (found_still check ls old.columns columns old.refused same so) zip }
 
 -- ---- the lines of a text
 

@@ -2,7 +2,7 @@
 use Rattle.std.proofs.Common.{◌≡◌, ℕ, Bool, List, [], ◌∷◌, ◌++◌, length, map, sym, ap, ◌∙◌}
 use Rattle.std.proofs.lemmas.List.{length-map, map-append}
 use Rattle.nd_bundle.specs.Columned.{HasColumns, SayColumns}
-use Rattle.nd_bundle.specs.Pieces.{IsAppended}
+use Rattle.nd_bundle.specs.Pieces.{HasSameNodes, IsAppended}
 use Rattle.nd_line.specs.Reads.{IsLine}
 use Rattle.nd_bundle.specs.declared.columns.Columns.{Columns}
 use Rattle.nd_line.specs.declared.line.LineNode.{LineNode}
@@ -22,6 +22,20 @@ pushed old new nodes node paths needs wants sources names outputs has = record {
   sources = more_of (λ (n : LineNode). n.sources) old.sources.items new.sources.items nodes node sources has.sources;
   names = more_of (λ (n : LineNode). n.output_names) old.names.items new.names.items nodes node names has.names;
   outputs = more_of (λ (n : LineNode). n.outputs) old.outputs.items new.outputs.items nodes node outputs has.outputs;
+}
+
+-- room for more nodes
+pub reserved : (old new : Columns) → new.paths.items ≡ old.paths.items → new.needs.items ≡ old.needs.items → new.wants.items ≡ old.wants.items → new.sources.items ≡ old.sources.items → new.names.items ≡ old.names.items → new.outputs.items ≡ old.outputs.items
+    → HasSameNodes old new
+reserved old new paths needs wants sources names outputs = record {
+  has = λ nodes has. record {
+    paths = paths ∙ has.paths;
+    needs = needs ∙ has.needs;
+    wants = wants ∙ has.wants;
+    sources = sources ∙ has.sources;
+    names = names ∙ has.names;
+    outputs = outputs ∙ has.outputs;
+  };
 }
 
 -- those of other nodes behind them

@@ -32,6 +32,10 @@ IsReadPiece check ls (Err refused) = Unit {0}
 abbrev pub IsReadText : Bool → List ℕ → Result Piece AllocError → Type 0
 IsReadText check text piece = IsReadPiece check (lines text) piece
 
+-- the nodes are as they were
+pub record HasSameNodes (old new : Columns) : Type 0 where
+  pub has : (nodes : List LineNode) → HasColumns nodes old → HasColumns nodes new
+
 -- the nodes of the others stand behind the old ones
 pub record IsAppended (old others new : Columns) : Type 0 where
   pub has : (some more : List LineNode) → HasColumns some old → HasColumns more others → HasColumns (some ++ more) new

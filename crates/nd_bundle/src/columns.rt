@@ -2,7 +2,7 @@
 
 ghost use Rattle.std.specs.Prelude.{◌≡◌, ◌++◌, ◌∷◌, [], List, IfOk, OnOk};
 ghost use Rattle.nd_bundle.specs.Columned.{HasColumns};
-ghost use Rattle.nd_bundle.specs.Pieces.{IsAppended};
+ghost use Rattle.nd_bundle.specs.Pieces.{HasSameNodes, IsAppended};
 ghost use Rattle.nd_line.specs.declared.line.LineNode.{LineNode};
 
 use crate::names::Names;
@@ -58,6 +58,20 @@ impl Columns {
             names,
             outputs,
         })
+    }
+
+    /// Makes room for so many nodes more.
+    #[tactic(auto, using(crate::proofs::Taken::reserved))]
+    pub(crate) fn reserve(&mut self, count: usize) -> Result<(), AllocError>
+        ensures { OnOk result (HasSameNodes self.old self.new) }
+    {
+        self.paths.reserve(count)?;
+        self.needs.reserve(count)?;
+        self.wants.reserve(count)?;
+        self.sources.reserve(count)?;
+        self.names.reserve(count)?;
+        self.outputs.reserve(count)?;
+        Ok(())
     }
 
     /// Adds the parts of a node, which share what the pool has. Where memory is refused some of them may have

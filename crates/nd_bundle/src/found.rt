@@ -53,9 +53,18 @@ impl Found {
         }
     }
 
+    /// Takes what was read of pieces of a text, and makes room for it at once.
+
+    fn take_all(&mut self, pieces: Vec<Result<Piece, AllocError>>) -> Result<(), AllocError>
+        ensures { OnOk result (TakesAll self.old pieces.items self.new) }
+    {
+        self.columns.reserve(count_nodes(pieces.as_slice()))?;
+        self.take_each(pieces)
+    }
+
     /// Takes what was read of pieces of a text, one behind another.
     #[tactic(auto, using(crate::proofs::Parted::takes_none))]
-    fn take_all(&mut self, pieces: Vec<Result<Piece, AllocError>>) -> Result<(), AllocError>
+    fn take_each(&mut self, pieces: Vec<Result<Piece, AllocError>>) -> Result<(), AllocError>
         ensures { OnOk result (TakesAll self.old pieces.items self.new) }
     {
         for piece in pieces {
@@ -103,4 +112,15 @@ impl Found {
             Some(fault) => Err(fault),
         }
     }
+}
+
+/// How many nodes the pieces have.
+fn count_nodes(pieces: &[Result<Piece, AllocError>]) -> usize {
+    let mut count = 0usize;
+    for read in pieces {
+        if let Ok(piece) = read {
+            count = count.saturating_add(piece.columns.paths.len());
+        }
+    }
+    count
 }
