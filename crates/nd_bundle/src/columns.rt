@@ -1,6 +1,6 @@
 //! The parts of a bundle's nodes, as lists with one item per node.
 
-ghost use Rattle.std.specs.Prelude.{◌≡◌, ◌++◌, ◌∷◌, [], List, IfOk, OnOk};
+ghost use Rattle.std.specs.Prelude.{◌≡◌, ◌+◌, ◌++◌, ◌∷◌, [], List, length, IfOk, OnOk};
 ghost use Rattle.nd_bundle.specs.Columned.{HasColumns};
 ghost use Rattle.nd_bundle.specs.Pieces.{HasSameNodes, IsAppended};
 ghost use Rattle.nd_line.specs.declared.line.LineNode.{LineNode};
@@ -58,6 +58,13 @@ impl Columns {
             names,
             outputs,
         })
+    }
+
+    /// The number of the line behind those that say these nodes, from 1.
+    pub(crate) fn next_line(&self) -> usize
+        ensures { result ≡ length self.now.paths.items + 1 }
+    {
+        self.paths.len() + 1
     }
 
     /// Makes room for so many nodes more.

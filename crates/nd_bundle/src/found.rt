@@ -94,7 +94,7 @@ impl Found {
         match refused {
             None => Ok(()),
             Some(fault) => {
-                let line = self.columns.paths.len() + 1;
+                let line = self.columns.next_line();
                 self.refused = Some(GraphError::of_line(fault, line));
                 Ok(())
             }

@@ -1,4 +1,4 @@
-use Rattle.std.proofs.Common.{◌≡◌, ℕ, ◌+◌, length, arith, Option, Some, Ok, refl, sym, ap, subst, ◌∙◌}
+use Rattle.std.proofs.Common.{ℕ, Option, Some, Ok, refl, sym, ap, subst, ◌∙◌}
 use Rattle.nd_line.specs.declared.refusal.LineError.{LineError}
 use Rattle.nd_bundle.specs.Numbered.{fault_at}
 use Rattle.nd_bundle.specs.Parts.{Takes}
@@ -17,6 +17,5 @@ pub returns-in-Some : goal.returns-in-Some
 returns-in-Some c =
     let columns : Columns = c.args.piece.columns in
     let new : Found = record { columns = c.append.new.self; refused = Some c.of_line.result } in
-    let long : c.len-line.result + 1 ≡ length c.append.new.self.paths.items + 1 = omega (arith, c.append.new.self.paths.ok.0, c.len-line.ensures) in
     subst (λ (r : Option LineError). Takes c.args.self.now (Ok (record { columns = columns; refused = r })) new) (sym c.in-Some.is)
-    (takes_refused c.args.self.now new columns c.in-Some.fault c.of_line.result c.requires refl (c.of_line.ensures ∙ ap (λ (n : ℕ). fault_at c.in-Some.fault n) long) c.in_ok-append.ensures)
+    (takes_refused c.args.self.now new columns c.in-Some.fault c.of_line.result c.requires refl (c.of_line.ensures ∙ ap (λ (n : ℕ). fault_at c.in-Some.fault n) c.next_line-line.ensures) c.in_ok-append.ensures)
