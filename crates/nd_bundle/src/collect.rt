@@ -11,7 +11,6 @@ ghost use Rattle.nd_bundle.specs.Pieces.{IsReadText, IsReadTo};
 use crate::columns::Columns;
 use crate::cutting::{cut_lines, cut_pieces};
 use crate::fault::GraphError;
-use crate::found::Found;
 use crate::piece::Piece;
 use crate::pool::Pool;
 use nd_line::read_line;
@@ -23,30 +22,13 @@ use std::thread::Threads;
 /// The least length of a piece for a thread: one thread has read a shorter one before another has started.
 const LONG: usize = 65_536;
 
-/// What the lines of the text say, in order, or the refusal of the first that has one; read by this thread
-/// where the text hasn't enough for two, and else by many threads. With `check` each line's path has to be
-/// the text path of its derivation.
-#[tactic(auto, using(crate::proofs::Parted::all_said, crate::proofs::Parted::first_refused, crate::proofs::Parted::fault_for_memory))]
-pub(crate) fn read_lines_side_by_side(
-    rt: &(impl Threads + Sync),
-    alloc: Global,
-    text: &[u8],
-    check: bool,
-) -> Result<Columns, GraphError>
-    ensures ok { IfOk result (SayColumns check (lines text.now)) }
-    ensures err { IfErr result (IsFirstFault check text.now) }
-{
-    let mut found = Found::new(alloc);
-    found.read_lines(rt, alloc, text, check)?;
-    found.into_columns()
-}
-
 /// Whether the text hasn't enough for two threads.
 pub(crate) fn is_short(text: &[u8]) -> bool {
     text.len() < 2 * LONG
 }
 
-/// The same, read by this thread.
+/// What the lines of the text say, in order, or the refusal of the first that has one; all read by this thread.
+/// With `check` each line's path has to be the text path of its derivation.
 #[tactic(auto, using(crate::proofs::Pieced::says_fault))]
 pub(crate) fn read_lines(alloc: Global, text: &[u8], check: bool) -> Result<Columns, GraphError>
     ensures ok { IfOk result (SayColumns check (lines text.now)) }

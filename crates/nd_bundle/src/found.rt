@@ -1,6 +1,9 @@
 //! What was found in the lines of a bundle.
 
 ghost use Rattle.std.specs.Prelude.{◌≡◌, Ok, Some, None, IfErr, IfOk, OnOk};
+ghost use Rattle.nd_bundle.specs.Bundles.{IsFirstFault};
+ghost use Rattle.nd_bundle.specs.Columned.{SayColumns};
+ghost use Rattle.nd_bundle.specs.Lines.{lines};
 ghost use Rattle.nd_bundle.specs.Parts.{IsFoundNowhere, ReadsLines, Takes, TakesAll};
 
 use crate::collect::{is_short, read_piece, read_pieces};
@@ -112,6 +115,23 @@ impl Found {
             Some(fault) => Err(fault),
         }
     }
+}
+
+/// What the lines of the text say, in order, or the refusal of the first that has one; read as by
+/// [`Found::read_lines`].
+#[tactic(auto, using(crate::proofs::Parted::all_said, crate::proofs::Parted::first_refused, crate::proofs::Parted::fault_for_memory))]
+pub(crate) fn read_lines_side_by_side(
+    rt: &(impl Threads + Sync),
+    alloc: Global,
+    text: &[u8],
+    check: bool,
+) -> Result<Columns, GraphError>
+    ensures ok { IfOk result (SayColumns check (lines text.now)) }
+    ensures err { IfErr result (IsFirstFault check text.now) }
+{
+    let mut found = Found::new(alloc);
+    found.read_lines(rt, alloc, text, check)?;
+    found.into_columns()
 }
 
 /// How many nodes the pieces have.

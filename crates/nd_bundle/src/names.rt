@@ -18,7 +18,7 @@ pub(crate) struct Names {
 enum Kept {
     /// One name.
     One(Name),
-    /// So many names, in a box, with which they take 16 bytes and not 40.
+    /// So many names, in a box, with which they take 16 bytes and not 32.
     Many(Box<Vec<Name>>),
 }
 
