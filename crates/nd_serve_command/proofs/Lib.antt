@@ -10,3 +10,4 @@ pub mod Reached
 pub mod Survived
 pub mod Begins
 pub mod RunsLeft
+pub mod Unread

@@ -8,8 +8,8 @@ ghost use Rattle.nd_serve_command.specs.Sessions.{IsJournalUnread, ReadsAccepted
 
 use crate::fault::ServeFault;
 use nd_bytes::ByteString;
-use nd_cli::{CliFault, ParkOptions, read_input};
-use nd_commands::open_dispatch;
+use nd_cli::{CliFault, ParkOptions};
+use nd_commands::take_dispatch;
 use nd_devices::{TakeError, Told};
 use nd_ledger::Dispatch;
 use std::alloc::Global;
@@ -34,11 +34,7 @@ pub(crate) fn read_dispatch<R: Read>(
     ensures mark { input.new.is_marked ≡ is_read_failure result }
     ensures exactly { ReadsAccepted options.now (R.remaining input.old.device) result }
 {
-    let text = read_input(alloc, input)?;
-    match open_dispatch(rt, alloc, options, text.as_slice()) {
-        Ok(dispatch) => Ok(dispatch),
-        Err(fault) => Err(fault),
-    }
+    take_dispatch(rt, alloc, options, input)
 }
 
 /// The most bytes that a journal may have which is gone on from or looked at.
