@@ -1,8 +1,9 @@
-pub mod Replying
 pub mod Accepted
-pub mod Whole
-pub mod Refused
-pub mod LocalTest
-pub mod SameClass
 pub mod ClassReplying
+pub mod Filled
+pub mod LocalTest
+pub mod Refused
+pub mod Replying
+pub mod SameClass
 pub mod Slots
+pub mod Whole

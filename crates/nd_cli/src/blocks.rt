@@ -1,25 +1,27 @@
 //! The graph of a bundle that is read from its input in blocks, so that its text is never in memory whole.
 
-ghost use Rattle.std.specs.Prelude.{◌≡◌, ◌<◌, ◌||◌, ℕ, List, [], false, length, IfOk, IfErr};
+ghost use Rattle.std.specs.Prelude.{◌≡◌, ◌<◌, ◌≤◌, ◌||◌, ℕ, List, [], false, length, take, IfOk, IfErr};
 ghost use Rattle.nd_graph.specs.Graphs.{Nodes};
 ghost use Rattle.nd_cli.specs.Asked.{IsAskFault};
-ghost use Rattle.nd_cli.specs.Blocks.{AnswersKnownGraph, FeedsPart, ReadsGraph};
+ghost use Rattle.nd_cli.specs.Blocks.{AnswersKnownGraph, FeedsPart, ReadsGraph, ReadsPart};
 ghost use Rattle.nd_cli.specs.Inputs.{IsReadFault, OkUnlessMemory, ReadsWhole, is_read_failure};
 ghost use Rattle.nd_cli.specs.Parks.{HasGraph, IsBundleFault};
 
 use crate::fault::{CliFault, Place};
-use crate::input::{LIMIT, read_part};
+use crate::input::LIMIT;
 use crate::options::ParkOptions;
 use crate::park::bundle_fault;
 use nd_bundle::BundleReader;
-use nd_devices::Told;
+use nd_devices::{Fault, Told};
 use nd_graph::Graph;
-use std::alloc::Global;
+use std::alloc::{AllocError, Global};
 use std::io::Read;
 use std::thread::Threads;
 
-/// How many bytes of a bundle are read at once: lines enough for many threads, and few enough that an allocator
-/// keeps the memory of a block for the next one, and doesn't ask the system for its pages again.
+/// For how many bytes of a bundle there is room at first, since most are short.
+const FIRST: usize = 262_144;
+
+/// How many bytes of a bundle are read at once at most: lines enough for many threads.
 const BLOCK: usize = 4_194_304;
 
 /// The graph of the bundle on the input, which is read to its end, or to one byte past [`LIMIT`].
@@ -82,35 +84,79 @@ fn feed_input<R: Read>(
     ensures fault { IfErr result (IsReadFault input.new.is_marked) }
     ensures mark { input.new.is_marked ≡ (input.old.is_marked || is_read_failure result) }
 {
+    let mut room = new_room(alloc, FIRST)?;
     let mut count = 0;
-    while count <= LIMIT {
-        let most = BLOCK.min(LIMIT + 1 - count);
-        let fed = feed_block(rt, alloc, most, input, reader)?;
+    'feeding: while count <= LIMIT {
+        let most = room.len().min(LIMIT + 1 - count);
+        let fed = feed_block(rt, &mut room[..most], input, reader)?;
         count += fed;
         if fed < most {
             return Ok(count);
         }
+        room = larger(alloc, room)?;
     }
     Ok(count)
 }
 
-/// Feeds the reader `most` bytes of the input, or fewer where it ends before, and answers how many.
+/// Room for so many bytes.
+fn new_room(alloc: Global, size: usize) -> Result<Vec<u8>, AllocError>
+    requires { 0 < size }
+    ensures { IfOk result (λ room. 0 < length room.items) }
+{
+    vec![in alloc; 0; size]
+}
+
+/// Twice as much room, but no more than for a block. What stood in it is gone.
+fn larger(alloc: Global, room: Vec<u8>) -> Result<Vec<u8>, AllocError>
+    requires { 0 < length room.items }
+    ensures { IfOk result (λ r. 0 < length r.items) }
+{
+    let size = room.len();
+    if size >= BLOCK {
+        return Ok(room);
+    }
+    drop(room);
+    new_room(alloc, 2 * size)
+}
+
+/// Feeds the reader as many bytes of the input as there is room for, or fewer where it ends before, and answers how
+/// many.
 ///
 /// `Read`: the device refused a read, and is then marked. `Memory`.
 fn feed_block<R: Read>(
     rt: &(impl Threads + Sync),
-    alloc: Global,
-    most: usize,
+    room: &mut [u8],
     input: &mut Told<R>,
     reader: &mut BundleReader,
 ) -> Result<usize, CliFault>
-    requires some { 0 < most }
     ensures check { reader.new.check ≡ reader.old.check }
-    ensures read { IfOk result (FeedsPart most (R.remaining input.old.device) (R.remaining input.new.device) reader.old.text reader.new.text) }
+    ensures read { IfOk result (FeedsPart (length room.old) (R.remaining input.old.device) (R.remaining input.new.device) reader.old.text reader.new.text) }
     ensures fault { IfErr result (IsReadFault input.new.is_marked) }
     ensures mark { input.new.is_marked ≡ (input.old.is_marked || is_read_failure result) }
 {
-    let block = read_part(alloc, most, input)?;
-    reader.feed(rt, block.as_slice())?;
-    Ok(block.len())
+    let count = fill(room, input)?;
+    let (block, _) = room.split_at(count);
+    reader.feed(rt, block)?;
+    Ok(count)
+}
+
+/// Reads on in the input, from the front of the room, until it is full or the input ends; and answers how many bytes
+/// these are.
+///
+/// `Read`: the device refused a read, and is then marked.
+fn fill<R: Read>(room: &mut [u8], input: &mut Told<R>) -> Result<usize, CliFault>
+    ensures bound { IfOk result (λ count. count ≤ length room.old) }
+    ensures read { IfOk result (λ count. ReadsPart (length room.old) (R.remaining input.old.device) (R.remaining input.new.device) (take count room.new)) }
+    ensures fault { IfErr result (IsReadFault input.new.is_marked) }
+    ensures mark { input.new.is_marked ≡ (input.old.is_marked || is_read_failure result) }
+{
+    let mut count = 0;
+    'filling: while count < room.len() {
+        match input.take(&mut room[count..]) {
+            Ok(0) => return Ok(count),
+            Ok(taken) => count += taken,
+            Err(Fault) => return Err(CliFault::Read),
+        }
+    }
+    Ok(count)
 }

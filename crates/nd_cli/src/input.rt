@@ -1,7 +1,7 @@
-//! Reading an input of the program, whole within its limit or a part of it.
+//! Reading an input of the program whole, within its limit.
 
-ghost use Rattle.std.specs.Prelude.{◌≡◌, ◌<◌, ◌||◌, IfOk, IfErr};
-ghost use Rattle.nd_cli.specs.Blocks.{ReadsPart};
+ghost use Rattle.std.specs.Prelude.{◌≡◌, ◌≤◌, ◌||◌, vec_len, IfOk, IfErr};
+ghost use Rattle.std.specs.Io.KnownBytes.{Consumes, IsAtEnd};
 ghost use Rattle.nd_cli.specs.Inputs.{ReadsWhole, IsReadFault, is_read_failure};
 
 use crate::fault::CliFault;
@@ -23,24 +23,7 @@ pub fn read_input<R: Read>(alloc: Global, input: &mut Told<R>) -> Result<ByteStr
     ensures fault { IfErr result (λ e. IsReadFault input.new.is_marked e) }
     ensures mark { input.new.is_marked ≡ (input.old.is_marked || is_read_failure result) }
 {
-    read_part(alloc, LIMIT + 1, input)
-}
-
-/// Reads on in an input, `most` bytes, or fewer where it ends before. How many reads that takes isn't stated.
-///
-/// `Read`: the reader refused a read, and is then marked. `Memory`: there was no room for the bytes.
-/// Nothing but a refused read sets the mark.
-pub(crate) fn read_part<R: Read>(
-    alloc: Global,
-    most: usize,
-    input: &mut Told<R>,
-) -> Result<ByteString, CliFault>
-    requires some { 0 < most }
-    ensures read { IfOk result (ReadsPart most (R.remaining input.old.device) (R.remaining input.new.device)) }
-    ensures fault { IfErr result (λ e. IsReadFault input.new.is_marked e) }
-    ensures mark { input.new.is_marked ≡ (input.old.is_marked || is_read_failure result) }
-{
-    match input.take_all(alloc, most - 1) {
+    match input.take_all(alloc, LIMIT) {
         Ok(bytes) => Ok(ByteString::new(bytes)),
         Err(TakeError::Fault) => Err(CliFault::Read),
         Err(TakeError::Memory) => Err(CliFault::Memory),
