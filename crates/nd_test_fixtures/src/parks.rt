@@ -84,10 +84,18 @@ fn dispatch_with(
     graph: Graph,
     machines: Vec<Machine>,
     local: Local,
+    keep_going: bool,
 ) -> Result<Dispatch, Unmade>
     requires { vec_len machines ≤ 1024 }
 {
-    match Dispatch::new(alloc, graph, machines, local, RefTable::new(alloc), false) {
+    match Dispatch::new(
+        alloc,
+        graph,
+        machines,
+        local,
+        RefTable::new(alloc),
+        keep_going,
+    ) {
         Ok(dispatch) => Ok(dispatch),
         Err(parts) => {
             drop(parts);
@@ -102,9 +110,10 @@ fn dispatch_over(
     builders: &str,
     graph: Graph,
     local: Local,
+    keep_going: bool,
 ) -> Result<Dispatch, Unmade> {
     match parse_builders(alloc, builders.as_bytes(), b"x86_64-linux") {
-        Ok(machines) => dispatch_with(alloc, graph, machines, local),
+        Ok(machines) => dispatch_with(alloc, graph, machines, local, keep_going),
         Err(fault) => {
             drop(graph);
             drop(local);
@@ -114,9 +123,14 @@ fn dispatch_over(
 }
 
 /// A dispatch over a park with this local machine.
-fn dispatch_at(alloc: Global, park: &Park, local: Local) -> Result<Dispatch, Unmade> {
+fn dispatch_at(
+    alloc: Global,
+    park: &Park,
+    local: Local,
+    keep_going: bool,
+) -> Result<Dispatch, Unmade> {
     match read_bundle(alloc, park.bundle.as_bytes(), false) {
-        Ok(graph) => dispatch_over(alloc, park.builders, graph, local),
+        Ok(graph) => dispatch_over(alloc, park.builders, graph, local, keep_going),
         Err(fault) => {
             drop(local);
             Err(without_graph(fault))
@@ -127,8 +141,13 @@ fn dispatch_at(alloc: Global, park: &Park, local: Local) -> Result<Dispatch, Unm
 /// A dispatch over a park. Each function of these ends in one call, and lets go of what it holds by
 /// `drop`: the end of a large value is then proved once for its type.
 pub fn dispatch_of(alloc: Global, park: &Park) -> Result<Dispatch, Unmade> {
+    dispatch_that(alloc, park, false)
+}
+
+/// A dispatch over a park whose rest goes on after a failure where it is to keep going.
+pub fn dispatch_that(alloc: Global, park: &Park, keep_going: bool) -> Result<Dispatch, Unmade> {
     match local_of(alloc, park.jobs) {
-        Ok(local) => dispatch_at(alloc, park, local),
+        Ok(local) => dispatch_at(alloc, park, local, keep_going),
         Err(why) => Err(why),
     }
 }
