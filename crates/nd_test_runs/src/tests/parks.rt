@@ -3,16 +3,26 @@
 use nd_ledger::Dispatch;
 use nd_receipts::ParkPlace;
 use nd_script::Rule;
-use nd_test_fixtures::parks::{builders_alone, close, dispatch_of};
+use nd_test_fixtures::parks::{builders_alone, close, dispatch_that};
 use nd_transports::{RuleBook, StandIn, Transport};
-use nd_workers::{NotRun, Ran, Seat, run};
+use nd_workers::{NotRun, Ran, Seat, run, run_alone};
 use std::alloc::{AllocError, Global};
 use std::sync::Wait;
 use std::thread::Threads;
 
 /// A dispatch over this bundle and these builders alone, or none where memory is wanting.
 pub(crate) fn dispatch(alloc: Global, bundle: &str, builders: &str) -> Option<Dispatch> {
-    match dispatch_of(alloc, &builders_alone(bundle, builders)) {
+    dispatch_where(alloc, bundle, builders, false)
+}
+
+/// As [`dispatch`], where the rest goes on after a failure if it is to keep going.
+pub(crate) fn dispatch_where(
+    alloc: Global,
+    bundle: &str,
+    builders: &str,
+    keep_going: bool,
+) -> Option<Dispatch> {
+    match dispatch_that(alloc, &builders_alone(bundle, builders), keep_going) {
         Ok(dispatch) => Some(dispatch),
         Err(_) => None,
     }
@@ -69,13 +79,26 @@ fn push_stand(seats: &mut Vec<Seat<StandIn>>, slot: u32, transport: StandIn) -> 
         .is_ok()
 }
 
+/// Who serves the leases of a run.
+#[derive(Clone, Copy)]
+pub(crate) enum By {
+    /// A thread for each worker.
+    Threads,
+    /// The calling thread alone.
+    Alone,
+}
+
 /// Runs a dispatch. No test asks for what the run promises, so that this alone is proved beside it.
 pub(crate) fn ran<T: Transport, R: Threads + Wait + Sync>(
     rt: &R,
+    by: By,
     opened: Dispatch,
     seats: Vec<Seat<T>>,
 ) -> Result<Ran<T>, NotRun<T>> {
-    run(rt, opened, seats)
+    match by {
+        By::Threads => run(rt, opened, seats),
+        By::Alone => run_alone(rt, opened, seats),
+    }
 }
 
 /// Lets go of what came back of a run.

@@ -1,6 +1,8 @@
 //! The worked examples of runs.
 
-use crate::tests::parks::{close_refused, close_run, dispatch, ran, stand_at, stand_in, stands};
+use crate::tests::parks::{
+    By, close_refused, close_run, dispatch, ran, stand_at, stand_in, stands,
+};
 use nd_closure::Refs;
 use nd_ledger::Dispatch;
 use nd_path::{PathSet, StorePath};
@@ -40,7 +42,7 @@ fn has_receipts(receipts: &[Receipt], numbers: &[(usize, u8)]) -> bool {
 
 /// What the stand-ins of an example do beside connecting, copying and building.
 #[derive(Clone, Copy)]
-enum Stand {
+pub(crate) enum Stand {
     /// Nothing else.
     Plain,
     /// Each connect on this machine is refused.
@@ -109,7 +111,7 @@ fn push_worker(
 }
 
 /// Workers on these places, whose stand-ins do so; fewer where memory is wanting.
-fn workers(alloc: Global, places: &[ParkPlace], stand: Stand) -> Vec<Seat<StandIn>> {
+pub(crate) fn workers(alloc: Global, places: &[ParkPlace], stand: Stand) -> Vec<Seat<StandIn>> {
     let mut seats = Vec::new(alloc);
     for place in places {
         push_worker(alloc, &mut seats, *place, stand);
@@ -118,33 +120,34 @@ fn workers(alloc: Global, places: &[ParkPlace], stand: Stand) -> Vec<Seat<StandI
 }
 
 /// The first slot of machine 1.
-const FIRST: ParkPlace = ParkPlace {
+pub(crate) const FIRST: ParkPlace = ParkPlace {
     machine: 1,
     slot: 0,
 };
 
 /// The first slot of machine 2.
-const SECOND: ParkPlace = ParkPlace {
+pub(crate) const SECOND: ParkPlace = ParkPlace {
     machine: 2,
     slot: 0,
 };
 
 /// The one place of a park with one slot.
-const ONE: [ParkPlace; 1] = [FIRST];
+pub(crate) const ONE: [ParkPlace; 1] = [FIRST];
 
 /// The places of two machines with a slot each.
-const TWO: [ParkPlace; 2] = [FIRST, SECOND];
+pub(crate) const TWO: [ParkPlace; 2] = [FIRST, SECOND];
 
 /// Whether a run ended without a fault and with these lines.
-fn is_end(alloc: Global, end: Ran<StandIn>, lines: &str) -> bool {
+pub(crate) fn is_end(alloc: Global, end: Ran<StandIn>, lines: &str) -> bool {
     let right = end.fault.is_none() && has_lines(alloc, &end.dispatch, lines);
     close_run(end);
     right
 }
 
 /// Whether a run of this dispatch ends without a fault and with these lines.
-fn gives<R: Threads + Wait + Sync>(
+pub(crate) fn gives<R: Threads + Wait + Sync>(
     rt: &R,
+    by: By,
     alloc: Global,
     opened: Option<Dispatch>,
     places: &[ParkPlace],
@@ -154,7 +157,7 @@ fn gives<R: Threads + Wait + Sync>(
     let Some(opened) = opened else {
         return false;
     };
-    match ran(rt, opened, workers(alloc, places, stand)) {
+    match ran(rt, by, opened, workers(alloc, places, stand)) {
         Ok(end) => is_end(alloc, end, lines),
         Err(refused) => {
             close_refused(refused);
@@ -163,8 +166,38 @@ fn gives<R: Threads + Wait + Sync>(
     }
 }
 
+/// A run over a bundle and these builders alone, by workers whose stand-ins do so, and the lines of its history.
+#[derive(Clone, Copy)]
+pub(crate) struct Example {
+    pub(crate) bundle: &'static str,
+    pub(crate) builders: &'static str,
+    pub(crate) stand: Stand,
+    pub(crate) lines: &'static str,
+}
+
+/// Whether the runs of these examples by workers on these places end without a fault and with their lines.
+pub(crate) fn are_given<R: Threads + Wait + Sync>(
+    rt: &R,
+    by: By,
+    alloc: Global,
+    places: &[ParkPlace],
+    examples: &[Example],
+) -> bool {
+    for example in examples {
+        let opened = dispatch(alloc, example.bundle, example.builders);
+        if !gives(rt, by, alloc, opened, places, example.stand, example.lines) {
+            return false;
+        }
+    }
+    true
+}
+
 /// Whether these are the receipts of the two workers of a run.
-fn are_receipts(receipts: &[Vec<Receipt>], first: &[(usize, u8)], second: &[(usize, u8)]) -> bool {
+pub(crate) fn are_receipts(
+    receipts: &[Vec<Receipt>],
+    first: &[(usize, u8)],
+    second: &[(usize, u8)],
+) -> bool {
     match (receipts.get(0), receipts.get(1)) {
         (Some(one), Some(two)) => {
             has_receipts(one.as_slice(), first) && has_receipts(two.as_slice(), second)
@@ -173,18 +206,19 @@ fn are_receipts(receipts: &[Vec<Receipt>], first: &[(usize, u8)], second: &[(usi
     }
 }
 
-/// Whether these are the receipts of the two workers of a run over a plain node.
-fn gives_receipts<R: Threads + Wait + Sync>(
+/// Whether these are the receipts of the two workers of a run of this dispatch.
+pub(crate) fn gives_receipts<R: Threads + Wait + Sync>(
     rt: &R,
-    alloc: Global,
-    stand: Stand,
+    by: By,
+    opened: Option<Dispatch>,
+    seats: Vec<Seat<StandIn>>,
     first: &[(usize, u8)],
     second: &[(usize, u8)],
 ) -> bool {
-    let Some(opened) = dispatch(alloc, PLAIN_1, "m;n") else {
+    let Some(opened) = opened else {
         return false;
     };
-    match ran(rt, opened, workers(alloc, &TWO, stand)) {
+    match ran(rt, by, opened, seats) {
         Ok(end) => {
             let right = are_receipts(end.receipts.as_slice(), first, second);
             close_run(end);
@@ -197,12 +231,42 @@ fn gives_receipts<R: Threads + Wait + Sync>(
     }
 }
 
+/// Whether these are the receipts of the workers of two machines of a run over a plain node, of which the second one's are
+/// those of a build.
+fn builds_elsewhere<R: Threads + Wait + Sync>(
+    rt: &R,
+    by: By,
+    alloc: Global,
+    stand: Stand,
+    first: &[(usize, u8)],
+) -> bool {
+    let plain = dispatch(alloc, PLAIN_1, "m;n");
+    gives_receipts(
+        rt,
+        by,
+        plain,
+        workers(alloc, &TWO, stand),
+        first,
+        &[(3, 2), (4, 1)],
+    )
+}
+
+/// Whether the worker of machine 1 has a receipt of its one call or its two where these are refused.
+pub(crate) fn gives_refused_receipts<R: Threads + Wait + Sync>(
+    rt: &R,
+    by: By,
+    alloc: Global,
+) -> bool {
+    builds_elsewhere(rt, by, alloc, Stand::NoConnect(1), &[(1, 1)])
+        && builds_elsewhere(rt, by, alloc, Stand::NoCopy(1), &[(1, 2)])
+}
+
 /// The history of the stored run.
-const STORED: &str =
+pub(crate) const STORED: &str =
     "chosen 0 1 0\nstarted 0 s1\nbuilt 0 o\nchosen 1 1 0\nstarted 1\nbuilt 1 o\nchosen 2 1 0\nstarted 2\nbuilt 2 o\n";
 
 /// A transport of whatever type.
-type AnyTransport = Box<dyn Transport + Send>;
+pub(crate) type AnyTransport = Box<dyn Transport + Send>;
 
 /// Whether a run ended with the stored run's history, and with the receipts that belong to it.
 fn is_stored(alloc: Global, end: Ran<AnyTransport>) -> bool {
@@ -226,15 +290,16 @@ fn is_stored(alloc: Global, end: Ran<AnyTransport>) -> bool {
 }
 
 /// Whether the stored run by this worker gives its history, and the receipts that belong to it.
-fn gives_stored<R: Threads + Wait + Sync>(
+pub(crate) fn gives_stored<R: Threads + Wait + Sync>(
     rt: &R,
+    by: By,
     alloc: Global,
     workers: Vec<Seat<AnyTransport>>,
 ) -> bool {
     let Some(opened) = dispatch(alloc, CHAIN, "m") else {
         return false;
     };
-    match ran(rt, opened, workers) {
+    match ran(rt, by, opened, workers) {
         Ok(end) => is_stored(alloc, end),
         Err(refused) => {
             close(refused.dispatch);
@@ -243,58 +308,92 @@ fn gives_stored<R: Threads + Wait + Sync>(
     }
 }
 
-#[test]
-fn stored_run(rt: HostRuntime) -> Result<(), Fail> {
-    let alloc = rt.alloc();
+/// The worker of the stored run.
+pub(crate) fn stored_worker(alloc: Global) -> Result<Vec<Seat<AnyTransport>>, Fail> {
     let stand = stand_in(alloc, 1, Vec::new(alloc))?;
     let transport: AnyTransport = Box::new(alloc, stand)?;
     let worker = Seat {
         place: FIRST,
         transport,
     };
-    let workers = vec![in alloc; worker]?;
-    assert!(rt; gives_stored(&rt, alloc, workers));
+    Ok(vec![in alloc; worker]?)
+}
+
+#[test]
+fn stored_run(rt: HostRuntime) -> Result<(), Fail> {
+    let workers = stored_worker(rt.alloc())?;
+    assert!(rt; gives_stored(&rt, By::Threads, rt.alloc(), workers));
     Ok(())
 }
+
+/// The history where machine 1 isn't reached, and machine 2 is.
+const ELSEWHERE: &str = "chosen 0 1 0\ndown 0\nchosen 0 2 0\nstarted 0\nbuilt 0 o\n";
+
+/// A connect, and a copy, that machine 1 refuses.
+pub(crate) const REFUSED: [Example; 2] = [
+    Example {
+        bundle: PLAIN_1,
+        builders: "m;n",
+        stand: Stand::NoConnect(1),
+        lines: ELSEWHERE,
+    },
+    Example {
+        bundle: PLAIN_1,
+        builders: "m;n",
+        stand: Stand::NoCopy(1),
+        lines: ELSEWHERE,
+    },
+];
+
+/// A build that is lost, and one that reports what it may not have.
+pub(crate) const LOST: [Example; 2] = [
+    Example {
+        bundle: PLAIN_1,
+        builders: "m",
+        stand: Stand::Lose,
+        lines: "chosen 0 1 0\nstarted 0\nfailed 0 lost\n",
+    },
+    Example {
+        bundle: PLAIN_1,
+        builders: "m",
+        stand: Stand::Stranger,
+        lines: "chosen 0 1 0\nstarted 0\nfailed 0 references\n",
+    },
+];
+
+/// A run over no derivation.
+pub(crate) const EMPTY: [Example; 1] = [Example {
+    bundle: "",
+    builders: "m",
+    stand: Stand::Plain,
+    lines: "",
+}];
+
+/// A run without a machine.
+pub(crate) const UNMANNED: [Example; 1] = [Example {
+    bundle: PLAIN_1,
+    builders: "",
+    stand: Stand::Plain,
+    lines: "nobuilder 0\n",
+}];
 
 #[test]
 fn refused_connect(rt: HostRuntime) {
     let alloc = rt.alloc();
-    let lines = "chosen 0 1 0\ndown 0\nchosen 0 2 0\nstarted 0\nbuilt 0 o\n";
-    let plain = dispatch(alloc, PLAIN_1, "m;n");
-    assert!(rt; gives(&rt, alloc, plain, &TWO, Stand::NoConnect(1), lines));
-    let plain = dispatch(alloc, PLAIN_1, "m;n");
-    assert!(rt; gives(&rt, alloc, plain, &TWO, Stand::NoCopy(1), lines));
-    assert!(rt;
-        gives_receipts(
-            &rt,
-            alloc,
-            Stand::NoConnect(1),
-            &[(1, 1)],
-            &[(3, 2), (4, 1)]
-        )
-    );
-    assert!(rt; gives_receipts(&rt, alloc, Stand::NoCopy(1), &[(1, 2)], &[(3, 2), (4, 1)]));
+    assert!(rt; are_given(&rt, By::Threads, alloc, &TWO, &REFUSED));
+    assert!(rt; gives_refused_receipts(&rt, By::Threads, alloc));
 }
 
 #[test]
 fn lost_build(rt: HostRuntime) {
-    let alloc = rt.alloc();
-    let lines = "chosen 0 1 0\nstarted 0\nfailed 0 lost\n";
-    let plain = dispatch(alloc, PLAIN_1, "m");
-    assert!(rt; gives(&rt, alloc, plain, &ONE, Stand::Lose, lines));
-    let lines = "chosen 0 1 0\nstarted 0\nfailed 0 references\n";
-    let plain = dispatch(alloc, PLAIN_1, "m");
-    assert!(rt; gives(&rt, alloc, plain, &ONE, Stand::Stranger, lines));
+    assert!(rt; are_given(&rt, By::Threads, rt.alloc(), &ONE, &LOST));
 }
 
 #[test]
 fn empty_run(rt: HostRuntime) {
     let alloc = rt.alloc();
-    let empty = dispatch(alloc, "", "m");
-    assert!(rt; gives(&rt, alloc, empty, &ONE, Stand::Plain, ""));
-    let plain = dispatch(alloc, PLAIN_1, "");
-    assert!(rt; gives(&rt, alloc, plain, &[], Stand::Plain, "nobuilder 0\n"));
+    assert!(rt; are_given(&rt, By::Threads, alloc, &ONE, &EMPTY));
+    assert!(rt; are_given(&rt, By::Threads, alloc, &[], &UNMANNED));
 }
 
 /// Whether a refused run hands back so many workers and a dispatch without entries, and this cause.
@@ -309,6 +408,7 @@ fn is_refused(alloc: Global, refused: NotRun<StandIn>, count: usize, why: RunErr
 /// Whether a run is refused so, and hands back the dispatch and so many workers.
 fn refuses<R: Threads + Wait + Sync>(
     rt: &R,
+    by: By,
     alloc: Global,
     builders: &str,
     seats: Vec<Seat<StandIn>>,
@@ -318,7 +418,7 @@ fn refuses<R: Threads + Wait + Sync>(
         return false;
     };
     let count = seats.len();
-    match ran(rt, opened, seats) {
+    match ran(rt, by, opened, seats) {
         Ok(end) => {
             close_run(end);
             false
@@ -327,15 +427,25 @@ fn refuses<R: Threads + Wait + Sync>(
     }
 }
 
+/// Whether a run without a worker, one by two workers on one place and one by more than 1,024 workers are refused.
+pub(crate) fn refuses_workers<R: Threads + Wait + Sync>(rt: &R, by: By, alloc: Global) -> bool {
+    let none = workers(alloc, &[], Stand::Plain);
+    let twice = workers(alloc, &[FIRST, FIRST], Stand::Plain);
+    refuses(rt, by, alloc, "m", none, RunError::Slots)
+        && refuses(rt, by, alloc, "m", twice, RunError::Slots)
+        && refuses(
+            rt,
+            by,
+            alloc,
+            "m - - 1025",
+            stands(alloc, 1025),
+            RunError::TooManySlots,
+        )
+}
+
 #[test]
 fn refused_run(rt: HostRuntime) {
-    let alloc = rt.alloc();
-    let none = workers(alloc, &[], Stand::Plain);
-    assert!(rt; refuses(&rt, alloc, "m", none, RunError::Slots));
-    let twice = workers(alloc, &[FIRST, FIRST], Stand::Plain);
-    assert!(rt; refuses(&rt, alloc, "m", twice, RunError::Slots));
-    let many = stands(alloc, 1025);
-    assert!(rt; refuses(&rt, alloc, "m - - 1025", many, RunError::TooManySlots));
+    assert!(rt; refuses_workers(&rt, By::Threads, rt.alloc()));
 }
 
 /// Whether two calls of `abandon` leave these lines after a pump.
@@ -369,7 +479,7 @@ fn drain_first(opened: &mut Dispatch) -> bool {
 }
 
 /// The dispatch of one plain node and two machines, of which the first is drained.
-fn drained(alloc: Global) -> Option<Dispatch> {
+pub(crate) fn drained(alloc: Global) -> Option<Dispatch> {
     let mut opened = dispatch(alloc, PLAIN_1, "m;n")?;
     if !drain_first(&mut opened) {
         close(opened);
@@ -378,12 +488,23 @@ fn drained(alloc: Global) -> Option<Dispatch> {
     Some(opened)
 }
 
+/// The history where machine 1 is drained before the run.
+pub(crate) const DRAINED: &str = "drain 1\nchosen 0 2 0\nstarted 0\nbuilt 0 o\n";
+
 #[test]
 fn drained_run(rt: HostRuntime) {
     let alloc = rt.alloc();
-    let lines = "drain 1\nchosen 0 2 0\nstarted 0\nbuilt 0 o\n";
-    let drained = drained(alloc);
-    assert!(rt; gives(&rt, alloc, drained, &TWO, Stand::Plain, lines));
+    assert!(rt;
+        gives(
+            &rt,
+            By::Threads,
+            alloc,
+            drained(alloc),
+            &TWO,
+            Stand::Plain,
+            DRAINED
+        )
+    );
 }
 
 /// Leases the one node of a dispatch on slot 0 of machine 1, and starts the lease where asked to.
@@ -401,7 +522,7 @@ fn lease_first(alloc: Global, opened: &mut Dispatch, started: bool) -> bool {
 }
 
 /// The dispatch of one plain node whose lease is live, and started where asked.
-fn leased(alloc: Global, started: bool) -> Option<Dispatch> {
+pub(crate) fn leased(alloc: Global, started: bool) -> Option<Dispatch> {
     let mut opened = dispatch(alloc, PLAIN_1, "m")?;
     if !lease_first(alloc, &mut opened, started) {
         close(opened);
@@ -425,6 +546,7 @@ fn is_taken_up(alloc: Global, end: Ran<StandIn>, calls: u8, lines: &str) -> bool
 /// Whether a run that goes on from a started lease ends so.
 fn takes_up<R: Threads + Wait + Sync>(
     rt: &R,
+    by: By,
     alloc: Global,
     stand: Stand,
     calls: u8,
@@ -433,7 +555,7 @@ fn takes_up<R: Threads + Wait + Sync>(
     let Some(opened) = leased(alloc, true) else {
         return false;
     };
-    match ran(rt, opened, workers(alloc, &ONE, stand)) {
+    match ran(rt, by, opened, workers(alloc, &ONE, stand)) {
         Ok(end) => is_taken_up(alloc, end, calls, lines),
         Err(refused) => {
             close_refused(refused);
@@ -442,18 +564,26 @@ fn takes_up<R: Threads + Wait + Sync>(
     }
 }
 
-/// A lease that is live when a run begins is taken up; where it was started its build is asked for again, and it
-/// is lost where its machine isn't reached.
+/// Whether a lease that was started is taken up: its build is asked for again, and it is lost where its machine isn't
+/// reached.
+pub(crate) fn takes_up_started<R: Threads + Wait + Sync>(rt: &R, by: By, alloc: Global) -> bool {
+    let lost = "chosen 0 1 0\nstarted 0\nfailed 0 lost\n";
+    takes_up(rt, by, alloc, Stand::Plain, 3, BUILT)
+        && takes_up(rt, by, alloc, Stand::Lose, 3, lost)
+        && takes_up(rt, by, alloc, Stand::NoCopy(1), 2, lost)
+        && takes_up(rt, by, alloc, Stand::NoConnect(1), 1, lost)
+}
+
+/// The history of one derivation that is built on machine 1.
+pub(crate) const BUILT: &str = "chosen 0 1 0\nstarted 0\nbuilt 0 o\n";
+
+/// A lease that is live when a run begins is taken up.
 #[test]
 fn taken_up(rt: HostRuntime) {
     let alloc = rt.alloc();
-    let built = "chosen 0 1 0\nstarted 0\nbuilt 0 o\n";
-    let lost = "chosen 0 1 0\nstarted 0\nfailed 0 lost\n";
-    assert!(rt; gives(&rt, alloc, leased(alloc, false), &ONE, Stand::Plain, built));
-    assert!(rt; takes_up(&rt, alloc, Stand::Plain, 3, built));
-    assert!(rt; takes_up(&rt, alloc, Stand::Lose, 3, lost));
-    assert!(rt; takes_up(&rt, alloc, Stand::NoCopy(1), 2, lost));
-    assert!(rt; takes_up(&rt, alloc, Stand::NoConnect(1), 1, lost));
+    let live = leased(alloc, false);
+    assert!(rt; gives(&rt, By::Threads, alloc, live, &ONE, Stand::Plain, BUILT));
+    assert!(rt; takes_up_started(&rt, By::Threads, alloc));
 }
 
 /// The history of the stored run where so many calls pass.
@@ -473,29 +603,55 @@ pub(crate) fn blown(passes: u32) -> &'static str {
     }
 }
 
-#[test]
-fn blown_fuse(rt: HostRuntime) {
-    let alloc = rt.alloc();
-    let mut all = true;
+/// Whether a run of the chain on one slot gives what belongs to each fuse, up to one that isn't blown.
+pub(crate) fn blows<R: Threads + Wait + Sync>(rt: &R, by: By, alloc: Global) -> bool {
     for passes in 0..10u32 {
         let chain = dispatch(alloc, CHAIN, "m");
-        if !gives(&rt, alloc, chain, &ONE, Stand::Fuse(passes), blown(passes)) {
-            all = false;
+        if !gives(
+            rt,
+            by,
+            alloc,
+            chain,
+            &ONE,
+            Stand::Fuse(passes),
+            blown(passes),
+        ) {
+            return false;
         }
     }
-    assert!(rt; all);
+    true
+}
+
+#[test]
+fn blown_fuse(rt: HostRuntime) {
+    assert!(rt; blows(&rt, By::Threads, rt.alloc()));
+}
+
+/// The history of the chain where its first build reports what it may not have.
+const MISREPORTED: &str = "chosen 0 1 0\nstarted 0 s1\nfailed 0 references\n";
+
+/// The run of the chain on one slot whose first build reports so.
+fn misreporting(stand: Stand) -> Example {
+    Example {
+        bundle: CHAIN,
+        builders: "m",
+        stand,
+        lines: MISREPORTED,
+    }
+}
+
+/// No list for the one output, two lists, and a list with a source of no node.
+pub(crate) fn dishonest() -> [Example; 3] {
+    [
+        misreporting(Stand::Lists(0)),
+        misreporting(Stand::Lists(2)),
+        misreporting(Stand::Stranger),
+    ]
 }
 
 #[test]
 fn dishonest_transports(rt: HostRuntime) {
-    let alloc = rt.alloc();
-    let lines = "chosen 0 1 0\nstarted 0 s1\nfailed 0 references\n";
-    let chain = dispatch(alloc, CHAIN, "m");
-    assert!(rt; gives(&rt, alloc, chain, &ONE, Stand::Lists(0), lines));
-    let chain = dispatch(alloc, CHAIN, "m");
-    assert!(rt; gives(&rt, alloc, chain, &ONE, Stand::Lists(2), lines));
-    let chain = dispatch(alloc, CHAIN, "m");
-    assert!(rt; gives(&rt, alloc, chain, &ONE, Stand::Stranger, lines));
+    assert!(rt; are_given(&rt, By::Threads, rt.alloc(), &ONE, &dishonest()));
 }
 
 /// What a run by one worker has of the references of its one build: how many lists were refused, and how many its
@@ -514,9 +670,14 @@ fn refused_lists(end: &Ran<StandIn>) -> Option<(usize, usize)> {
 }
 
 /// The refused lists of a run over the chain, whose worker does so.
-fn judged<R: Threads + Wait + Sync>(rt: &R, alloc: Global, stand: Stand) -> Option<(usize, usize)> {
+fn judged<R: Threads + Wait + Sync>(
+    rt: &R,
+    by: By,
+    alloc: Global,
+    stand: Stand,
+) -> Option<(usize, usize)> {
     let opened = dispatch(alloc, CHAIN, "m")?;
-    match ran(rt, opened, workers(alloc, &ONE, stand)) {
+    match ran(rt, by, opened, workers(alloc, &ONE, stand)) {
         Ok(end) => {
             let lists = refused_lists(&end);
             close_run(end);
@@ -529,13 +690,16 @@ fn judged<R: Threads + Wait + Sync>(rt: &R, alloc: Global, stand: Stand) -> Opti
     }
 }
 
-/// References that a build may not have are handed back, as they were reported; no other ones are.
+/// Whether references that a build may not have are handed back, as they were reported, and no other ones are.
+pub(crate) fn judges<R: Threads + Wait + Sync>(rt: &R, by: By, alloc: Global) -> bool {
+    judged(rt, by, alloc, Stand::Stranger) == Some((1, 1))
+        && judged(rt, by, alloc, Stand::Lists(0)) == Some((0, 0))
+        && judged(rt, by, alloc, Stand::Lists(2)) == Some((2, 2))
+        && judged(rt, by, alloc, Stand::Plain).is_none()
+        && judged(rt, by, alloc, Stand::Lose).is_none()
+}
+
 #[test]
 fn judged_references(rt: HostRuntime) {
-    let alloc = rt.alloc();
-    assert!(rt; judged(&rt, alloc, Stand::Stranger) == Some((1, 1)));
-    assert!(rt; judged(&rt, alloc, Stand::Lists(0)) == Some((0, 0)));
-    assert!(rt; judged(&rt, alloc, Stand::Lists(2)) == Some((2, 2)));
-    assert!(rt; judged(&rt, alloc, Stand::Plain).is_none());
-    assert!(rt; judged(&rt, alloc, Stand::Lose).is_none());
+    assert!(rt; judges(&rt, By::Threads, rt.alloc()));
 }
