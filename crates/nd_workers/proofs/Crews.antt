@@ -1,5 +1,5 @@
 -- Lemmas on workers that the calling thread serves.
-use Rattle.std.proofs.Common.{◌≡◌, List, sym, subst, ◌∙◌}
+use Rattle.std.proofs.Common.{List, sym, subst, ◌∙◌}
 use Rattle.std.specs.List.{AllZip}
 use Rattle.nd_receipts.specs.Noted.{Noted, track_of}
 use Rattle.nd_run_desk.specs.declared.opened.Opened as Opened

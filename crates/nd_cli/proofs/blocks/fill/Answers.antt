@@ -1,4 +1,4 @@
-use Rattle.std.proofs.Common.{rules, List, ℕ, ◌-◌, ◌∙◌, length, sym, subst, arith}
+use Rattle.std.proofs.Common.{rules, List, ℕ, ◌-◌, ◌∙◌, length, sym, subst}
 use Rattle.std.specs.Io.KnownBytes.{Consumes}
 use Rattle.std.proofs.KnownBytes.{Consumes-trans}
 use borrow.Rule.Slice.PartMut.{same_len_mid}
