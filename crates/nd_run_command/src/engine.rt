@@ -46,7 +46,7 @@ pub fn run_engine<T: Transport, R: Threads + Wait + Sync, W: Write>(
 }
 
 /// As [`run_engine`], but that the calling thread does the work of all workers, one lease after another. It is for
-/// transports that answer at once, as stand-ins do; `Thread` doesn't come.
+/// transports that answer at once, as stand-ins do. `Thread` isn't expected, though no clause excludes it.
 pub fn run_alone_engine<T: Transport, R: Threads + Wait + Sync, W: Write>(
     rt: &R,
     dispatch: Dispatch,

@@ -19,12 +19,14 @@ use nd_transports::Transport;
 use std::sync::Wait;
 use std::thread::Threads;
 
-/// As [`run`](crate::run), but that the calling thread does the work of all workers: it serves one lease after another, in the order
-/// in which they were chosen. It is for transports that answer at once, as stand-ins do: no thread waits for the lock
-/// or is woken then, which costs more than such a lease. A transport that waits for something has all others wait.
-/// Two runs of one dispatch by transports that answer alike have the same history.
+/// As [`run`](crate::run), but that the calling thread does the work of all workers: it serves one lease after
+/// another, in the order in which they were chosen. It is for transports that answer at once, as stand-ins do: no
+/// thread waits for the lock or is woken then, which costs more than such a lease. A transport that waits for
+/// something has all others wait. That two runs of one dispatch by transports that answer alike have the same history
+/// is tested, and no clause says it.
 ///
-/// Refuses as `run` does, and ends as that does: each worker counts as one that had a thread, so `Thread` (1) doesn't come.
+/// Refuses as `run` does, and ends as that does: each worker counts as one that had a thread, so `Thread` (1) isn't
+/// expected, though no clause excludes it.
 pub fn run_alone<T: Transport, R: Threads + Wait + Sync>(
     rt: &R,
     dispatch: Dispatch,
