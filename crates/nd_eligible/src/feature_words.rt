@@ -12,8 +12,11 @@ use std::alloc::{AllocError, Global};
 pub fn words(alloc: Global, text: &[u8]) -> Result<FeatureSet, AllocError>
     ensures { IfOk result (λ set. set ≡ word_set text.now) }
 {
-    let mut found = Vec::new(alloc);
-    for piece in &pieces(alloc, text)? {
+    let pieces = pieces(alloc, text)?;
+    // Derivations keep their features, so a list has room for its words alone.
+    let count = pieces.iter().filter(|piece| !piece.is_empty()).count();
+    let mut found = Vec::with_capacity(alloc, count)?;
+    for piece in &pieces {
         if !piece.is_empty() {
             found.push(ByteString::from_slice(alloc, piece)?)?;
         }
