@@ -1,14 +1,18 @@
 -- Lemmas on what a stand-in answers.
-use Rattle.std.proofs.Common.{◌≡◌, ℕ, Bool, List, subst}
+use Rattle.std.proofs.Common.{◌≡◌, ℕ, refl, subst}
 use Rattle.std.specs.List.{find}
-use Rattle.nd_transports.specs.declared.kinds.Answer.{Answer}
-use Rattle.nd_script.specs.declared.rule.Rule.{Rule}
 use Rattle.nd_script.specs.Rules.{is_about}
-use Rattle.nd_transports.specs.StandIns.{answer_by, IsTold}
+use Rattle.nd_transports.specs.declared.kinds.Answer.{Answer}
+use Rattle.nd_transports.specs.declared.kinds.Ended.{Ended}
+use Rattle.nd_transports.specs.Answers.{ended_of}
+use Rattle.nd_transports.specs.Calls.{State, built}
+use Rattle.nd_transports.specs.Conducts.{Conducted, stood}
+use Rattle.nd_transports.specs.StandIns.{answer_by, burnt, lets_pass, IsTold, StandInBuilds}
 
--- the answer about the same derivation
-pub told_as : (outputs d e : ℕ) (rules : List Rule) (answer : Answer) (p q : Bool) → p ≡ q → d ≡ e → IsTold p (answer_by outputs (find (is_about d) rules)) answer → IsTold q (answer_by outputs (find (is_about e) rules)) answer
-told_as outputs d e rules answer p q pq de h =
-    let P : Bool → Type 0 = λ b. IsTold b (answer_by outputs (find (is_about e) rules)) answer in
-    let D : ℕ → Type 0 = λ n. IsTold p (answer_by outputs (find (is_about n) rules)) answer in
-    subst P pq (subst D de h)
+-- the build of a stand-in: what it goes by answers about the derivation of the job that was prepared last
+pub stood_builds : (c d : Conducted) (s t : State) (drv : ℕ) (answer : Answer) (ended : Ended) → drv ≡ s.drv
+    → IsTold (lets_pass c.fuse) (answer_by c.outputs (find (is_about drv) c.rules)) answer → d ≡ record c { fuse = burnt c.fuse }
+    → ended ≡ ended_of answer → t ≡ built s answer → StandInBuilds (stood c s) ended (stood d t)
+stood_builds c d s t drv answer ended same told after is noted =
+    let D : ℕ → Type 0 = λ n. IsTold (lets_pass c.fuse) (answer_by c.outputs (find (is_about n) c.rules)) answer in
+    record { answer = answer; by_rules = subst D same told; told = is; after = rw (after, noted) refl }

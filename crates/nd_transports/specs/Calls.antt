@@ -1,4 +1,4 @@
--- What a transport is seen as, and what each call does to it. The clauses of `Transport` and `CallLog` cite these
+-- What a transport is seen as, and what each call does to it. The clauses of `Transport`, `CallLog` and `LastCall` cite these
 -- definitions. This project's own choice.
 use Rattle.std.specs.Prelude.{◌≡◌, ℕ, Bool, List, [], ◌∷◌, ◌++◌, if◌then◌else◌}
 use Rattle.nd_transports.specs.declared.kinds.Answer.{Answer}

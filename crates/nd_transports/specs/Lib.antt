@@ -1,6 +1,8 @@
 pub mod Answers
 pub mod Books
 pub mod Calls
+pub mod Conducts
+pub mod LastCalls
 pub mod Logs
 pub mod Services
 pub mod StandIns

@@ -1,20 +1,16 @@
 //! A transport that follows rules.
 
-ghost use Rattle.std.specs.Prelude.{◌≡◌, ◌++◌, ◌∷◌, [], ℕ, List, Option, Some, None, IfOk, OnOk, OnErr, length, replicate, not};
-ghost use Rattle.std.specs.List.{find, list_any};
-ghost use Rattle.nd_transports.specs.Answers.{ended_of};
+ghost use Rattle.std.specs.Prelude.{◌≡◌, ℕ, List, Option, Some, IfOk, OnOk, OnErr, length};
 ghost use Rattle.nd_transports.specs.Calls.{prepared, connected, copied, built, Reports, IsIdleAgain};
-ghost use Rattle.nd_script.specs.Rules.{is_no_connect, is_no_copy, is_about};
-ghost use Rattle.nd_transports.specs.StandIns.{fresh, readied, answer_by, lets_pass, burnt, connects, copies, NeedsLists, IsTold, StandInBuilds};
+ghost use Rattle.nd_transports.specs.StandIns.{fresh, readied, burnt, connects, copies, StandInBuilds};
 
 use crate::call_log::CallLog;
-use crate::kinds::{Answer, Ended, Phase};
+use crate::conduct::Conduct;
+use crate::kinds::{Ended, Phase};
 use crate::rule_book::RuleBook;
 use crate::transport::Transport;
 use nd_closure::Refs;
 use nd_ledger::Job;
-use nd_path::PathSet;
-use nd_script::Rule;
 use std::alloc::{AllocError, Global};
 use std::marker::Model;
 
@@ -25,12 +21,7 @@ use std::marker::Model;
 #[derive(Drop, Debug)]
 pub struct StandIn {
     alloc: Global,
-    machine: u32,
-    outputs: usize,
-    rules: RuleBook,
-    refuses_connect: bool,
-    refuses_copy: bool,
-    passes: Option<u32>,
+    conduct: Conduct,
     log: CallLog,
 }
 
@@ -39,11 +30,9 @@ impl Model for StandIn {
 
     ghost Value = { Stood };
 
-    ghost use Rattle.nd_transports.specs.Standing.{stood, HasLooked};
+    ghost use Rattle.nd_transports.specs.Conducts.{stood};
 
-    ghost view = { stood };
-
-    ghost invariant = { HasLooked };
+    ghost view = { λ s. stood s.conduct s.log };
 }
 
 impl StandIn {
@@ -54,12 +43,7 @@ impl StandIn {
     {
         StandIn {
             alloc,
-            machine,
-            outputs: 0,
-            refuses_connect: rules.refuses_connect(machine),
-            refuses_copy: rules.refuses_copy(machine),
-            rules,
-            passes: None,
+            conduct: Conduct::new(alloc, machine, rules),
             log: CallLog::new(alloc),
         }
     }
@@ -69,7 +53,7 @@ impl StandIn {
     pub fn fuse(&mut self, passes: u32)
         ensures { self.new ≡ record self.old { fuse = Some passes } }
     {
-        self.passes = Some(passes);
+        self.conduct.fuse(passes);
     }
 
     /// The calls so far and how far it is.
@@ -78,67 +62,6 @@ impl StandIn {
     {
         &self.log
     }
-}
-
-/// Whether the fuse lets one more call pass, which burns it down by one.
-fn burn(fuse: &mut Option<u32>) -> bool
-    ensures passes { result ≡ lets_pass fuse.old }
-    ensures burnt { fuse.new ≡ burnt fuse.old }
-{
-    match *fuse {
-        None => true,
-        Some(0) => false,
-        Some(passes) => {
-            *fuse = Some(passes - 1);
-            true
-        }
-    }
-}
-
-/// How the build of derivation `drv` ends: it is lost where the fuse doesn't let it pass, or where it ends
-/// with its outputs and no memory is found for their references.
-fn told(alloc: Global, rules: &RuleBook, drv: u32, outputs: usize, passes: bool) -> Answer
-    ensures { IsTold passes (answer_by outputs (find (is_about drv) rules.now)) result }
-{
-    if !passes {
-        return Answer::Lost;
-    }
-    match answer(alloc, rules, drv, outputs) {
-        Ok(answer) => answer,
-        Err(_) => Answer::Lost,
-    }
-}
-
-/// How the build of derivation `drv` ends by the first of these rules about it. Memory is refused for the
-/// references of outputs alone.
-fn answer(alloc: Global, rules: &RuleBook, drv: u32, outputs: usize) -> Result<Answer, AllocError>
-    ensures ok { IfOk result (λ answer. answer ≡ answer_by outputs (find (is_about drv) rules.now)) }
-    ensures err { OnErr result (NeedsLists (answer_by outputs (find (is_about drv) rules.now))) }
-{
-    match rules.about(drv) {
-        Some(rule) => answer_by(alloc, rule, outputs),
-        None => Ok(Answer::Built(empty_lists(alloc, outputs)?)),
-    }
-}
-
-/// How a build ends by this rule. Memory is refused for the references of outputs alone.
-fn answer_by(alloc: Global, rule: &Rule, outputs: usize) -> Result<Answer, AllocError>
-    ensures ok { IfOk result (λ answer. answer ≡ answer_by outputs (Some rule.now)) }
-    ensures err { OnErr result (NeedsLists (answer_by outputs (Some rule.now))) }
-{
-    match rule {
-        Rule::Fail(_, code) => Ok(Answer::Status(*code)),
-        Rule::Lose(_) => Ok(Answer::Lost),
-        Rule::Built(_, refs) => Ok(Answer::Built(refs.try_clone()?)),
-        Rule::NoConnect(_) | Rule::NoCopy(_) => Ok(Answer::Built(empty_lists(alloc, outputs)?)),
-    }
-}
-
-/// An empty list for each output.
-fn empty_lists(alloc: Global, outputs: usize) -> Result<Refs, AllocError>
-    ensures { IfOk result (λ refs. refs ≡ replicate outputs []) }
-{
-    Ok(Refs::new(vec![in alloc; PathSet::new(alloc); outputs]?))
 }
 
 impl Transport for StandIn {
@@ -150,7 +73,7 @@ impl Transport for StandIn {
         ensures kept { OnErr result (self.new ≡ record self.old { state = self.new.state }) }
     {
         self.log.prepare(job)?;
-        self.outputs = job.output_paths.len();
+        self.conduct.expect(job.output_paths.len());
         Ok(())
     }
 
@@ -159,8 +82,7 @@ impl Transport for StandIn {
         ensures answer { result ≡ connects self.old }
         ensures after { self.new ≡ record self.old { fuse = burnt self.old.fuse; state = connected self.old.state result } }
     {
-        let passes = burn(&mut self.passes);
-        let answered = passes && !self.refuses_connect;
+        let answered = self.conduct.connects();
         self.log.connected(answered);
         answered
     }
@@ -170,8 +92,7 @@ impl Transport for StandIn {
         ensures answer { result ≡ copies self.old }
         ensures after { self.new ≡ record self.old { fuse = burnt self.old.fuse; state = copied self.old.state result } }
     {
-        let passes = burn(&mut self.passes);
-        let done = passes && !self.refuses_copy;
+        let done = self.conduct.copies();
         self.log.copied(self.alloc, done);
         done
     }
@@ -181,8 +102,7 @@ impl Transport for StandIn {
         ensures { StandInBuilds self.old result self.new }
     {
         let drv = self.log.drv();
-        let passes = burn(&mut self.passes);
-        let answer = told(self.alloc, &self.rules, drv, self.outputs, passes);
+        let answer = self.conduct.builds(drv);
         let ended = answer.ended();
         self.log.built(answer);
         ended

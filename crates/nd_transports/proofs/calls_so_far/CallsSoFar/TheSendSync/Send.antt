@@ -1,0 +1,6 @@
+-- The calls so far own nothing, so they may go to another thread.
+use denote.Param.Send.{IsSend, owning_send}
+use Rattle.nd_transports.specs.contracts.calls_so_far.CallsSoFar.{the_row, the_type}
+
+pub send : IsSend the_row
+send = owning_send the_type tt (λ d. tt) (λ k x w. tt)

@@ -1,0 +1,110 @@
+//! A transport that follows rules and keeps no record.
+
+ghost use Rattle.std.specs.Prelude.{◌≡◌, ℕ, List, Option, Some, IfOk, OnOk, OnErr, length};
+ghost use Rattle.nd_transports.specs.Calls.{prepared, connected, copied, built, Reports, IsIdleAgain};
+ghost use Rattle.nd_transports.specs.StandIns.{fresh, readied, burnt, connects, copies, StandInBuilds};
+
+use crate::conduct::Conduct;
+use crate::kinds::{Ended, Phase};
+use crate::last_call::LastCall;
+use crate::rule_book::RuleBook;
+use crate::transport::Transport;
+use nd_closure::Refs;
+use nd_ledger::Job;
+use std::alloc::{AllocError, Global};
+use std::marker::Model;
+
+/// A stand-in that keeps no record of its calls, but for the last one. It answers as a [`StandIn`](crate::StandIn)
+/// with the same rules and the same fuse does, and takes no more memory however many leases it served. To prepare
+/// a job wants memory for a copy of its paths alone.
+#[derive(Drop, Debug)]
+pub struct ForgetfulStandIn {
+    alloc: Global,
+    conduct: Conduct,
+    log: LastCall,
+}
+
+impl Model for ForgetfulStandIn {
+    ghost use Rattle.nd_transports.specs.StandIns.{Stood};
+
+    ghost Value = { Stood };
+
+    ghost use Rattle.nd_transports.specs.Conducts.{stood};
+
+    ghost view = { λ s. stood s.conduct s.log };
+}
+
+impl ForgetfulStandIn {
+    /// A stand-in for this machine, without a fuse. It takes no memory. The rules about machines are looked
+    /// through here, and not again in each call.
+    pub fn new(alloc: Global, machine: u32, rules: RuleBook) -> ForgetfulStandIn
+        ensures { result ≡ fresh machine rules }
+    {
+        ForgetfulStandIn {
+            alloc,
+            conduct: Conduct::new(alloc, machine, rules),
+            log: LastCall::new(alloc),
+        }
+    }
+
+    /// Sets a fuse: after `passes` more calls of `connect`, `copy` and `build` each of them answers no,
+    /// or that the transport was lost. It takes no memory.
+    pub fn fuse(&mut self, passes: u32)
+        ensures { self.new ≡ record self.old { fuse = Some passes } }
+    {
+        self.conduct.fuse(passes);
+    }
+}
+
+impl Transport for ForgetfulStandIn {
+    ghost state = { λ s. s.state };
+
+    fn prepare(&mut self, job: &Job) -> Result<(), AllocError>
+        ensures ok { OnOk result (self.new ≡ readied self.old (length job.now.output_paths) job.now.ticket.drv job.now.paths) }
+        ensures err { OnErr result (IsIdleAgain self.old.state self.new.state) }
+        ensures kept { OnErr result (self.new ≡ record self.old { state = self.new.state }) }
+    {
+        self.log.prepare(job)?;
+        self.conduct.expect(job.output_paths.len());
+        Ok(())
+    }
+
+    fn connect(&mut self) -> bool
+        requires { self.old.state.phase ≡ Phase.Prepared }
+        ensures answer { result ≡ connects self.old }
+        ensures after { self.new ≡ record self.old { fuse = burnt self.old.fuse; state = connected self.old.state result } }
+    {
+        let answered = self.conduct.connects();
+        self.log.connected(answered);
+        answered
+    }
+
+    fn copy(&mut self) -> bool
+        requires { self.old.state.phase ≡ Phase.Connected }
+        ensures answer { result ≡ copies self.old }
+        ensures after { self.new ≡ record self.old { fuse = burnt self.old.fuse; state = copied self.old.state result } }
+    {
+        let done = self.conduct.copies();
+        self.log.copied(self.alloc, done);
+        done
+    }
+
+    fn build(&mut self) -> Ended
+        requires { self.old.state.phase ≡ Phase.Copied }
+        ensures { StandInBuilds self.old result self.new }
+    {
+        let drv = self.log.drv();
+        let answer = self.conduct.builds(drv);
+        let ended = answer.ended();
+        self.log.built(answer);
+        ended
+    }
+
+    fn reported(&self) -> Result<Refs, AllocError> {
+        self.log.reported()
+    }
+
+    fn phase(&self) -> Phase {
+        self.log.phase()
+    }
+}
