@@ -3,13 +3,13 @@ use Rattle.std.proofs.Common.{◌≡◌, ℕ, zero, suc, ◌<◌, ◌≤◌, Lis
 use Rattle.std.proofs.lemmas.Bool.{cases_lt}
 use Rattle.std.proofs.lemmas.List.{get_or_default, get_or_past, get_or-map, length-map}
 use Rattle.nd_eligible.specs.declared.need.Need.{Need}
-use Rattle.nd_bundle.specs.Columned.{HasColumns}
+use Rattle.nd_bundle.specs.Columned.{HasDetails}
 use Rattle.nd_graph.specs.Graphs.{nodes_of, nodes_with, needed, node_limit, IsOrderFault, IsSound, NamesOutputs, IsAt}
 use Rattle.nd_bundle.specs.Numbered.{of_order}
 use Rattle.nd_bundle.specs.Settled.{AreFit, AreSized, IsFit, IsResolved, ArePaired, AllNamesRise, NamesRise}
 use Rattle.nd_graph.specs.Walks.{AreDistinct, AreInRange, IsAcyclic}
 use Rattle.nd_bundle.specs.Whole.{AllNumbered, AreNumbered, IsNumbered, IsTooMany, IsWholeFault}
-use Rattle.nd_bundle.specs.declared.columns.Columns.{Columns}
+use Rattle.nd_bundle.specs.declared.details.Details.{Details}
 use Rattle.nd_graph.specs.declared.fault.OrderError.{OrderError}
 use Rattle.nd_graph.specs.declared.fault.OrderError.TheVariants.{Cycle, Memory}
 use Rattle.nd_graph.specs.declared.graph.Input.{Input}
@@ -80,9 +80,9 @@ is_sound paths needs rows sources names outputs wants needs_long wants_long sour
 }
 
 -- the parts of nodes have one item per node
-pub columns_sized : (nodes : List LineNode) (columns : Columns) → HasColumns nodes columns → AreSized columns
-columns_sized nodes columns has =
-    let paths : length columns.paths.items ≡ length nodes = ap (λ (xs : List (List ℕ)). length xs) has.paths ∙ length-map nodes (λ (n : LineNode). n.path) in
+pub rows_sized : (nodes : List LineNode) (keys : List (List ℕ)) (details : Details) → keys ≡ map (λ (n : LineNode). n.path) nodes → HasDetails nodes details → AreSized keys details
+rows_sized nodes keys details are has =
+    let paths : length keys ≡ length nodes = ap (λ (xs : List (List ℕ)). length xs) are ∙ length-map nodes (λ (n : LineNode). n.path) in
     record {
       needs = ap (λ (xs : List Need). length xs) has.needs ∙ length-map nodes (λ (n : LineNode). n.need) ∙ sym paths;
       wants = ap (λ (xs : List (List NamedInput)). length xs) has.wants ∙ length-map nodes (λ (n : LineNode). n.inputs) ∙ sym paths;
@@ -97,9 +97,9 @@ paired_at [] d pairs = refl
 paired_at (n ∷ nodes) zero pairs = (pairs n (0, omega arith, refl)).paired
 paired_at (n ∷ nodes) (suc d) pairs = paired_at nodes d (λ node on. pairs node (suc on.0, omega (arith, on.1), on.2))
 
-pub columns_paired : (nodes : List LineNode) (columns : Columns) → HasColumns nodes columns → AreFit nodes → ArePaired columns.names.items columns.outputs.items
-columns_paired nodes columns has pairs = record {
-  sized = (columns_sized nodes columns has).names ∙ sym (columns_sized nodes columns has).outputs;
+pub rows_paired : (nodes : List LineNode) (details : Details) → HasDetails nodes details → AreFit nodes → ArePaired details.names.items details.outputs.items
+rows_paired nodes details has pairs = record {
+  sized = ap (λ (xs : List (List (List ℕ))). length xs) has.names ∙ length-map nodes (λ (n : LineNode). n.output_names) ∙ sym (ap (λ (xs : List (List (List ℕ))). length xs) has.outputs ∙ length-map nodes (λ (n : LineNode). n.outputs));
   paired = λ d.
       ap (λ (xs : List (List (List ℕ))). length (get_or xs d [])) has.names ∙ paired_at nodes d pairs.fit ∙ sym (ap (λ (xs : List (List (List ℕ))). length (get_or xs d [])) has.outputs);
 }
@@ -110,10 +110,10 @@ rising_at [] d fit lt = absurd (omega (arith, lt))
 rising_at (n ∷ nodes) zero fit lt = (fit n (0, omega arith, refl)).rising
 rising_at (n ∷ nodes) (suc d) fit lt = rising_at nodes d (λ node on. fit node (suc on.0, omega (arith, on.1), on.2)) (omega (arith, lt))
 
-pub columns_rising : (nodes : List LineNode) (columns : Columns) → HasColumns nodes columns → AreFit nodes → AllNamesRise columns.names.items
-columns_rising nodes columns has fit = record {
+pub rows_rising : (nodes : List LineNode) (details : Details) → HasDetails nodes details → AreFit nodes → AllNamesRise details.names.items
+rows_rising nodes details has fit = record {
   rise = λ d lt.
-      let long : length columns.names.items ≡ length nodes = ap (λ (xs : List (List (List ℕ))). length xs) has.names ∙ length-map nodes (λ (n : LineNode). n.output_names) in
+      let long : length details.names.items ≡ length nodes = ap (λ (xs : List (List (List ℕ))). length xs) has.names ∙ length-map nodes (λ (n : LineNode). n.output_names) in
       subst (λ (xs : List (List (List ℕ))). NamesRise (get_or xs d [])) (sym has.names) (rising_at nodes d fit.fit (omega arith));
 }
 

@@ -10,6 +10,7 @@ pub mod Parted
 pub mod Pieced
 pub mod Placed
 pub mod Pooled
+pub mod ReadAhead
 pub mod Taken
 pub mod Told
 pub mod Zipped

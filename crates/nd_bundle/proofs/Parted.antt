@@ -1,62 +1,79 @@
 -- What was read of a text that comes in parts, put together.
-use Rattle.std.proofs.Common.{◌≡◌, ℕ, ◌+◌, Bool, List, [], ◌∷◌, ◌++◌, length, Option, Some, None, Result, Ok, Err, IfOk, refl, sym, ap, ◌∙◌, subst, append_assoc}
+use Rattle.std.proofs.Common.{◌≡◌, ℕ, ◌+◌, Bool, List, [], ◌∷◌, ◌++◌, length, map, Option, Some, None, Result, Ok, refl, sym, ap, ◌∙◌, subst, append_assoc}
 use Rattle.std.proofs.lemmas.List.{append-nil}
 use Rattle.std.specs.List.{AllZip}
 use Rattle.std.specs.declared.alloc.AllocError.{AllocError}
+use Rattle.nd_graph.specs.Walks.{AreDistinct}
+use Rattle.nd_line.specs.declared.line.LineNode.{LineNode}
 use Rattle.nd_line.specs.declared.refusal.LineError.{LineError}
 use Rattle.nd_bundle.specs.Bundles.{IsFirstFault}
-use Rattle.nd_bundle.specs.Columned.{HasColumns, SayColumns}
+use Rattle.nd_bundle.specs.Columned.{HasDetails, SayNumbered, SayNumbers}
 use Rattle.nd_bundle.specs.Lines.{lines, lines_in}
 use Rattle.nd_bundle.specs.Numbered.{fault_at}
-use Rattle.nd_bundle.specs.Parts.{ArePieces, GoesOn, HasWholeLines, IsFaultBy, IsFaultOf, IsFoundIn, IsFoundNowhere, IsFoundTo, IsLineEnd, IsReadAsFar, IsReadBehind, IsReading, IsReadUntil, IsRefusedAsFar, IsSpent, IsToldBy, IsUnread, ReadsLines, Takes, TakesAll}
-use Rattle.nd_bundle.specs.Pieces.{HasSameNodes, IsAppended, IsReadPiece, IsReadText, IsReadTo}
+use Rattle.nd_bundle.specs.Numbering.{AddsPaths, AreNoNumbers, HasNumbers, LacksNumbers}
+use Rattle.nd_bundle.specs.Parts.{ArePieces, GoesOn, HasWholeLines, IsFaultBy, IsFaultOf, IsFoundFault, IsFoundIn, IsFoundNowhere, IsFoundNumbered, IsFoundTo, IsLineEnd, IsReadAsFar, IsReadBehind, IsReadFault, IsReadIn, IsReading, IsReadNowhere, IsReadNumbered, IsReadTo, IsReadUntil, IsRefusedAsFar, IsSpent, IsToldBy, IsUnread, ReadsLines, Takes, TakesAll}
+use Rattle.nd_bundle.specs.Pieces.{HasSameNodes, IsAppended, IsReadText}
 use Rattle.nd_bundle.specs.Reading.{Reading}
+use Rattle.nd_bundle.specs.declared.ahead.Ahead.{Ahead}
 use Rattle.nd_bundle.specs.declared.columns.Columns.{Columns}
+use Rattle.nd_bundle.specs.declared.details.Details.{Details}
 use Rattle.nd_bundle.specs.declared.fault.GraphError.{GraphError}
 use Rattle.nd_bundle.specs.declared.fault.GraphError.TheVariants as bundle
 use Rattle.nd_bundle.specs.declared.found.Found.{Found}
+use Rattle.nd_bundle.specs.declared.found.Numbered.{Numbered}
+use Rattle.nd_bundle.specs.declared.number.Numbers.{Numbers}
 use Rattle.nd_bundle.specs.declared.piece.Piece.{Piece}
 use Rattle.nd_bundle.specs.declared.progress.Progress.{Progress}
 use Rattle.nd_bundle.proofs.Newlines.{line_ends, lines_in-append}
 use Rattle.nd_bundle.proofs.Pieced.{fault_here}
-use Rattle.nd_bundle.proofs.Taken.{says_more, says_none}
+use Rattle.nd_bundle.proofs.Taken.{many_numbered, says_more}
+use Rattle.nd_bundle.proofs.Told.{twice_fault}
 
 -- ---- one piece
 
-pub found_none : (found : Found) → found.refused ≡ None → HasColumns [] found.columns → IsFoundNowhere found
-found_none found none has = record { nowhere = λ check. subst (λ (r : Option GraphError). IsFoundTo check [] found.columns r) (sym none) (says_none check found.columns has) }
+pub found_none : (found : Found) → found.refused ≡ None → AreNoNumbers found.numbers → HasDetails [] found.details → IsFoundNowhere found
+found_none found none empty has = record {
+  nowhere = λ check. subst (λ (r : Option GraphError). IsFoundTo check [] found.numbers found.details r) (sym none) (record { nodes = []; says = tt; numbers_are = empty.none; has = has });
+}
 
 -- what was found with no refusal
-said : (check : Bool) (ls : List (List ℕ)) (found : Found) → found.refused ≡ None → IsFoundIn check ls found → SayColumns check ls found.columns
-said check ls found none so = subst (λ (r : Option GraphError). IsFoundTo check ls found.columns r) none so
+said : (check : Bool) (ls : List (List ℕ)) (found : Found) → found.refused ≡ None → IsFoundIn check ls found → SayNumbers check ls found.numbers found.details
+said check ls found none so = subst (λ (r : Option GraphError). IsFoundTo check ls found.numbers found.details r) none so
+
+-- .. and with one
+refusal : (check : Bool) (ls : List (List ℕ)) (found : Found) (fault : GraphError) → found.refused ≡ Some fault → IsFoundIn check ls found → IsFaultOf check ls fault
+refusal check ls found fault is so = subst (λ (r : Option GraphError). IsFoundTo check ls found.numbers found.details r) is so
 
 -- a refusal stays the first one, whatever is behind
+pub fault_still : (check : Bool) (ls more : List (List ℕ)) (fault : GraphError) → IsFaultOf check ls fault → IsFaultOf check (ls ++ more) fault
+fault_still check ls more fault of = record { first = λ text behind parts. of.first text (more ++ behind) (parts ∙ append_assoc ls more behind) }
+
 refused_still : (check : Bool) (ls more : List (List ℕ)) (found : Found) (fault : GraphError) → found.refused ≡ Some fault → IsFoundIn check ls found → IsFoundIn check (ls ++ more) found
-refused_still check ls more found fault is so =
-    let of : IsFaultOf check ls fault = subst (λ (r : Option GraphError). IsFoundTo check ls found.columns r) is so in
-    subst (λ (r : Option GraphError). IsFoundTo check (ls ++ more) found.columns r) (sym is) (record { first = λ text behind parts. of.first text (more ++ behind) (parts ∙ append_assoc ls more behind) })
+refused_still check ls more found fault is so = subst (λ (r : Option GraphError). IsFoundTo check (ls ++ more) found.numbers found.details r) (sym is) (fault_still check ls more fault (refusal check ls found fault is so))
 
 pub passes : (old : Found) (read : Result Piece AllocError) (fault : GraphError) → old.refused ≡ Some fault → Takes old read old
 passes old read fault is = record { taken = λ check ls more so also. refused_still check ls more old fault is so }
 
-pub takes_said : (old new : Found) (columns : Columns) → old.refused ≡ None → new.refused ≡ None → IsAppended old.columns columns new.columns → Takes old (Ok (record { columns = columns; refused = None })) new
-takes_said old new columns none still joined = record {
+pub takes_said : (old new : Found) (columns : Columns) → old.refused ≡ None → new.refused ≡ None → AddsPaths old.numbers columns.paths.items new.numbers → IsAppended old.details columns.details new.details → Takes old (Ok (record { columns = columns; refused = None })) new
+takes_said old new columns none still adds joined = record {
   taken = λ check ls more so also.
-      subst (λ (r : Option GraphError). IsFoundTo check (ls ++ more) new.columns r) (sym still) (says_more check ls more old.columns columns new.columns (said check ls old none so) also joined);
+      subst (λ (r : Option GraphError). IsFoundTo check (ls ++ more) new.numbers new.details r) (sym still)
+      (says_more check ls more old.numbers new.numbers old.details new.details columns (said check ls old none so) also adds joined);
 }
 
-pub takes_refused : (old new : Found) (columns : Columns) (fault : LineError) (error : GraphError) → old.refused ≡ None → new.refused ≡ Some error → error ≡ fault_at fault (length new.columns.paths.items + 1) → IsAppended old.columns columns new.columns
-    → Takes old (Ok (record { columns = columns; refused = Some fault })) new
-takes_refused old new columns fault error none is number joined = record {
+pub takes_refused : (old new : Found) (columns : Columns) (fault : LineError) (error : GraphError) → old.refused ≡ None → new.refused ≡ Some error → error ≡ fault_at fault (length new.details.needs.items + 1) → AddsPaths old.numbers columns.paths.items new.numbers
+    → IsAppended old.details columns.details new.details → Takes old (Ok (record { columns = columns; refused = Some fault })) new
+takes_refused old new columns fault error none is number adds joined = record {
   taken = λ check ls more so up.
-      subst (λ (r : Option GraphError). IsFoundTo check (ls ++ more) new.columns r) (sym is) (record {
+      subst (λ (r : Option GraphError). IsFoundTo check (ls ++ more) new.numbers new.details r) (sym is) (record {
         first = λ text behind parts.
             let front : List (List ℕ) = ls ++ up.before in
             let rest : List (List ℕ) = up.behind ++ behind in
             let cut : more ++ behind ≡ up.before ++ up.line ∷ rest = ap (λ (xs : List (List ℕ)). xs ++ behind) up.parts ∙ append_assoc up.before (up.line ∷ up.behind) behind in
             let whole : lines text ≡ front ++ up.line ∷ rest = parts ∙ append_assoc ls more behind ∙ ap (λ (xs : List (List ℕ)). ls ++ xs) cut ∙ sym (append_assoc ls up.before (up.line ∷ rest)) in
+            let says : SayNumbers check front new.numbers new.details = says_more check ls up.before old.numbers new.numbers old.details new.details columns (said check ls old none so) up.says adds joined in
             subst (λ (e : GraphError). IsFirstFault check text e) (sym number)
-            (fault_here check text front up.line rest new.columns fault whole (says_more check ls up.before old.columns columns new.columns (said check ls old none so) up.says joined) up.refused);
+            (fault_here check text front up.line rest says.nodes (length new.details.needs.items) fault whole says.says (many_numbered check front new.numbers new.details says) up.refused);
       });
 }
 
@@ -107,102 +124,103 @@ takes_more first old new pieces piece so one = record {
 }
 
 -- what was found is found still where there is room for more
-found_still : (check : Bool) (ls : List (List ℕ)) (old new : Columns) (refused : Option GraphError) → HasSameNodes old new → IsFoundTo check ls old refused → IsFoundTo check ls new refused
-found_still check ls old new None same so = record { nodes = so.nodes; says = so.says; has = same.has so.nodes so.has }
-found_still check ls old new (Some fault) same so = record { first = so.first }
+found_still : (check : Bool) (ls : List (List ℕ)) (numbers : Numbers) (old new : Details) (refused : Option GraphError) → HasSameNodes old new → IsFoundTo check ls numbers old refused → IsFoundTo check ls numbers new refused
+found_still check ls numbers old new None same so = record { nodes = so.nodes; says = so.says; numbers_are = so.numbers_are; has = same.has so.nodes so.has }
+found_still check ls numbers old new (Some fault) same so = record { first = so.first }
 
-pub takes_reserved : (old new : Found) (columns : Columns) (pieces : List (Result Piece AllocError)) → HasSameNodes old.columns columns → TakesAll (record { columns = columns; refused = old.refused }) pieces new → TakesAll old pieces new
-takes_reserved old new columns pieces same takes = record { taken = λ check ls texts so zip. takes.taken check ls texts (found_still check ls old.columns columns old.refused same so) zip }
-
--- ---- the lines of a text
-
-is_read : (check : Bool) (ls : List (List ℕ)) (read : Result Piece AllocError) → IfOk read (λ piece. IsReadTo check ls piece.columns piece.refused) → IsReadPiece check ls read
-is_read check ls (Ok piece) is = is
-is_read check ls (Err refused) is = tt
-
-pub reads_none : (check : Bool) (text : List ℕ) (old : Found) (fault : GraphError) → old.refused ≡ Some fault → ReadsLines check text old old
-reads_none check text old fault is = record { on = λ ls so. refused_still check ls (lines text) old fault is so }
-
-pub reads_piece : (check : Bool) (text : List ℕ) (old new : Found) (read : Result Piece AllocError) → IfOk read (λ piece. IsReadTo check (lines text) piece.columns piece.refused) → Takes old read new → ReadsLines check text old new
-reads_piece check text old new read is takes = record { on = λ ls so. takes.taken check ls (lines text) so (is_read check (lines text) read is) }
+pub takes_reserved : (old new : Found) (details : Details) (pieces : List (Result Piece AllocError)) → HasSameNodes old.details details → TakesAll (record { numbers = old.numbers; details = details; refused = old.refused }) pieces new → TakesAll old pieces new
+takes_reserved old new details pieces same takes = record { taken = λ check ls texts so zip. takes.taken check ls texts (found_still check ls old.numbers old.details details old.refused same so) zip }
 
 pub are_pieces : (check : Bool) (text : List ℕ) (texts : List (List ℕ)) (pieces : List (Result Piece AllocError)) → lines_in texts ≡ lines text → AllZip (IsReadText check) texts pieces → ArePieces check text pieces
 are_pieces check text texts pieces are read = record { texts = texts; are = are; read = read }
 
-pub reads_pieces : (check : Bool) (text : List ℕ) (old new : Found) (pieces : List (Result Piece AllocError)) → ArePieces check text pieces → TakesAll old pieces new → ReadsLines check text old new
-reads_pieces check text old new pieces are takes = record {
-  on = λ ls so. subst (λ (xs : List (List ℕ)). IsFoundIn check (ls ++ xs) new) are.are (takes.taken check ls are.texts so are.read);
+-- ---- what was found, at the end
+
+pub found_numbered : (found : Found) (numbered : Numbered) → found.refused ≡ None → HasNumbers found.numbers numbered.paths.keys → numbered.details ≡ found.details → IsFoundNumbered found numbered
+found_numbered found numbered none has same = record {
+  says = λ check ls so.
+      let says : SayNumbers check ls found.numbers found.details = said check ls found none so in
+      let keys = has.has (map (λ (n : LineNode). n.path) says.nodes) says.numbers_are in
+      record {
+        rows = record {
+          nodes = says.nodes;
+          says = says.says;
+          paths_are = keys.same;
+          has = subst (λ (d : Details). HasDetails says.nodes d) (sym same) says.has;
+        };
+        distinct = subst (λ (ks : List (List ℕ)). AreDistinct ks) (sym keys.same) keys.distinct;
+      };
 }
 
--- what was found in all lines of a text
-pub all_said : (check : Bool) (text : List ℕ) (nowhere found : Found) (columns : Columns) → IsFoundNowhere nowhere → ReadsLines check text nowhere found → columns ≡ found.columns → found.refused ≡ None → SayColumns check (lines text) columns
-all_said check text nowhere found columns none reads same still = subst (λ (cs : Columns). SayColumns check (lines text) cs) (sym same) (said check (lines text) found still (reads.on [] (none.nowhere check)))
+pub found_twice : (found : Found) (fault : GraphError) → found.refused ≡ None → LacksNumbers found.numbers fault → IsFoundFault found fault
+found_twice found fault none lacks = record {
+  first = λ check text so.
+      let says : SayNumbers check (lines text) found.numbers found.details = said check (lines text) found none so in
+      twice_fault check text says.nodes fault says.says (lacks.lacks (map (λ (n : LineNode). n.path) says.nodes) says.numbers_are);
+}
 
--- the refusal of the first line that has one
-fault_in : (check : Bool) (text : List ℕ) (ls : List (List ℕ)) (found : Found) (fault : GraphError) → lines text ≡ ls → IsFoundIn check ls found → found.refused ≡ Some fault → IsFirstFault check text fault
-fault_in check text ls found fault are so is =
-    let refused : IsFaultOf check ls fault = subst (λ (r : Option GraphError). IsFoundTo check ls found.columns r) is so in
-    refused.first text [] (are ∙ sym (append-nil ls))
+pub fault_in : (check : Bool) (text : List ℕ) (fault : GraphError) → IsFaultOf check (lines text) fault → IsFirstFault check text fault
+fault_in check text fault of = of.first text [] (sym (append-nil (lines text)))
 
-pub first_refused : (check : Bool) (text : List ℕ) (nowhere found : Found) (fault : GraphError) → IsFoundNowhere nowhere → ReadsLines check text nowhere found → found.refused ≡ Some fault → IsFirstFault check text fault
-first_refused check text nowhere found fault none reads is = fault_in check text (lines text) found fault refl (reads.on [] (none.nowhere check)) is
+pub found_fault : (found : Found) (fault : GraphError) → found.refused ≡ Some fault → IsFoundFault found fault
+found_fault found fault is = record { first = λ check text so. fault_in check text fault (refusal check (lines text) found fault is so) }
 
 pub fault_for_memory : (check : Bool) (text : List ℕ) (fault : GraphError) → fault ≡ bundle.Memory → IsFirstFault check text fault
 fault_for_memory check text fault is = subst (λ (e : GraphError). IsFirstFault check text e) (sym is) tt
 
 -- ---- parts of a text
 
--- the columns or the refusal of lines, behind which the rest stands
-settled : (check : Bool) (text : List ℕ) (columns : Columns) (rest : List ℕ) (refused : Option GraphError) (ls : List (List ℕ)) → IsFoundTo check ls columns refused → ((behind : List ℕ) → lines (text ++ behind) ≡ ls ++ lines (rest ++ behind)) → IsReadUntil check text columns rest refused
-settled check text columns rest None ls so cut = record { ls = ls; says = so; cut = cut }
-settled check text columns rest (Some fault) ls so cut = record { first = λ behind. so.first (text ++ behind) (lines (rest ++ behind)) (cut behind) }
+-- what was read of lines, behind which the rest stands
+settled : (check : Bool) (text : List ℕ) (ahead : Ahead) (rest : List ℕ) (refused : Option GraphError) (ls : List (List ℕ)) → IsReadTo check ls ahead refused → ((behind : List ℕ) → lines (text ++ behind) ≡ ls ++ lines (rest ++ behind)) → IsReadUntil check text ahead rest refused
+settled check text ahead rest None ls so cut = record { ls = ls; says = so; cut = cut }
+settled check text ahead rest (Some fault) ls so cut = record { first = λ behind. so.first (text ++ behind) (lines (rest ++ behind)) (cut behind) }
 
-pub is_unread : (progress : Progress) → IsFoundNowhere progress.found → progress.rest.items ≡ [] → IsUnread progress
+pub is_unread : (progress : Progress) → IsReadNowhere progress.ahead → progress.rest.items ≡ [] → IsUnread progress
 is_unread progress none empty = record {
   nothing = λ check.
-      settled check [] progress.found.columns progress.rest.items progress.found.refused [] (none.nowhere check) (λ behind. ap (λ (xs : List ℕ). lines (xs ++ behind)) (sym empty));
+      settled check [] progress.ahead progress.rest.items progress.ahead.found.refused [] (none.nowhere check) (λ behind. ap (λ (xs : List ℕ). lines (xs ++ behind)) (sym empty));
 }
 
-pub is_spent : (progress : Progress) → progress.found.refused ≡ Some bundle.Memory → IsSpent progress
+pub is_spent : (progress : Progress) → progress.ahead.found.refused ≡ Some bundle.Memory → IsSpent progress
 is_spent progress is = record {
-  whatever = λ check text. subst (λ (r : Option GraphError). IsReadUntil check text progress.found.columns progress.rest.items r) (sym is) (record { first = λ behind. tt });
+  whatever = λ check text. subst (λ (r : Option GraphError). IsReadUntil check text progress.ahead progress.rest.items r) (sym is) (record { first = λ behind. tt });
 }
 
 pub goes_spent : (check : Bool) (text : List ℕ) (old new : Progress) → IsSpent new → GoesOn check text old new
 goes_spent check text old new spent = record { goes = λ before so. spent.whatever check (before ++ text) }
 
 -- what was read with no refusal
-as_far : (check : Bool) (text : List ℕ) (progress : Progress) → progress.found.refused ≡ None → IsReading check text progress → IsReadAsFar check text progress.found.columns progress.rest.items
-as_far check text progress none so = subst (λ (r : Option GraphError). IsReadUntil check text progress.found.columns progress.rest.items r) none so
+as_far : (check : Bool) (text : List ℕ) (progress : Progress) → progress.ahead.found.refused ≡ None → IsReading check text progress → IsReadAsFar check text progress.ahead progress.rest.items
+as_far check text progress none so = subst (λ (r : Option GraphError). IsReadUntil check text progress.ahead progress.rest.items r) none so
 
 -- .. up to a refusal
-refused_as_far : (check : Bool) (text : List ℕ) (progress : Progress) (fault : GraphError) → progress.found.refused ≡ Some fault → IsReading check text progress → IsRefusedAsFar check text fault
-refused_as_far check text progress fault is so = subst (λ (r : Option GraphError). IsReadUntil check text progress.found.columns progress.rest.items r) is so
+refused_as_far : (check : Bool) (text : List ℕ) (progress : Progress) (fault : GraphError) → progress.ahead.found.refused ≡ Some fault → IsReading check text progress → IsRefusedAsFar check text fault
+refused_as_far check text progress fault is so = subst (λ (r : Option GraphError). IsReadUntil check text progress.ahead progress.rest.items r) is so
 
 -- .. is what was found in the lines
-found_as_far : (check : Bool) (text : List ℕ) (progress : Progress) → progress.found.refused ≡ None → (far : IsReadAsFar check text progress.found.columns progress.rest.items) → IsFoundIn check far.ls progress.found
-found_as_far check text progress none far = subst (λ (r : Option GraphError). IsFoundTo check far.ls progress.found.columns r) (sym none) far.says
+found_as_far : (check : Bool) (text : List ℕ) (progress : Progress) → progress.ahead.found.refused ≡ None → (far : IsReadAsFar check text progress.ahead progress.rest.items) → IsReadIn check far.ls progress.ahead
+found_as_far check text progress none far = subst (λ (r : Option GraphError). IsReadTo check far.ls progress.ahead r) (sym none) far.says
 
-pub goes_refused : (check : Bool) (text : List ℕ) (old : Progress) (fault : GraphError) → old.found.refused ≡ Some fault → GoesOn check text old old
+pub goes_refused : (check : Bool) (text : List ℕ) (old : Progress) (fault : GraphError) → old.ahead.found.refused ≡ Some fault → GoesOn check text old old
 goes_refused check text old fault is = record {
   goes = λ before so.
       let of : IsRefusedAsFar check before fault = refused_as_far check before old fault is so in
-      subst (λ (r : Option GraphError). IsReadUntil check (before ++ text) old.found.columns old.rest.items r) (sym is)
+      subst (λ (r : Option GraphError). IsReadUntil check (before ++ text) old.ahead old.rest.items r) (sym is)
       (record { first = λ behind. subst (λ (xs : List ℕ). IsFirstFault check xs fault) (sym (append_assoc before text behind)) (of.first (text ++ behind)) });
 }
 
 -- the text has no newline
-pub goes_within : (check : Bool) (text : List ℕ) (old new : Progress) → old.found.refused ≡ None → new.found ≡ old.found → new.rest.items ≡ old.rest.items ++ text → GoesOn check text old new
+pub goes_within : (check : Bool) (text : List ℕ) (old new : Progress) → old.ahead.found.refused ≡ None → new.ahead ≡ old.ahead → new.rest.items ≡ old.rest.items ++ text → GoesOn check text old new
 goes_within check text old new none same grown = record {
   goes = λ before so.
       let far = as_far check before old none so in
-      settled check (before ++ text) new.found.columns new.rest.items new.found.refused far.ls
-      (subst (λ (f : Found). IsFoundIn check far.ls f) (sym same) (found_as_far check before old none far))
+      settled check (before ++ text) new.ahead new.rest.items new.ahead.found.refused far.ls
+      (subst (λ (f : Ahead). IsReadIn check far.ls f) (sym same) (found_as_far check before old none far))
       (λ behind. ap (λ (xs : List ℕ). lines xs) (append_assoc before text behind) ∙ far.cut (text ++ behind)
       ∙ ap (λ (xs : List ℕ). far.ls ++ lines xs) (sym (append_assoc old.rest.items text behind)) ∙ ap (λ (xs : List ℕ). far.ls ++ lines (xs ++ behind)) (sym grown));
 }
 
-pub read_behind : (check : Bool) (text : List ℕ) (old new : Progress) (front rest : List ℕ) → old.rest.items ≡ [] → text ≡ front ++ rest → HasWholeLines front → ReadsLines check front old.found new.found → new.rest.items ≡ old.rest.items ++ rest
+pub read_behind : (check : Bool) (text : List ℕ) (old new : Progress) (front rest : List ℕ) → old.rest.items ≡ [] → text ≡ front ++ rest → HasWholeLines front → ReadsLines check front old.ahead new.ahead → new.rest.items ≡ old.rest.items ++ rest
     → IsReadBehind check text old new
 read_behind check text old new front rest empty parts whole reads grown = record {
   front = front;
@@ -212,7 +230,7 @@ read_behind check text old new front rest empty parts whole reads grown = record
 }
 
 -- the text has a newline
-pub goes_lines : (check : Bool) (text : List ℕ) (old mid new : Progress) (end behind : List ℕ) → old.found.refused ≡ None → text ≡ end ++ behind → IsLineEnd end → ReadsLines check (old.rest.items ++ end) old.found mid.found → IsReadBehind check behind mid new
+pub goes_lines : (check : Bool) (text : List ℕ) (old mid new : Progress) (end behind : List ℕ) → old.ahead.found.refused ≡ None → text ≡ end ++ behind → IsLineEnd end → ReadsLines check (old.rest.items ++ end) old.ahead mid.ahead → IsReadBehind check behind mid new
     → GoesOn check text old new
 goes_lines check text old mid new end behind none parts ended reads more = record {
   goes = λ before so.
@@ -221,7 +239,7 @@ goes_lines check text old mid new end behind none parts ended reads more = recor
       let left : List ℕ = new.rest.items in
       let one : List (List ℕ) = lines (rest ++ end) in
       let two : List (List ℕ) = lines more.front in
-      settled check (before ++ text) new.found.columns left new.found.refused ((far.ls ++ one) ++ two) (more.lines_on.on (far.ls ++ one) (reads.on far.ls (found_as_far check before old none far))) (λ tail.
+      settled check (before ++ text) new.ahead left new.ahead.found.refused ((far.ls ++ one) ++ two) (more.lines_on.on (far.ls ++ one) (reads.on far.ls (found_as_far check before old none far))) (λ tail.
       let whole : rest ++ (text ++ tail) ≡ (rest ++ end) ++ (more.front ++ (left ++ tail)) =
       ap (λ (xs : List ℕ). rest ++ (xs ++ tail)) (parts ∙ ap (λ (xs : List ℕ). end ++ xs) more.parts)
       ∙ ap (λ (xs : List ℕ). rest ++ xs) (append_assoc end (more.front ++ left) tail ∙ ap (λ (xs : List ℕ). end ++ xs) (append_assoc more.front left tail)) ∙ sym (append_assoc rest end (more.front ++ (left ++ tail))) in
@@ -234,25 +252,22 @@ goes_lines check text old mid new end behind none parts ended reads more = recor
 -- ---- the end
 
 -- the lines of the text are those that were read, and the rest's
-all_lines : (check : Bool) (text : List ℕ) (columns : Columns) (rest : List ℕ) (far : IsReadAsFar check text columns rest) → lines text ≡ far.ls ++ lines rest
-all_lines check text columns rest far = ap (λ (xs : List ℕ). lines xs) (sym (append-nil text)) ∙ far.cut [] ∙ ap (λ (xs : List ℕ). far.ls ++ lines xs) (append-nil rest)
+all_lines : (check : Bool) (text : List ℕ) (ahead : Ahead) (rest : List ℕ) (far : IsReadAsFar check text ahead rest) → lines text ≡ far.ls ++ lines rest
+all_lines check text ahead rest far = ap (λ (xs : List ℕ). lines xs) (sym (append-nil text)) ∙ far.cut [] ∙ ap (λ (xs : List ℕ). far.ls ++ lines xs) (append-nil rest)
 
-pub told_by : (check : Bool) (progress : Progress) (found : Found) (columns : Columns) → progress.found.refused ≡ None → ReadsLines check progress.rest.items progress.found found → columns ≡ found.columns → found.refused ≡ None → IsToldBy check progress columns
-told_by check progress found columns none reads same still = record {
-  says = λ text so.
-      let far = as_far check text progress none so in
-      let all : IsFoundIn check (lines text) found = subst (λ (ls : List (List ℕ)). IsFoundIn check ls found) (sym (all_lines check text progress.found.columns progress.rest.items far)) (reads.on far.ls (found_as_far check text progress none far)) in
-      subst (λ (cs : Columns). SayColumns check (lines text) cs) (sym same) (said check (lines text) found still all);
-}
+-- all lines were read
+read_all : (check : Bool) (text : List ℕ) (progress : Progress) (ahead : Ahead) → progress.ahead.found.refused ≡ None → ReadsLines check progress.rest.items progress.ahead ahead → IsReading check text progress → IsReadIn check (lines text) ahead
+read_all check text progress ahead none reads so =
+    let far = as_far check text progress none so in
+    subst (λ (ls : List (List ℕ)). IsReadIn check ls ahead) (sym (all_lines check text progress.ahead progress.rest.items far)) (reads.on far.ls (found_as_far check text progress none far))
 
-pub fault_by : (check : Bool) (progress : Progress) (found : Found) (fault : GraphError) → progress.found.refused ≡ None → ReadsLines check progress.rest.items progress.found found → found.refused ≡ Some fault → IsFaultBy check progress fault
-fault_by check progress found fault none reads is = record {
-  first = λ text so.
-      let far = as_far check text progress none so in
-      fault_in check text (far.ls ++ lines progress.rest.items) found fault (all_lines check text progress.found.columns progress.rest.items far) (reads.on far.ls (found_as_far check text progress none far)) is;
-}
+pub told_by : (check : Bool) (progress : Progress) (ahead : Ahead) (numbered : Numbered) → progress.ahead.found.refused ≡ None → ReadsLines check progress.rest.items progress.ahead ahead → IsReadNumbered ahead numbered → IsToldBy check progress numbered
+told_by check progress ahead numbered none reads by = record { says = λ text so. by.says check (lines text) (read_all check text progress ahead none reads so) }
 
-pub fault_before : (check : Bool) (progress : Progress) (fault : GraphError) → progress.found.refused ≡ Some fault → IsFaultBy check progress fault
+pub fault_by : (check : Bool) (progress : Progress) (ahead : Ahead) (fault : GraphError) → progress.ahead.found.refused ≡ None → ReadsLines check progress.rest.items progress.ahead ahead → IsReadFault ahead fault → IsFaultBy check progress fault
+fault_by check progress ahead fault none reads by = record { first = λ text so. by.first check text (read_all check text progress ahead none reads so) }
+
+pub fault_before : (check : Bool) (progress : Progress) (fault : GraphError) → progress.ahead.found.refused ≡ Some fault → IsFaultBy check progress fault
 fault_before check progress fault is = record {
   first = λ text so. subst (λ (xs : List ℕ). IsFirstFault check xs fault) (append-nil text) ((refused_as_far check text progress fault is so).first []);
 }
@@ -262,8 +277,8 @@ fault_of_memory check progress fault is = record { first = λ text so. fault_for
 
 -- ---- what the reader shows
 
-pub says_of : (reading : Reading) (text : List ℕ) (progress : Progress) (columns : Columns) (check : Bool) → record { check = check; text = text } ≡ reading → IsReading check text progress → IsToldBy check progress columns → SayColumns reading.check (lines reading.text) columns
-says_of reading text progress columns check shown so told = subst (λ (r : Reading). SayColumns r.check (lines r.text) columns) shown (told.says text so)
+pub says_of : (reading : Reading) (text : List ℕ) (progress : Progress) (numbered : Numbered) (check : Bool) → record { check = check; text = text } ≡ reading → IsReading check text progress → IsToldBy check progress numbered → SayNumbered reading.check (lines reading.text) numbered
+says_of reading text progress numbered check shown so told = subst (λ (r : Reading). SayNumbered r.check (lines r.text) numbered) shown (told.says text so)
 
 pub fault_of : (reading : Reading) (text : List ℕ) (progress : Progress) (fault : GraphError) (check : Bool) → record { check = check; text = text } ≡ reading → IsReading check text progress → IsFaultBy check progress fault → IsFirstFault reading.check reading.text fault
 fault_of reading text progress fault check shown so by = subst (λ (r : Reading). IsFirstFault r.check r.text fault) shown (by.first text so)

@@ -51,22 +51,24 @@ refused_here check text found at line columns fault lt are so refused =
     }
 
 -- the first refusal of a text, on this line
-pub fault_here : (check : Bool) (text : List ℕ) (ls : List (List ℕ)) (line : List ℕ) (behind : List (List ℕ)) (columns : Columns) (fault : LineError) → lines text ≡ ls ++ line ∷ behind → SayColumns check ls columns → IsFaulty check line fault
-    → IsFirstFault check text (fault_at fault (length columns.paths.items + 1))
-fault_here check text ls line behind columns fault parts so refused = line_error check text fault (length columns.paths.items + 1) (record {
+pub fault_here : (check : Bool) (text : List ℕ) (ls : List (List ℕ)) (line : List ℕ) (behind : List (List ℕ)) (nodes : List LineNode) (count : ℕ) (fault : LineError) → lines text ≡ ls ++ line ∷ behind → AllZip (IsLine check) ls nodes → count ≡ length ls
+    → IsFaulty check line fault → IsFirstFault check text (fault_at fault (count + 1))
+fault_here check text ls line behind nodes count fault parts says long refused = line_error check text fault (count + 1) (record {
   before = ls;
   line = line;
   behind = behind;
-  nodes = so.nodes;
+  nodes = nodes;
   parts = parts;
-  says = so.says;
+  says = says;
   refused = refused;
-  number_is = ap (λ (n : ℕ). n + 1) (many_lines check ls columns so);
+  number_is = ap (λ (n : ℕ). n + 1) long;
 })
 
 -- the first refusal of a text that was read as one piece
-pub says_fault : (check : Bool) (text : List ℕ) (columns : Columns) (fault : LineError) (error : GraphError) → IsReadUpTo check (lines text) columns fault → error ≡ fault_at fault (length columns.paths.items + 1) → IsFirstFault check text error
-says_fault check text columns fault error up is = subst (λ (e : GraphError). IsFirstFault check text e) (sym is) (fault_here check text up.before up.line up.behind columns fault up.parts up.says up.refused)
+pub says_fault : (check : Bool) (text : List ℕ) (columns : Columns) (fault : LineError) (error : GraphError) → IsReadUpTo check (lines text) columns fault → error ≡ fault_at fault (length columns.details.needs.items + 1) → IsFirstFault check text error
+says_fault check text columns fault error up is =
+    subst (λ (e : GraphError). IsFirstFault check text e) (sym is)
+    (fault_here check text up.before up.line up.behind up.says.rows.nodes (length columns.details.needs.items) fault up.parts up.says.rows.says (many_lines check up.before columns up.says) up.refused)
 
 -- ---- texts that references show
 

@@ -1,66 +1,66 @@
--- The graph of columns whose inputs are numbered.
+-- The graph of nodes whose inputs are numbered.
 use Rattle.std.proofs.Common.{◌≡◌, ℕ, ◌≤◌, ◌<◌, List, length, sym, ap, ◌∙◌, subst}
 use Rattle.nd_graph.specs.Graphs.{Nodes, needed, node_limit, nodes_with, IsSound}
 use Rattle.nd_graph.specs.Walks.{AreDistinct, AreInRange}
 use Rattle.nd_graph.specs.declared.fault.OrderError.TheVariants as order
 use Rattle.nd_graph.specs.declared.graph.Input.{Input}
-use Rattle.nd_bundle.specs.Settled.{links_in, ArePaired, AreSized, IsGraphOfColumns, IsLinkFault, IsOrderedFault, IsResolved}
+use Rattle.nd_bundle.specs.Settled.{links_in, ArePaired, AreSized, IsGraphOfRows, IsLinkFault, IsOrderedFault, IsResolved}
 use Rattle.nd_bundle.specs.Whole.{AllNumbered, IsWholeFault}
-use Rattle.nd_bundle.specs.declared.columns.Columns.{Columns}
+use Rattle.nd_bundle.specs.declared.details.Details.{Details}
 use Rattle.nd_bundle.specs.declared.fault.GraphError.{GraphError}
 use Rattle.nd_bundle.specs.declared.fault.GraphError.TheVariants as bundle
 use Rattle.nd_bundle.proofs.Assembled.{is_sound, numbered_ranged, order_fault, too_many}
 use Rattle.nd_bundle.proofs.Gathered.{link_whole}
 
--- the numbers of the columns' inputs, found among paths that are the columns' and names that are theirs
-pub record AreNumbers (columns : Columns) (keys : List (List ℕ)) (rows : List (List Input)) : Type 0 where
-  pub same : keys ≡ columns.paths.items
-  pub distinct : AreDistinct columns.paths.items
-  pub resolved : IsResolved columns.paths.items columns.names.items columns.wants.items rows
+-- the numbers of the nodes' inputs, found among keys that are their paths and names that are theirs
+pub record AreNumbers (paths : List (List ℕ)) (details : Details) (keys : List (List ℕ)) (rows : List (List Input)) : Type 0 where
+  pub same : keys ≡ paths
+  pub distinct : AreDistinct paths
+  pub resolved : IsResolved paths details.names.items details.wants.items rows
 
-pub are_numbers : (columns : Columns) (keys : List (List ℕ)) (names : List (List (List ℕ))) (rows : List (List Input)) → keys ≡ columns.paths.items → names ≡ columns.names.items → AreDistinct columns.paths.items
-    → IsResolved keys names columns.wants.items rows → AreNumbers columns keys rows
-are_numbers columns keys names rows same named distinct found = record {
+pub are_numbers : (paths : List (List ℕ)) (details : Details) (keys : List (List ℕ)) (names : List (List (List ℕ))) (rows : List (List Input)) → keys ≡ paths → names ≡ details.names.items → AreDistinct paths
+    → IsResolved keys names details.wants.items rows → AreNumbers paths details keys rows
+are_numbers paths details keys names rows same named distinct found = record {
   same = same;
   distinct = distinct;
-  resolved = subst (λ (ps : List (List ℕ)). IsResolved ps columns.names.items columns.wants.items rows) same (subst (λ (ns : List (List (List ℕ))). IsResolved keys ns columns.wants.items rows) named found);
+  resolved = subst (λ (ps : List (List ℕ)). IsResolved ps details.names.items details.wants.items rows) same (subst (λ (ns : List (List (List ℕ))). IsResolved keys ns details.wants.items rows) named found);
 }
 
-pub in_range : (columns : Columns) (keys : List (List ℕ)) (rows : List (List Input)) → AreNumbers columns keys rows → AreSized columns → AreInRange (needed rows)
-in_range columns keys rows are sized = numbered_ranged columns.paths.items columns.names.items columns.wants.items rows are.resolved.numbered sized.wants
+pub in_range : (paths : List (List ℕ)) (details : Details) (keys : List (List ℕ)) (rows : List (List Input)) → AreNumbers paths details keys rows → AreSized paths details → AreInRange (needed rows)
+in_range paths details keys rows are sized = numbered_ranged paths details.names.items details.wants.items rows are.resolved.numbered sized.wants
 
-pub sound : (columns : Columns) (keys : List (List ℕ)) (rows : List (List Input)) → AreNumbers columns keys rows → AreSized columns → ArePaired columns.names.items columns.outputs.items → length keys ≤ node_limit
-    → IsSound (nodes_with keys columns.needs.items rows columns.sources.items columns.outputs.items)
-sound columns keys rows are sized paired few =
-    subst (λ (ps : List (List ℕ)). IsSound (nodes_with ps columns.needs.items rows columns.sources.items columns.outputs.items)) (sym are.same)
-    (is_sound columns.paths.items columns.needs.items rows columns.sources.items columns.names.items columns.outputs.items columns.wants.items
+pub sound : (paths : List (List ℕ)) (details : Details) (keys : List (List ℕ)) (rows : List (List Input)) → AreNumbers paths details keys rows → AreSized paths details → ArePaired details.names.items details.outputs.items → length keys ≤ node_limit
+    → IsSound (nodes_with keys details.needs.items rows details.sources.items details.outputs.items)
+sound paths details keys rows are sized paired few =
+    subst (λ (ps : List (List ℕ)). IsSound (nodes_with ps details.needs.items rows details.sources.items details.outputs.items)) (sym are.same)
+    (is_sound paths details.needs.items rows details.sources.items details.names.items details.outputs.items details.wants.items
     sized.needs sized.wants sized.sources sized.outputs (subst (λ (ps : List (List ℕ)). length ps ≤ node_limit) are.same few) are.distinct are.resolved.numbered paired)
 
-pub graph_parts : (columns : Columns) (keys : List (List ℕ)) (rows : List (List Input)) (graph : Nodes) → AreNumbers columns keys rows → graph ≡ nodes_with keys columns.needs.items rows columns.sources.items columns.outputs.items → IsGraphOfColumns columns graph
-graph_parts columns keys rows graph are is = record {
-  paths = ap (λ (g : Nodes). g.paths) is ∙ are.same;
+pub graph_parts : (paths : List (List ℕ)) (details : Details) (keys : List (List ℕ)) (rows : List (List Input)) (graph : Nodes) → AreNumbers paths details keys rows → graph ≡ nodes_with keys details.needs.items rows details.sources.items details.outputs.items → IsGraphOfRows paths details graph
+graph_parts paths details keys rows graph are is = record {
+  paths_are = ap (λ (g : Nodes). g.paths) is ∙ are.same;
   needs = ap (λ (g : Nodes). g.needs) is;
-  inputs = subst (λ (rs : List (List Input)). AllNumbered columns.paths.items columns.names.items columns.wants.items rs) (sym (ap (λ (g : Nodes). g.inputs) is)) are.resolved.numbered;
+  inputs = subst (λ (rs : List (List Input)). AllNumbered paths details.names.items details.wants.items rs) (sym (ap (λ (g : Nodes). g.inputs) is)) are.resolved.numbered;
   sources = ap (λ (g : Nodes). g.sources) is;
   outputs = ap (λ (g : Nodes). g.outputs) is;
 }
 
-pub ordered_fault : (columns : Columns) (keys : List (List ℕ)) (rows : List (List Input)) (error : GraphError) → AreNumbers columns keys rows → IsOrderedFault keys rows error → IsWholeFault (links_in columns) error
-ordered_fault columns keys rows (bundle.BadLine line) are is = absurd is
-ordered_fault columns keys rows (bundle.BadPath line) are is = absurd is
-ordered_fault columns keys rows (bundle.BadDerivation line) are is = absurd is
-ordered_fault columns keys rows (bundle.UnknownOutput line) are is = absurd is
-ordered_fault columns keys rows (bundle.BadAttribute line) are is = absurd is
-ordered_fault columns keys rows (bundle.WrongPath line) are is = absurd is
-ordered_fault columns keys rows (bundle.Duplicate line) are is = absurd is
-ordered_fault columns keys rows (bundle.MissingInput line) are is = absurd is
-ordered_fault columns keys rows (bundle.MissingOutput line) are is = absurd is
-ordered_fault columns keys rows bundle.Cycle are is = order_fault columns.paths.items columns.names.items columns.wants.items rows are.distinct are.resolved order.Cycle is
-ordered_fault columns keys rows bundle.TooMany are is = too_many columns.paths.items columns.names.items columns.wants.items rows are.distinct are.resolved is.0 (subst (λ (ps : List (List ℕ)). node_limit < length ps) are.same is.1)
-ordered_fault columns keys rows bundle.Memory are is = tt
+pub ordered_fault : (paths : List (List ℕ)) (details : Details) (keys : List (List ℕ)) (rows : List (List Input)) (error : GraphError) → AreNumbers paths details keys rows → IsOrderedFault keys rows error → IsWholeFault (links_in paths details) error
+ordered_fault paths details keys rows (bundle.BadLine line) are is = absurd is
+ordered_fault paths details keys rows (bundle.BadPath line) are is = absurd is
+ordered_fault paths details keys rows (bundle.BadDerivation line) are is = absurd is
+ordered_fault paths details keys rows (bundle.UnknownOutput line) are is = absurd is
+ordered_fault paths details keys rows (bundle.BadAttribute line) are is = absurd is
+ordered_fault paths details keys rows (bundle.WrongPath line) are is = absurd is
+ordered_fault paths details keys rows (bundle.Duplicate line) are is = absurd is
+ordered_fault paths details keys rows (bundle.MissingInput line) are is = absurd is
+ordered_fault paths details keys rows (bundle.MissingOutput line) are is = absurd is
+ordered_fault paths details keys rows bundle.Cycle are is = order_fault paths details.names.items details.wants.items rows are.distinct are.resolved order.Cycle is
+ordered_fault paths details keys rows bundle.TooMany are is = too_many paths details.names.items details.wants.items rows are.distinct are.resolved is.0 (subst (λ (ps : List (List ℕ)). node_limit < length ps) are.same is.1)
+ordered_fault paths details keys rows bundle.Memory are is = tt
 
-pub unlinked_fault : (columns : Columns) (keys : List (List ℕ)) (names : List (List (List ℕ))) (error : GraphError) → keys ≡ columns.paths.items → names ≡ columns.names.items → AreDistinct columns.paths.items
-    → IsLinkFault keys names columns.wants.items error → IsWholeFault (links_in columns) error
-unlinked_fault columns keys names error same named distinct why =
-    link_whole (links_in columns) error distinct
-    (subst (λ (ps : List (List ℕ)). IsLinkFault ps columns.names.items columns.wants.items error) same (subst (λ (ns : List (List (List ℕ))). IsLinkFault keys ns columns.wants.items error) named why))
+pub unlinked_fault : (paths : List (List ℕ)) (details : Details) (keys : List (List ℕ)) (names : List (List (List ℕ))) (error : GraphError) → keys ≡ paths → names ≡ details.names.items → AreDistinct paths
+    → IsLinkFault keys names details.wants.items error → IsWholeFault (links_in paths details) error
+unlinked_fault paths details keys names error same named distinct why =
+    link_whole (links_in paths details) error distinct
+    (subst (λ (ps : List (List ℕ)). IsLinkFault ps details.names.items details.wants.items error) same (subst (λ (ns : List (List (List ℕ))). IsLinkFault keys ns details.wants.items error) named why))

@@ -1,24 +1,27 @@
 -- From what was read of each line to the bundle.
-use Rattle.std.proofs.Common.{◌≡◌, ℕ, Bool, List, [], length, get_or, Result, Ok, Err, IfOk, sym, ap, ◌∙◌, subst, arith}
+use Rattle.std.proofs.Common.{◌≡◌, ℕ, Bool, List, [], length, map, get_or, Result, Ok, Err, IfOk, sym, ap, ◌∙◌, subst, arith}
 use Rattle.std.specs.List.{AllZip}
 use Rattle.std.proofs.lemmas.List.{length-map}
 use Rattle.nd_aterm.specs.declared.records.Output.{Output}
 use Rattle.nd_bundle.specs.Bundles.{IsBundle, IsFirstFault, IsLineRefused}
 use Rattle.nd_graph.specs.Graphs.{Nodes, rows_of, IsSound}
-use Rattle.nd_graph.specs.Walks.{IsAcyclic}
+use Rattle.nd_graph.specs.Walks.{AreDistinct, IsAcyclic}
 use Rattle.nd_bundle.specs.declared.columns.Columns.{Columns}
 use Rattle.nd_bundle.specs.Lines.{lines}
 use Rattle.nd_bundle.specs.Numbered.{fault_at}
 use Rattle.nd_line.specs.Reads.{IsLine}
-use Rattle.nd_bundle.specs.Columned.{HasColumns, SayColumns}
-use Rattle.nd_bundle.specs.Settled.{links_in, AllNamesRise, AreFit, ArePaired, AreSized, IsFit, IsGraphOfColumns}
-use Rattle.nd_bundle.specs.Whole.{links_of, AllNumbered, IsGraphOf, IsWholeFault, Links}
+use Rattle.nd_bundle.specs.Columned.{SayColumns, SayNumbered, SayRows}
+use Rattle.nd_bundle.specs.Numbering.{IsNumberFault}
+use Rattle.nd_bundle.specs.declared.details.Details.{Details}
+use Rattle.nd_bundle.specs.declared.found.Numbered.{Numbered}
+use Rattle.nd_bundle.specs.Settled.{links_in, AllNamesRise, AreFit, ArePaired, AreSized, IsFit, IsGraphOfRows}
+use Rattle.nd_bundle.specs.Whole.{links_of, AllNumbered, IsWholeFault, Links}
 use Rattle.nd_bundle.specs.declared.fault.GraphError.{GraphError}
 use Rattle.nd_bundle.specs.declared.fault.GraphError.TheVariants as bundle
 use Rattle.nd_line.specs.declared.line.LineNode.{LineNode}
 use Rattle.nd_line.specs.declared.refusal.LineError.{LineError}
 use Rattle.nd_line.specs.declared.refusal.LineError.TheVariants.{BadLine, BadPath, BadDerivation, UnknownOutput, BadAttribute, WrongPath, Memory}
-use Rattle.nd_bundle.proofs.Assembled.{columns_paired, columns_rising, columns_sized}
+use Rattle.nd_bundle.proofs.Assembled.{rows_paired, rows_rising, rows_sized}
 use Rattle.nd_line.proofs.Rising.{names_rise}
 use Rattle.nd_bundle.proofs.Zipped.{zip_at, zip_length}
 
@@ -65,37 +68,104 @@ whole_fault check text nodes bundle.Cycle says is = record { nodes = nodes; says
 whole_fault check text nodes bundle.TooMany says is = record { nodes = nodes; says = says; refused = is }
 whole_fault check text nodes bundle.Memory says is = tt
 
--- ---- from columns to the bundle
+-- ---- from what lines say to the bundle
 
-pub say_sized : (check : Bool) (ls : List (List ℕ)) (columns : Columns) → SayColumns check ls columns → AreSized columns
-say_sized check ls columns so = columns_sized so.nodes columns so.has
+rows_links : (check : Bool) (ls : List (List ℕ)) (paths : List (List ℕ)) (details : Details) (so : SayRows check ls paths details) → links_in paths details ≡ links_of so.nodes
+rows_links check ls paths details so = λ j. record { paths = so.paths_are j; wants = so.has.wants j; names = so.has.names j }
 
-pub say_paired : (check : Bool) (ls : List (List ℕ)) (columns : Columns) → SayColumns check ls columns → ArePaired columns.names.items columns.outputs.items
-say_paired check ls columns so = columns_paired so.nodes columns so.has (nodes_fit check ls so.nodes so.says)
+said_sized : (check : Bool) (ls : List (List ℕ)) (paths : List (List ℕ)) (details : Details) → SayRows check ls paths details → AreSized paths details
+said_sized check ls paths details so = rows_sized so.nodes paths details so.paths_are so.has
 
-pub say_rising : (check : Bool) (ls : List (List ℕ)) (columns : Columns) → SayColumns check ls columns → AllNamesRise columns.names.items
-say_rising check ls columns so = columns_rising so.nodes columns so.has (nodes_fit check ls so.nodes so.says)
+said_paired : (check : Bool) (ls : List (List ℕ)) (paths : List (List ℕ)) (details : Details) → SayRows check ls paths details → ArePaired details.names.items details.outputs.items
+said_paired check ls paths details so = rows_paired so.nodes details so.has (nodes_fit check ls so.nodes so.says)
 
--- the columns say the links of the nodes
-same_links : (nodes : List LineNode) (columns : Columns) → HasColumns nodes columns → links_in columns ≡ links_of nodes
-same_links nodes columns has = λ j. record { paths = has.paths j; wants = has.wants j; names = has.names j }
+said_rising : (check : Bool) (ls : List (List ℕ)) (paths : List (List ℕ)) (details : Details) → SayRows check ls paths details → AllNamesRise details.names.items
+said_rising check ls paths details so = rows_rising so.nodes details so.has (nodes_fit check ls so.nodes so.says)
 
-graph_of_nodes : (nodes : List LineNode) (columns : Columns) (graph : Nodes) → HasColumns nodes columns → IsGraphOfColumns columns graph → IsGraphOf nodes graph
-graph_of_nodes nodes columns graph has of = record {
-  paths = of.paths ∙ has.paths;
-  needs = of.needs ∙ has.needs;
-  inputs = subst (λ (ls : Links). AllNumbered ls.paths ls.names ls.wants graph.inputs) (same_links nodes columns has) of.inputs;
-  sources = of.sources ∙ has.sources;
-  outputs = of.outputs ∙ has.outputs;
+said_bundle : (check : Bool) (text : List ℕ) (paths : List (List ℕ)) (details : Details) (graph : Nodes) → SayRows check (lines text) paths details → IsGraphOfRows paths details graph → IsSound graph → IsAcyclic (rows_of graph) → IsBundle check text graph
+said_bundle check text paths details graph so of sound acyclic = record {
+  nodes = so.nodes;
+  says = so.says;
+  of = record {
+    paths = of.paths_are ∙ so.paths_are;
+    needs = of.needs ∙ so.has.needs;
+    inputs = subst (λ (ls : Links). AllNumbered ls.paths ls.names ls.wants graph.inputs) (rows_links check (lines text) paths details so) of.inputs;
+    sources = of.sources ∙ so.has.sources;
+    outputs = of.outputs ∙ so.has.outputs;
+  };
+  sound = sound;
+  acyclic = acyclic;
 }
 
-pub is_bundle : (check : Bool) (text : List ℕ) (columns : Columns) (graph : Nodes) → SayColumns check (lines text) columns → IsGraphOfColumns columns graph → IsSound graph → IsAcyclic (rows_of graph) → IsBundle check text graph
-is_bundle check text columns graph so of sound acyclic = record { nodes = so.nodes; says = so.says; of = graph_of_nodes so.nodes columns graph so.has of; sound = sound; acyclic = acyclic }
+said_fault : (check : Bool) (text : List ℕ) (paths : List (List ℕ)) (details : Details) (error : GraphError) → SayRows check (lines text) paths details → IsWholeFault (links_in paths details) error → IsFirstFault check text error
+said_fault check text paths details error so is = whole_fault check text so.nodes error so.says (subst (λ (ls : Links). IsWholeFault ls error) (rows_links check (lines text) paths details so) is)
 
 -- .. of an answer that may be a refusal
-pub bundle_of : (check : Bool) (text : List ℕ) (columns : Columns) (answer : Result Nodes GraphError) → SayColumns check (lines text) columns → IfOk answer (λ graph. IsGraphOfColumns columns graph) → IfOk answer (λ graph. IsSound graph) → IfOk answer (λ graph. IsAcyclic (rows_of graph)) → IfOk answer (λ graph. IsBundle check text graph)
-bundle_of check text columns (Ok graph) so of sound acyclic = is_bundle check text columns graph so of sound acyclic
-bundle_of check text columns (Err error) so of sound acyclic = tt
+said_bundle_of : (check : Bool) (text : List ℕ) (paths : List (List ℕ)) (details : Details) (answer : Result Nodes GraphError) → SayRows check (lines text) paths details → IfOk answer (λ graph. IsGraphOfRows paths details graph) → IfOk answer (λ graph. IsSound graph)
+    → IfOk answer (λ graph. IsAcyclic (rows_of graph)) → IfOk answer (λ graph. IsBundle check text graph)
+said_bundle_of check text paths details (Ok graph) so of sound acyclic = said_bundle check text paths details graph so of sound acyclic
+said_bundle_of check text paths details (Err error) so of sound acyclic = tt
 
-pub first_fault : (check : Bool) (text : List ℕ) (columns : Columns) (error : GraphError) → SayColumns check (lines text) columns → IsWholeFault (links_in columns) error → IsFirstFault check text error
-first_fault check text columns error so is = whole_fault check text so.nodes error so.says (subst (λ (ls : Links). IsWholeFault ls error) (same_links so.nodes columns so.has) is)
+-- ---- of columns
+
+pub say_sized : (check : Bool) (ls : List (List ℕ)) (columns : Columns) → SayColumns check ls columns → AreSized columns.paths.items columns.details
+say_sized check ls columns so = said_sized check ls columns.paths.items columns.details so.rows
+
+pub say_paired : (check : Bool) (ls : List (List ℕ)) (columns : Columns) → SayColumns check ls columns → ArePaired columns.details.names.items columns.details.outputs.items
+say_paired check ls columns so = said_paired check ls columns.paths.items columns.details so.rows
+
+pub say_rising : (check : Bool) (ls : List (List ℕ)) (columns : Columns) → SayColumns check ls columns → AllNamesRise columns.details.names.items
+say_rising check ls columns so = said_rising check ls columns.paths.items columns.details so.rows
+
+pub is_bundle : (check : Bool) (text : List ℕ) (columns : Columns) (graph : Nodes) → SayColumns check (lines text) columns → IsGraphOfRows columns.paths.items columns.details graph → IsSound graph → IsAcyclic (rows_of graph) → IsBundle check text graph
+is_bundle check text columns graph so of sound acyclic = said_bundle check text columns.paths.items columns.details graph so.rows of sound acyclic
+
+pub bundle_of : (check : Bool) (text : List ℕ) (columns : Columns) (answer : Result Nodes GraphError) → SayColumns check (lines text) columns → IfOk answer (λ graph. IsGraphOfRows columns.paths.items columns.details graph) → IfOk answer (λ graph. IsSound graph)
+    → IfOk answer (λ graph. IsAcyclic (rows_of graph)) → IfOk answer (λ graph. IsBundle check text graph)
+bundle_of check text columns answer so of sound acyclic = said_bundle_of check text columns.paths.items columns.details answer so.rows of sound acyclic
+
+pub first_fault : (check : Bool) (text : List ℕ) (columns : Columns) (error : GraphError) → SayColumns check (lines text) columns → IsWholeFault (links_in columns.paths.items columns.details) error → IsFirstFault check text error
+first_fault check text columns error so is = said_fault check text columns.paths.items columns.details error so.rows is
+
+-- ---- of nodes whose paths are numbered
+
+pub numbered_distinct : (check : Bool) (ls : List (List ℕ)) (numbered : Numbered) → SayNumbered check ls numbered → AreDistinct numbered.paths.keys
+numbered_distinct check ls numbered so = so.distinct
+
+pub numbered_sized : (check : Bool) (ls : List (List ℕ)) (numbered : Numbered) → SayNumbered check ls numbered → AreSized numbered.paths.keys numbered.details
+numbered_sized check ls numbered so = said_sized check ls numbered.paths.keys numbered.details so.rows
+
+pub numbered_paired : (check : Bool) (ls : List (List ℕ)) (numbered : Numbered) → SayNumbered check ls numbered → ArePaired numbered.details.names.items numbered.details.outputs.items
+numbered_paired check ls numbered so = said_paired check ls numbered.paths.keys numbered.details so.rows
+
+pub numbered_rising : (check : Bool) (ls : List (List ℕ)) (numbered : Numbered) → SayNumbered check ls numbered → AllNamesRise numbered.details.names.items
+numbered_rising check ls numbered so = said_rising check ls numbered.paths.keys numbered.details so.rows
+
+pub numbered_bundle : (check : Bool) (text : List ℕ) (numbered : Numbered) (graph : Nodes) → SayNumbered check (lines text) numbered → IsGraphOfRows numbered.paths.keys numbered.details graph → IsSound graph → IsAcyclic (rows_of graph) → IsBundle check text graph
+numbered_bundle check text numbered graph so of sound acyclic = said_bundle check text numbered.paths.keys numbered.details graph so.rows of sound acyclic
+
+pub numbered_bundle_of : (check : Bool) (text : List ℕ) (numbered : Numbered) (answer : Result Nodes GraphError) → SayNumbered check (lines text) numbered → IfOk answer (λ graph. IsGraphOfRows numbered.paths.keys numbered.details graph) → IfOk answer (λ graph. IsSound graph)
+    → IfOk answer (λ graph. IsAcyclic (rows_of graph)) → IfOk answer (λ graph. IsBundle check text graph)
+numbered_bundle_of check text numbered answer so of sound acyclic = said_bundle_of check text numbered.paths.keys numbered.details answer so.rows of sound acyclic
+
+pub numbered_fault : (check : Bool) (text : List ℕ) (numbered : Numbered) (error : GraphError) → SayNumbered check (lines text) numbered → IsWholeFault (links_in numbered.paths.keys numbered.details) error → IsFirstFault check text error
+numbered_fault check text numbered error so is = said_fault check text numbered.paths.keys numbered.details error so.rows is
+
+-- ---- a path that stands twice
+
+pub twice_fault : (check : Bool) (text : List ℕ) (nodes : List LineNode) (error : GraphError) → AllZip (IsLine check) (lines text) nodes → IsNumberFault (map (λ (n : LineNode). n.path) nodes) error → IsFirstFault check text error
+twice_fault check text nodes error says is = whole_fault check text nodes error says (repeated nodes error is)
+  where
+    repeated : (nodes : List LineNode) (error : GraphError) → IsNumberFault (map (λ (n : LineNode). n.path) nodes) error → IsWholeFault (links_of nodes) error
+    repeated nodes (bundle.BadLine n) is = absurd is
+    repeated nodes (bundle.BadPath n) is = absurd is
+    repeated nodes (bundle.BadDerivation n) is = absurd is
+    repeated nodes (bundle.UnknownOutput n) is = absurd is
+    repeated nodes (bundle.BadAttribute n) is = absurd is
+    repeated nodes (bundle.WrongPath n) is = absurd is
+    repeated nodes (bundle.Duplicate n) is = is
+    repeated nodes (bundle.MissingInput n) is = absurd is
+    repeated nodes (bundle.MissingOutput n) is = absurd is
+    repeated nodes bundle.Cycle is = absurd is
+    repeated nodes bundle.TooMany is = absurd is
+    repeated nodes bundle.Memory is = tt

@@ -4,9 +4,10 @@ use Rattle.std.specs.declared.alloc.AllocError.{AllocError}
 use Rattle.nd_line.specs.Reads.{IsFaulty}
 use Rattle.nd_line.specs.declared.line.LineNode.{LineNode}
 use Rattle.nd_line.specs.declared.refusal.LineError.{LineError}
-use Rattle.nd_bundle.specs.Columned.{HasColumns, SayColumns}
+use Rattle.nd_bundle.specs.Columned.{HasDetails, SayColumns}
 use Rattle.nd_bundle.specs.Lines.{lines}
 use Rattle.nd_bundle.specs.declared.columns.Columns.{Columns}
+use Rattle.nd_bundle.specs.declared.details.Details.{Details}
 use Rattle.nd_bundle.specs.declared.piece.Piece.{Piece}
 
 -- the columns have the nodes that these lines say, up to one that is refused so
@@ -33,9 +34,9 @@ abbrev pub IsReadText : Bool → List ℕ → Result Piece AllocError → Type 0
 IsReadText check text piece = IsReadPiece check (lines text) piece
 
 -- the nodes are as they were
-pub record HasSameNodes (old new : Columns) : Type 0 where
-  pub has : (nodes : List LineNode) → HasColumns nodes old → HasColumns nodes new
+pub record HasSameNodes (old new : Details) : Type 0 where
+  pub has : (nodes : List LineNode) → HasDetails nodes old → HasDetails nodes new
 
 -- the nodes of the others stand behind the old ones
-pub record IsAppended (old others new : Columns) : Type 0 where
-  pub has : (some more : List LineNode) → HasColumns some old → HasColumns more others → HasColumns (some ++ more) new
+pub record IsAppended (old others new : Details) : Type 0 where
+  pub has : (some more : List LineNode) → HasDetails some old → HasDetails more others → HasDetails (some ++ more) new

@@ -7,7 +7,7 @@ use Rattle.nd_line.specs.declared.line.LineNode.{LineNode}
 use Rattle.nd_line.specs.declared.line.NamedInput.{NamedInput}
 use Rattle.nd_bundle.specs.declared.fault.GraphError.{GraphError}
 use Rattle.nd_bundle.specs.declared.fault.GraphError.TheVariants.{MissingInput, MissingOutput, Cycle, TooMany, Memory}
-use Rattle.nd_bundle.specs.declared.columns.Columns.{Columns}
+use Rattle.nd_bundle.specs.declared.details.Details.{Details}
 use Rattle.nd_graph.specs.declared.graph.Input.{Input}
 use Rattle.nd_graph.specs.Graphs.{Nodes, needed, node_limit, IsOrderFault}
 use Rattle.nd_graph.specs.Walks.{IsAcyclic}
@@ -37,24 +37,24 @@ pub record AreFit (nodes : List LineNode) : Type 0 where
   pub fit : (node : LineNode) → Contains nodes node → IsFit node
 
 -- the lists have one item per node
-pub record AreSized (columns : Columns) : Type 0 where
-  pub needs : length columns.needs.items ≡ length columns.paths.items
-  pub wants : length columns.wants.items ≡ length columns.paths.items
-  pub sources : length columns.sources.items ≡ length columns.paths.items
-  pub names : length columns.names.items ≡ length columns.paths.items
-  pub outputs : length columns.outputs.items ≡ length columns.paths.items
+pub record AreSized (paths : List (List ℕ)) (details : Details) : Type 0 where
+  pub needs : length details.needs.items ≡ length paths
+  pub wants : length details.wants.items ≡ length paths
+  pub sources : length details.sources.items ≡ length paths
+  pub names : length details.names.items ≡ length paths
+  pub outputs : length details.outputs.items ≡ length paths
 
--- the graph of the columns
-pub record IsGraphOfColumns (columns : Columns) (graph : Nodes) : Type 0 where
-  pub paths : graph.paths ≡ columns.paths.items
-  pub needs : graph.needs ≡ columns.needs.items
-  pub inputs : AllNumbered columns.paths.items columns.names.items columns.wants.items graph.inputs
-  pub sources : graph.sources ≡ columns.sources.items
-  pub outputs : graph.outputs ≡ columns.outputs.items
+-- the graph of nodes with these paths and these details
+pub record IsGraphOfRows (paths : List (List ℕ)) (details : Details) (graph : Nodes) : Type 0 where
+  pub paths_are : graph.paths ≡ paths
+  pub needs : graph.needs ≡ details.needs.items
+  pub inputs : AllNumbered paths details.names.items details.wants.items graph.inputs
+  pub sources : graph.sources ≡ details.sources.items
+  pub outputs : graph.outputs ≡ details.outputs.items
 
--- what the columns say of the links between the nodes
-abbrev pub links_in : Columns → Links
-links_in columns = record { paths = columns.paths.items; wants = columns.wants.items; names = columns.names.items }
+-- what they say of the links between the nodes
+abbrev pub links_in : List (List ℕ) → Details → Links
+links_in paths details = record { paths = paths; wants = details.wants.items; names = details.names.items }
 
 -- all inputs and named outputs are there, by number
 pub record IsResolved (paths : List (List ℕ)) (names : List (List (List ℕ))) (wants : List (List NamedInput)) (rows : List (List Input)) : Type 0 where

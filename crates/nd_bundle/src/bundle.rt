@@ -5,8 +5,8 @@ ghost use Rattle.nd_bundle.specs.declared.fault.GraphError.{GraphError};
 ghost use Rattle.nd_bundle.specs.Bundles.{IsBundle, IsFirstFault};
 ghost use Rattle.nd_graph.specs.Graphs.{Nodes};
 
+use crate::ahead::read_lines_side_by_side;
 use crate::fault::GraphError;
-use crate::found::read_lines_side_by_side;
 use crate::whole::graph_side_by_side;
 use nd_graph::Graph;
 use std::alloc::Global;
@@ -19,7 +19,7 @@ use std::thread::Threads;
 /// Refuses with the first of the refusals 1 to 6 of `GraphError` on the first line that has one,
 /// else with the first of 7 to 11 over the whole, and with `Memory` (12) where an allocation is
 /// refused.
-#[tactic(auto, using(crate::proofs::Told::say_sized, crate::proofs::Told::say_paired, crate::proofs::Told::say_rising, crate::proofs::Told::is_bundle, crate::proofs::Told::first_fault))]
+#[tactic(auto, using(crate::proofs::Told::numbered_distinct, crate::proofs::Told::numbered_sized, crate::proofs::Told::numbered_paired, crate::proofs::Told::numbered_rising, crate::proofs::Told::numbered_bundle, crate::proofs::Told::numbered_fault))]
 pub fn read_bundle(
     rt: &(impl Threads + Sync),
     alloc: Global,
@@ -31,6 +31,6 @@ pub fn read_bundle(
     ensures exactly { (graph : Nodes) → IsBundle check_paths text.now graph
         → MatchResult result (λ g. g ≡ graph) (λ e. e ≡ GraphError.Memory) }
 {
-    let columns = read_lines_side_by_side(rt, alloc, text, check_paths)?;
-    graph_side_by_side(rt, alloc, columns)
+    let numbered = read_lines_side_by_side(rt, alloc, text, check_paths)?;
+    graph_side_by_side(rt, alloc, numbered)
 }

@@ -37,7 +37,7 @@ pub(crate) fn read_lines(alloc: Global, text: &[u8], check: bool) -> Result<Colu
     let Piece { columns, refused } = read_piece(alloc, text, check)?;
     match refused {
         None => Ok(columns),
-        Some(fault) => Err(GraphError::of_line(fault, columns.next_line())),
+        Some(fault) => Err(GraphError::of_line(fault, columns.details.next_line())),
     }
 }
 

@@ -1,24 +1,31 @@
 //! What was found in the lines of a bundle.
 
-ghost use Rattle.std.specs.Prelude.{◌≡◌, Ok, Some, None, IfErr, IfOk, OnOk};
-ghost use Rattle.nd_bundle.specs.Bundles.{IsFirstFault};
-ghost use Rattle.nd_bundle.specs.Columned.{SayColumns};
-ghost use Rattle.nd_bundle.specs.Lines.{lines};
-ghost use Rattle.nd_bundle.specs.Parts.{IsFoundNowhere, ReadsLines, Takes, TakesAll};
+ghost use Rattle.std.specs.Prelude.{◌≡◌, Ok, None, IfErr, IfOk, OnOk};
+ghost use Rattle.nd_bundle.specs.Parts.{IsFoundFault, IsFoundNowhere, IsFoundNumbered, Takes, TakesAll};
 
-use crate::collect::{is_short, read_piece, read_pieces};
 use crate::columns::Columns;
+use crate::details::Details;
 use crate::fault::GraphError;
+use crate::number::Numbers;
 use crate::piece::Piece;
+use indexmap::IndexSet;
+use nd_path::StorePath;
 use std::alloc::{AllocError, Global};
-use std::thread::Threads;
 
 /// What was found in lines of a bundle: what they say, or the first refusal. Behind a refusal nothing is taken
-/// any more, and the columns have what stands before it.
+/// any more, and the lists have what stands before it.
 #[derive(Drop)]
 pub(crate) struct Found {
-    pub columns: Columns,
+    pub numbers: Numbers,
+    pub details: Details,
     pub refused: Option<GraphError>,
+}
+
+/// What lines say, each of which has a path of its own: their paths by number, and the rest.
+#[derive(Drop)]
+pub(crate) struct Numbered {
+    pub paths: IndexSet<StorePath>,
+    pub details: Details,
 }
 
 impl Found {
@@ -28,40 +35,29 @@ impl Found {
         ensures { IsFoundNowhere result }
     {
         Found {
-            columns: Columns::new(alloc),
+            numbers: Numbers::new(alloc),
+            details: Details::new(alloc),
             refused: None,
         }
     }
 
-    /// Reads the lines of the text behind those before: by this thread where the text hasn't enough for two, and
-    /// else by many threads. With `check` each line's path has to be the text path of its derivation.
-    #[tactic(auto, using(crate::proofs::Parted::reads_pieces, crate::proofs::Parted::reads_none))]
-    pub(crate) fn read_lines(
-        &mut self,
-        rt: &(impl Threads + Sync),
-        alloc: Global,
-        text: &[u8],
-        check: bool,
-    ) -> Result<(), AllocError>
-        ensures { OnOk result (ReadsLines check text.now self.old self.new) }
+    /// The same with what was read of pieces behind its lines.
+    pub(crate) fn with(self, pieces: Vec<Result<Piece, AllocError>>) -> Result<Found, AllocError>
+        ensures { IfOk result (TakesAll self pieces.items) }
     {
-        match self.refused {
-            Some(_) => Ok(()),
-            None => {
-                if is_short(text) {
-                    return self.take(read_piece(alloc, text, check));
-                }
-                self.take_all(read_pieces(rt, alloc, text, check)?)
-            }
-        }
+        let mut found = self;
+        found.take_all(pieces)?;
+        Ok(found)
     }
 
     /// Takes what was read of pieces of a text, and makes room for it at once.
-
-    fn take_all(&mut self, pieces: Vec<Result<Piece, AllocError>>) -> Result<(), AllocError>
+    pub(crate) fn take_all(
+        &mut self,
+        pieces: Vec<Result<Piece, AllocError>>,
+    ) -> Result<(), AllocError>
         ensures { OnOk result (TakesAll self.old pieces.items self.new) }
     {
-        self.columns.reserve(count_nodes(pieces.as_slice()))?;
+        self.details.reserve(count_nodes(pieces.as_slice()))?;
         self.take_each(pieces)
     }
 
@@ -93,45 +89,38 @@ impl Found {
         ensures { OnOk result (Takes self.old (Ok piece) self.new) }
     {
         let Piece { columns, refused } = piece;
-        self.columns.append(columns)?;
+        let Columns { paths, details } = columns;
+        self.numbers.add(paths)?;
+        self.details.append(details)?;
         match refused {
             None => Ok(()),
             Some(fault) => {
-                let line = self.columns.next_line();
+                let line = self.details.next_line();
                 self.refused = Some(GraphError::of_line(fault, line));
                 Ok(())
             }
         }
     }
 
-    /// What the lines say, or the first refusal.
-    pub(crate) fn into_columns(self) -> Result<Columns, GraphError>
-        ensures ok { IfOk result (λ columns. (columns ≡ self.columns) × (self.refused ≡ None)) }
-        ensures err { IfErr result (λ fault. self.refused ≡ Some fault) }
+    /// What the lines say with their paths numbered, or the first refusal.
+    #[tactic(auto, using(crate::proofs::Parted::found_numbered, crate::proofs::Parted::found_twice, crate::proofs::Parted::found_fault))]
+    pub(crate) fn into_numbered(self) -> Result<Numbered, GraphError>
+        ensures ok { IfOk result (IsFoundNumbered self) }
+        ensures err { IfErr result (IsFoundFault self) }
     {
-        let Found { columns, refused } = self;
+        let Found {
+            numbers,
+            details,
+            refused,
+        } = self;
         match refused {
-            None => Ok(columns),
             Some(fault) => Err(fault),
+            None => match numbers.into_paths() {
+                Ok(paths) => Ok(Numbered { paths, details }),
+                Err(fault) => Err(fault),
+            },
         }
     }
-}
-
-/// What the lines of the text say, in order, or the refusal of the first that has one; read as by
-/// [`Found::read_lines`].
-#[tactic(auto, using(crate::proofs::Parted::all_said, crate::proofs::Parted::first_refused, crate::proofs::Parted::fault_for_memory))]
-pub(crate) fn read_lines_side_by_side(
-    rt: &(impl Threads + Sync),
-    alloc: Global,
-    text: &[u8],
-    check: bool,
-) -> Result<Columns, GraphError>
-    ensures ok { IfOk result (SayColumns check (lines text.now)) }
-    ensures err { IfErr result (IsFirstFault check text.now) }
-{
-    let mut found = Found::new(alloc);
-    found.read_lines(rt, alloc, text, check)?;
-    found.into_columns()
 }
 
 /// How many nodes the pieces have.

@@ -1,10 +1,12 @@
 //! Reading a bundle: its lines, and the graph of what they say.
 #![tactic(auto)]
 
+mod ahead;
 mod bundle;
 mod collect;
 mod columns;
 mod cutting;
+mod details;
 mod drv_paths;
 mod fault;
 mod found;

@@ -1,13 +1,74 @@
 //! The numbering of paths, in the order of the bundle's lines.
 
-ghost use Rattle.std.specs.Prelude.{◌≡◌, IfOk, OnOk, IfErr};
-ghost use Rattle.nd_bundle.specs.Numbering.{IsNumberFault};
+ghost use Rattle.std.specs.Prelude.{◌≡◌, None, IfOk, OnOk, IfErr};
+ghost use Rattle.nd_bundle.specs.Numbering.{AddsPaths, AreNoNumbers, HasNumbers, IsNumberFault, LacksNumbers};
 ghost use Rattle.nd_graph.specs.Walks.{AreDistinct};
 
 use crate::fault::GraphError;
 use indexmap::IndexSet;
 use nd_path::StorePath;
-use std::alloc::Global;
+use std::alloc::{AllocError, Global};
+
+/// Paths as a set, in the order of their lines, up to the first that an earlier line has too.
+#[derive(Drop)]
+pub(crate) struct Numbers {
+    pub paths: IndexSet<StorePath>,
+    /// The line of that one. Behind it no path is numbered.
+    pub repeat: Option<usize>,
+}
+
+impl Numbers {
+    /// Of no path. It takes no memory.
+    #[tactic(auto, using(crate::proofs::Numbers::no_numbers))]
+    pub(crate) fn new(alloc: Global) -> Numbers
+        ensures { AreNoNumbers result }
+    {
+        Numbers {
+            paths: IndexSet::new(alloc),
+            repeat: None,
+        }
+    }
+
+    /// Numbers paths behind those before, unless one stood twice.
+    #[tactic(auto, using(crate::proofs::Numbers::adds_behind))]
+    pub(crate) fn add(&mut self, paths: Vec<StorePath>) -> Result<(), AllocError>
+        ensures { OnOk result (AddsPaths self.old paths.items self.new) }
+    {
+        match self.repeat {
+            Some(_) => Ok(()),
+            None => self.number(paths),
+        }
+    }
+
+    /// Numbers paths behind those before, none of which stood twice.
+    #[tactic(auto, using(crate::proofs::Numbers::adds_none))]
+    fn number(&mut self, paths: Vec<StorePath>) -> Result<(), AllocError>
+        requires { self.old.repeat ≡ None }
+        ensures { OnOk result (AddsPaths self.old paths.items self.new) }
+    {
+        self.paths.reserve(paths.len())?;
+        for path in paths {
+            if !self.paths.insert(path)? {
+                self.repeat = Some(self.paths.len() + 1);
+                return Ok(());
+            }
+        }
+        Ok(())
+    }
+
+    /// The paths as a set, in their order; `Duplicate` where a path stands twice.
+    #[tactic(auto, using(crate::proofs::Numbers::has_numbers, crate::proofs::Numbers::lacks_numbers))]
+    pub(crate) fn into_paths(self) -> Result<IndexSet<StorePath>, GraphError>
+        ensures ok { IfOk result (λ paths. HasNumbers self paths.keys) }
+        ensures err { IfErr result (LacksNumbers self) }
+    {
+        let Numbers { paths, repeat } = self;
+        match repeat {
+            None => Ok(paths),
+            Some(line) => Err(GraphError::Duplicate(line)),
+        }
+    }
+}
 
 /// The paths as a set, in their order; `Duplicate` where a path stands twice.
 pub(crate) fn number_all(
@@ -18,11 +79,7 @@ pub(crate) fn number_all(
     ensures distinct { OnOk result (AreDistinct paths.items) }
     ensures err { IfErr result (λ fault. IsNumberFault paths.items fault) }
 {
-    let mut numbered = IndexSet::with_capacity(alloc, paths.len())?;
-    for path in paths {
-        if !numbered.insert(path)? {
-            return Err(GraphError::Duplicate(numbered.len() + 1));
-        }
-    }
-    Ok(numbered)
+    let mut numbers = Numbers::new(alloc);
+    numbers.add(paths)?;
+    numbers.into_paths()
 }

@@ -3,18 +3,18 @@
 ghost use Rattle.std.specs.Prelude.{◌≡◌, ◌++◌, [], None, IfErr, IfOk, OnOk};
 ghost use Rattle.nd_bundle.specs.Parts.{GoesOn, IsFaultBy, IsReadBehind, IsSpent, IsToldBy, IsUnread, ReadsLines};
 
-use crate::columns::Columns;
+use crate::ahead::Ahead;
 use crate::cutting::{cut_line, whole_lines};
 use crate::fault::GraphError;
-use crate::found::Found;
+use crate::found::Numbered;
 use std::alloc::{AllocError, Global};
 use std::thread::Threads;
 
-/// How far a bundle's text that comes in parts was read: what was found in its whole lines, and the rest, which
+/// How far a bundle's text that comes in parts was read: what was read of its whole lines, and the rest, which
 /// is a line that hasn't ended.
 #[derive(Drop)]
 pub(crate) struct Progress {
-    pub found: Found,
+    pub ahead: Ahead,
     pub rest: Vec<u8>,
 }
 
@@ -25,7 +25,7 @@ impl Progress {
         ensures { IsUnread result }
     {
         Progress {
-            found: Found::new(alloc),
+            ahead: Ahead::new(alloc),
             rest: Vec::new(alloc),
         }
     }
@@ -55,7 +55,7 @@ impl Progress {
     fn end(&mut self)
         ensures { IsSpent self.new }
     {
-        self.found.refused = Some(GraphError::Memory);
+        self.ahead.found.refused = Some(GraphError::Memory);
     }
 
     /// Reads on, unless a line was refused.
@@ -68,7 +68,7 @@ impl Progress {
     ) -> Result<(), AllocError>
         ensures { OnOk result (GoesOn check text.now self.old self.new) }
     {
-        match self.found.refused {
+        match self.ahead.found.refused {
             Some(_) => Ok(()),
             None => self.read_text(rt, alloc, text, check),
         }
@@ -83,7 +83,7 @@ impl Progress {
         text: &[u8],
         check: bool,
     ) -> Result<(), AllocError>
-        requires { self.old.found.refused ≡ None }
+        requires { self.old.ahead.found.refused ≡ None }
         ensures { OnOk result (GoesOn check text.now self.old self.new) }
     {
         match cut_line(text) {
@@ -92,26 +92,20 @@ impl Progress {
                 Ok(())
             }
             Some((end, behind)) => {
-                self.end_line(rt, alloc, end, check)?;
+                self.end_line(alloc, end, check)?;
                 self.read_behind(rt, alloc, behind, check)
             }
         }
     }
 
     /// Reads the line that hasn't ended, which ends so.
-    fn end_line(
-        &mut self,
-        rt: &(impl Threads + Sync),
-        alloc: Global,
-        end: &[u8],
-        check: bool,
-    ) -> Result<(), AllocError>
-        ensures lines { OnOk result (ReadsLines check (self.old.rest.items ++ end.now) self.old.found self.new.found) }
+    fn end_line(&mut self, alloc: Global, end: &[u8], check: bool) -> Result<(), AllocError>
+        requires { self.old.ahead.found.refused ≡ None }
+        ensures lines { OnOk result (ReadsLines check (self.old.rest.items ++ end.now) self.old.ahead self.new.ahead) }
         ensures rest { OnOk result (self.new.rest.items ≡ []) }
     {
         self.rest.extend_from_slice(end)?;
-        self.found
-            .read_lines(rt, alloc, self.rest.as_slice(), check)?;
+        self.ahead.read_line(alloc, self.rest.as_slice(), check)?;
         self.rest.clear();
         Ok(())
     }
@@ -129,7 +123,7 @@ impl Progress {
         ensures { OnOk result (IsReadBehind check text.now self.old self.new) }
     {
         let (front, rest) = whole_lines(text);
-        self.found.read_lines(rt, alloc, front, check)?;
+        self.ahead.read_lines(rt, alloc, front, check)?;
         self.rest.extend_from_slice(rest)?;
         Ok(())
     }
@@ -137,22 +131,17 @@ impl Progress {
     /// What the lines of the text that was read say, the last line being the rest where there is one; or the
     /// first refusal.
     #[tactic(auto, using(crate::proofs::Parted::told_by, crate::proofs::Parted::fault_by, crate::proofs::Parted::fault_before, crate::proofs::Parted::fault_of_memory))]
-    pub(crate) fn into_columns(
-        self,
-        rt: &(impl Threads + Sync),
-        alloc: Global,
-        check: bool,
-    ) -> Result<Columns, GraphError>
+    pub(crate) fn into_numbered(self, alloc: Global, check: bool) -> Result<Numbered, GraphError>
         ensures ok { IfOk result (IsToldBy check self) }
         ensures err { IfErr result (IsFaultBy check self) }
     {
-        let Progress { found, rest } = self;
-        match found.refused {
+        let Progress { ahead, rest } = self;
+        match ahead.found.refused {
             Some(fault) => Err(fault),
             None => {
-                let mut found = found;
-                found.read_lines(rt, alloc, rest.as_slice(), check)?;
-                found.into_columns()
+                let mut ahead = ahead;
+                ahead.read_line(alloc, rest.as_slice(), check)?;
+                ahead.into_numbered()
             }
         }
     }

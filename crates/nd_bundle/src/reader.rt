@@ -71,7 +71,7 @@ impl BundleReader {
     /// Refuses with the first of the refusals 1 to 6 of `GraphError` on the first line that has one,
     /// else with the first of 7 to 11 over the whole, and with `Memory` (12) where an allocation is
     /// refused.
-    #[tactic(auto, using(crate::proofs::Told::say_sized, crate::proofs::Told::say_paired, crate::proofs::Told::say_rising, crate::proofs::Told::is_bundle, crate::proofs::Told::first_fault))]
+    #[tactic(auto, using(crate::proofs::Told::numbered_sized, crate::proofs::Told::numbered_paired, crate::proofs::Told::numbered_rising, crate::proofs::Told::numbered_bundle, crate::proofs::Told::numbered_fault))]
     pub fn finish(self, rt: &(impl Threads + Sync)) -> Result<Graph, GraphError>
         ensures ok { IfOk result (λ graph. IsBundle self.check self.text graph) }
         ensures refused { IfErr result (λ fault. IsFirstFault self.check self.text fault) }
@@ -84,7 +84,7 @@ impl BundleReader {
             progress,
             ..
         } = self;
-        let columns = progress.into_columns(rt, alloc, check)?;
-        graph_side_by_side(rt, alloc, columns)
+        let numbered = progress.into_numbered(alloc, check)?;
+        graph_side_by_side(rt, alloc, numbered)
     }
 }

@@ -2,12 +2,14 @@
 
 ghost use Rattle.std.specs.Prelude.{◌≡◌, ◌≤◌, length, IfOk, IfErr};
 ghost use Rattle.nd_graph.specs.Graphs.{needed, node_limit, nodes_with, rows_of, IsSound};
-ghost use Rattle.nd_graph.specs.Walks.{AreInRange, IsAcyclic};
-ghost use Rattle.nd_bundle.specs.Settled.{links_in, AllNamesRise, AreSized, ArePaired, IsGraphOfColumns, IsOrderedFault};
+ghost use Rattle.nd_graph.specs.Walks.{AreDistinct, AreInRange, IsAcyclic};
+ghost use Rattle.nd_bundle.specs.Settled.{links_in, AllNamesRise, AreSized, ArePaired, IsGraphOfRows, IsOrderedFault};
 ghost use Rattle.nd_bundle.specs.Whole.{IsWholeFault};
 
 use crate::columns::Columns;
+use crate::details::Details;
 use crate::fault::GraphError;
+use crate::found::Numbered;
 use crate::linking::{link, link_side_by_side};
 use crate::number::number_all;
 use indexmap::IndexSet;
@@ -21,52 +23,52 @@ use std::thread::Threads;
 /// The graph of the nodes with these parts, or the first refusal over the whole.
 #[tactic(auto, using(crate::proofs::Gathered::whole_numbered))]
 pub(crate) fn graph_of(alloc: Global, columns: Columns) -> Result<Graph, GraphError>
-    requires sized { AreSized columns }
-    requires paired { ArePaired columns.names.items columns.outputs.items }
-    requires rising { AllNamesRise columns.names.items }
-    ensures ok { IfOk result (IsGraphOfColumns columns) }
+    requires sized { AreSized columns.paths.items columns.details }
+    requires paired { ArePaired columns.details.names.items columns.details.outputs.items }
+    requires rising { AllNamesRise columns.details.names.items }
+    ensures ok { IfOk result (IsGraphOfRows columns.paths.items columns.details) }
     ensures sound { IfOk result IsSound }
     ensures acyclic { IfOk result (λ graph. IsAcyclic (rows_of graph)) }
-    ensures err { IfErr result (IsWholeFault (links_in columns)) }
+    ensures err { IfErr result (IsWholeFault (links_in columns.paths.items columns.details)) }
 {
-    let Columns {
-        paths,
+    let Columns { paths, details } = columns;
+    let Details {
         needs,
         wants,
         sources,
         names,
         outputs,
-    } = columns;
+    } = details;
     let paths = number_all(alloc, paths)?;
     let inputs = link(alloc, &paths, names.as_slice(), wants)?;
     drop(names);
     graph_with(alloc, paths, needs, inputs, sources, outputs)
 }
 
-/// The same; many inputs are linked by as many threads as there are processors.
+/// The same of nodes whose paths are numbered; many inputs are linked by as many threads as there are processors.
 #[tactic(auto, using(crate::proofs::Gathered::whole_numbered))]
 pub(crate) fn graph_side_by_side(
     rt: &(impl Threads + Sync),
     alloc: Global,
-    columns: Columns,
+    numbered: Numbered,
 ) -> Result<Graph, GraphError>
-    requires sized { AreSized columns }
-    requires paired { ArePaired columns.names.items columns.outputs.items }
-    requires rising { AllNamesRise columns.names.items }
-    ensures ok { IfOk result (IsGraphOfColumns columns) }
+    requires distinct { AreDistinct numbered.paths.keys }
+    requires sized { AreSized numbered.paths.keys numbered.details }
+    requires paired { ArePaired numbered.details.names.items numbered.details.outputs.items }
+    requires rising { AllNamesRise numbered.details.names.items }
+    ensures ok { IfOk result (IsGraphOfRows numbered.paths.keys numbered.details) }
     ensures sound { IfOk result IsSound }
     ensures acyclic { IfOk result (λ graph. IsAcyclic (rows_of graph)) }
-    ensures err { IfErr result (IsWholeFault (links_in columns)) }
+    ensures err { IfErr result (IsWholeFault (links_in numbered.paths.keys numbered.details)) }
 {
-    let Columns {
-        paths,
+    let Numbered { paths, details } = numbered;
+    let Details {
         needs,
         wants,
         sources,
         names,
         outputs,
-    } = columns;
-    let paths = number_all(alloc, paths)?;
+    } = details;
     let inputs = link_side_by_side(rt, alloc, &paths, names.as_slice(), wants)?;
     drop(names);
     graph_with(alloc, paths, needs, inputs, sources, outputs)

@@ -177,3 +177,62 @@ fn refused_long_bundle_cut_at_lines(rt: HostRuntime) {
     let want = Seen::Refused(GraphError::UnknownOutput(651));
     assert!(rt; are_long_read(&rt, rt.alloc(), &odd, want));
 }
+
+/// Whether the text has this answer as a whole, and where it comes in three parts of the same length.
+fn is_read_in_blocks<R: Threads + Sync>(rt: &R, alloc: Global, text: &[u8], want: Seen) -> bool {
+    let (front, rest) = text.split_at(text.len() / 3);
+    let (middle, back) = rest.split_at(rest.len() / 2);
+    seen_of(read_bundle(rt, alloc, text, false)) == want
+        && seen_of(read_parts(rt, alloc, &[front, middle, back])) == want
+}
+
+/// Whether 4,096 lines, each third of them enough for many threads, have this answer with the first line again at this
+/// place and a line that is refused at that one, where there is such a place. Want of memory is a no.
+fn is_repeat_read<R: Threads + Sync>(
+    rt: &R,
+    alloc: Global,
+    again: usize,
+    refused: usize,
+    want: Seen,
+) -> bool {
+    let Ok(first) = many(alloc, 1, &[]) else {
+        return false;
+    };
+    match many(
+        alloc,
+        4096,
+        &[(again, first.as_slice()), (refused, UNKNOWN)],
+    ) {
+        Ok(text) => is_read_in_blocks(rt, alloc, text.as_slice(), want),
+        Err(_) => false,
+    }
+}
+
+#[test]
+fn long_bundle_in_blocks(rt: HostRuntime) {
+    assert!(rt; is_repeat_read(&rt, rt.alloc(), 4096, 4096, Seen::Nodes(4096, Some(0))));
+}
+
+#[test]
+fn repeat_within_a_block(rt: HostRuntime) {
+    let want = Seen::Refused(GraphError::Duplicate(2));
+    assert!(rt; is_repeat_read(&rt, rt.alloc(), 1, 4096, want));
+}
+
+#[test]
+fn repeat_in_another_block(rt: HostRuntime) {
+    let want = Seen::Refused(GraphError::Duplicate(4001));
+    assert!(rt; is_repeat_read(&rt, rt.alloc(), 4000, 4096, want));
+}
+
+#[test]
+fn refused_line_behind_a_repeat(rt: HostRuntime) {
+    let want = Seen::Refused(GraphError::UnknownOutput(4001));
+    assert!(rt; is_repeat_read(&rt, rt.alloc(), 1, 4000, want));
+}
+
+#[test]
+fn refused_line_before_a_repeat(rt: HostRuntime) {
+    let want = Seen::Refused(GraphError::UnknownOutput(1001));
+    assert!(rt; is_repeat_read(&rt, rt.alloc(), 3000, 1000, want));
+}

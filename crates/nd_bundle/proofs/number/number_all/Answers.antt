@@ -1,43 +1,21 @@
-use Rattle.std.proofs.Common.{◌≡◌, ℕ, ◌+◌, Bool, true, false, List, [], ◌∷◌, ◌++◌, length, Contains, if◌then◌else◌, sym, ap, ◌∙◌, subst}
-use Rattle.std.specs.List.{list_any}
-use Rattle.std.proofs.lemmas.List.{append_assoc}
-use Rattle.std.specs.Vec.Iter.{into_iter_items}
-use Rattle.nd_path.specs.StorePath.{path_eq}
-use Rattle.nd_graph.proofs.Distinct.{distinct_push}
-use Rattle.nd_bundle.proofs.Numbers.{was_there, was_new, is_there, not_there}
+use Rattle.std.proofs.Common.{◌≡◌}
+use Rattle.std.proofs.lemmas.Result.{IfErr-weaker, IfOk-weaker}
+use Rattle.nd_bundle.specs.Numbering.{HasNumbers, IsNumberFault, LacksNumbers}
+use Rattle.nd_graph.specs.Walks.{AreDistinct}
+use Rattle.nd_bundle.proofs.Numbers.{all_distinct, all_lack, all_same, on_ok_if}
 use Rattle.nd_bundle.proofs.number.number_all.Goals as goal
 
-pub loop-path-preserved : goal.loop-path-preserved
-loop-path-preserved c =
-    let old : List (List ℕ) = c.loop-path.numbered.keys in
-    let seen : List (List ℕ) = c.loop-path.yielded in
-    let path : List ℕ = c.in-Some.path in
-    let same : old ≡ seen = c.loop-path.invariant.keys in
-    let fresh : list_any (path_eq path) old ≡ false = was_new (list_any (path_eq path) old) c.in_ok-insert.field-0 c.in_ok-insert.ensures.added c.if-not-branch.false in
-    let grown : c.insert.new.self.keys ≡ old ++ path ∷ [] = c.in_ok-insert.ensures.keys ∙ ap (λ (b : Bool). if b then old else old ++ path ∷ []) fresh in
-    record {
-      keys = grown ∙ ap (λ (ks : List (List ℕ)). ks ++ path ∷ []) same;
-      distinct = distinct_push seen path c.loop-path.invariant.distinct (λ there. not_there old path fresh (subst (λ (ks : List (List ℕ)). Contains ks path) (sym same) there));
-      whole =
-          c.loop-path.invariant.whole ∙ ap (λ (rest : List (List ℕ)). seen ++ rest) c.in-Some.ensures.steps.0
-          ∙ sym (append_assoc seen (path ∷ []) (into_iter_items c.next.new.self));
-    }
+pub returns-clause-ok : goal.returns-clause-ok
+returns-clause-ok c =
+    IfOk-weaker c.into_paths.result (λ keys. HasNumbers c.add.new.self keys.keys) (λ keys. keys.keys ≡ c.args.paths.items)
+    (λ keys has. all_same c.new-numbers.result c.add.new.self c.args.paths.items keys.keys c.new-numbers.ensures c.in_ok-add.ensures has) c.into_paths.ensures.ok
 
-pub returns-then-not-branch-clause-err : goal.returns-then-not-branch-clause-err
-returns-then-not-branch-clause-err c =
-    let old : List (List ℕ) = c.loop-path.numbered.keys in
-    let seen : List (List ℕ) = c.loop-path.yielded in
-    let path : List ℕ = c.in-Some.path in
-    let same : old ≡ seen = c.loop-path.invariant.keys in
-    let found : list_any (path_eq path) old ≡ true = was_there (list_any (path_eq path) old) c.in_ok-insert.field-0 c.in_ok-insert.ensures.added c.if-not-branch.true in
-    let kept : c.insert.new.self.keys ≡ old = c.in_ok-insert.ensures.keys ∙ ap (λ (b : Bool). if b then old else old ++ path ∷ []) found in
-    let count : c.len-then-not-branch.result ≡ length seen = c.len-then-not-branch.ensures.len ∙ ap (λ (ks : List (List ℕ)). length ks) (kept ∙ same) in
-    record {
-      before = seen;
-      path = path;
-      behind = into_iter_items c.next.new.self;
-      parts = c.loop-path.invariant.whole ∙ ap (λ (rest : List (List ℕ)). seen ++ rest) c.in-Some.ensures.steps.0;
-      distinct = c.loop-path.invariant.distinct;
-      again = subst (λ (ks : List (List ℕ)). Contains ks path) same (is_there old path found);
-      number = ap (λ (n : ℕ). n + 1) count;
-    }
+pub returns-clause-distinct : goal.returns-clause-distinct
+returns-clause-distinct c =
+    on_ok_if (λ keys. HasNumbers c.add.new.self keys.keys) (AreDistinct c.args.paths.items) c.into_paths.result
+    (λ keys has. all_distinct c.new-numbers.result c.add.new.self c.args.paths.items keys.keys c.new-numbers.ensures c.in_ok-add.ensures has) c.into_paths.ensures.ok
+
+pub returns-clause-err : goal.returns-clause-err
+returns-clause-err c =
+    IfErr-weaker c.into_paths.result (λ fault. LacksNumbers c.add.new.self fault) (λ fault. IsNumberFault c.args.paths.items fault)
+    (λ fault lacks. all_lack c.new-numbers.result c.add.new.self c.args.paths.items fault c.new-numbers.ensures c.in_ok-add.ensures lacks) c.into_paths.ensures.err

@@ -9,7 +9,7 @@ use Rattle.nd_bundle.proofs.plain.read_bundle.Goals as goal
 
 pub returns-clause-refused : goal.returns-clause-refused
 returns-clause-refused c =
-    IfErr-weaker c.graph_of.result (λ e. IsWholeFault (links_in c.in_ok-columns.columns) e) (λ e. IsFirstFault c.args.check_paths c.args.text.now e)
+    IfErr-weaker c.graph_of.result (λ e. IsWholeFault (links_in c.in_ok-columns.columns.paths.items c.in_ok-columns.columns.details) e) (λ e. IsFirstFault c.args.check_paths c.args.text.now e)
     (λ e is. first_fault c.args.check_paths c.args.text.now c.in_ok-columns.columns e c.in_ok-columns.ensures.ok is) c.graph_of.ensures.err
 
 pub returns-clause-exactly : goal.returns-clause-exactly

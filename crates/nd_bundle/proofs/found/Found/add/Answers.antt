@@ -10,12 +10,13 @@ use Rattle.nd_bundle.proofs.found.Found.add.Goals as goal
 pub returns-in-None : goal.returns-in-None
 returns-in-None c =
     let columns : Columns = c.args.piece.columns in
-    let new : Found = record { columns = c.append.new.self; refused = c.args.self.now.refused } in
-    subst (λ (r : Option LineError). Takes c.args.self.now (Ok (record { columns = columns; refused = r })) new) (sym c.in-None.is) (takes_said c.args.self.now new columns c.requires c.requires c.in_ok-append.ensures)
+    let new : Found = record { numbers = c.add.new.self; details = c.append.new.self; refused = c.args.self.now.refused } in
+    subst (λ (r : Option LineError). Takes c.args.self.now (Ok (record { columns = columns; refused = r })) new) (sym c.in-None.is)
+    (takes_said c.args.self.now new columns c.requires c.requires c.in_ok-add.ensures c.in_ok-append.ensures)
 
 pub returns-in-Some : goal.returns-in-Some
 returns-in-Some c =
     let columns : Columns = c.args.piece.columns in
-    let new : Found = record { columns = c.append.new.self; refused = Some c.of_line.result } in
+    let new : Found = record { numbers = c.add.new.self; details = c.append.new.self; refused = Some c.of_line.result } in
     subst (λ (r : Option LineError). Takes c.args.self.now (Ok (record { columns = columns; refused = r })) new) (sym c.in-Some.is)
-    (takes_refused c.args.self.now new columns c.in-Some.fault c.of_line.result c.requires refl (c.of_line.ensures ∙ ap (λ (n : ℕ). fault_at c.in-Some.fault n) c.next_line-line.ensures) c.in_ok-append.ensures)
+    (takes_refused c.args.self.now new columns c.in-Some.fault c.of_line.result c.requires refl (c.of_line.ensures ∙ ap (λ (n : ℕ). fault_at c.in-Some.fault n) c.next_line-line.ensures) c.in_ok-add.ensures c.in_ok-append.ensures)
