@@ -3,12 +3,10 @@ use Rattle.std.proofs.Common.{◌≡◌, ℕ, ◌+◌, ◌<◌, ◌≤◌, Bool,
 use Rattle.std.specs.Prelude.{IsSomeAnd}
 use Rattle.std.specs.List.{AllZip}
 use Rattle.std.specs.Option.{option_map_or}
-use Rattle.std.specs.Io.KnownBytes.{Appends}
 use Rattle.std.proofs.lemmas.Bool.{cases_lt}
 use Rattle.std.proofs.lemmas.List.{get_or-replicate, get_or-take, get_or_default, get_or_past, length-replicate, length-take, length-take-le, take_more}
 use Rattle.std.proofs.lemmas.Option.{slice_get_read, slice_get_within, slice_get_cases, get_or_from_slice_get}
 use Rattle.std.proofs.lemmas.Slice.Zip.{AllZip-long}
-use Rattle.nd_devices.specs.Written.{WritesPart}
 use Rattle.nd_machines.specs.Builders.{Builder}
 use Rattle.nd_eligible.specs.Settings.{Settings}
 use Rattle.nd_eligible.specs.declared.need.Need.{Need}
@@ -18,11 +16,9 @@ use Rattle.nd_hook.specs.declared.kinds.Reply.{Reply}
 use Rattle.nd_hook.specs.declared.kinds.Reply.TheVariants.{Accept, Postpone, Decline, DeclinePermanently}
 use Rattle.nd_hook.specs.Idle.{idle, all_up, IsIdleReply}
 use Rattle.nd_hook.specs.Replies.{IsReply}
-use Rattle.nd_hook.specs.ReplyText.{reply_text}
 use Rattle.nd_cli.proofs.Accepted.{same_reply}
 use Rattle.nd_cli.proofs.LocalTest.{free_here}
-use Rattle.nd_cli.proofs.Replying.{AllZip-snoc, AllZip-at, goes_on, stops}
-use Rattle.nd_cli.specs.Asks.{WritesReplies, WritesSomeReplies}
+use Rattle.nd_cli.proofs.Replying.{AllZip-snoc, AllZip-at}
 use Rattle.nd_cli.specs.ClassReplies.{IsReplyAt}
 use Rattle.nd_cli.specs.SharedClasses.{SharesClass}
 
@@ -99,12 +95,6 @@ replies_more machines local needs replies d reply so_far at =
     subst (λ (some : List Need). AllZip (IsIdleReply machines local) some (replies ++ reply ∷ [])) (sym (take_more needs d at.need (slice_get_within needs d at.need at.wants)))
     (AllZip-snoc (IsIdleReply machines local) (take d needs) replies (get_or needs d at.need) reply so_far (idle_at machines local needs d reply at))
 
--- each has its place
-pub reply_within : (machines : List Builder) (local : Settings) (needs : List Need) (replies : List Reply) (d : ℕ) → AllZip (IsIdleReply machines local) needs replies → d < length needs → d < length replies
-reply_within machines local needs replies d each within =
-    let long = AllZip-long (IsIdleReply machines local) needs replies each in
-    omega (arith, long, within)
-
 -- the reply in its place
 pub reply_there : (machines : List Builder) (local : Settings) (needs : List Need) (replies : List Reply) (d : ℕ) (reply : Reply) → AllZip (IsIdleReply machines local) needs replies → d < length needs
     → reply ≡ get_or replies d reply → IsReplyAt machines local needs d reply
@@ -156,17 +146,3 @@ reply_shared machines local needs replies d first other shares each =
       is = reply_alike machines local shares.one shares.other reply shares.same.system shares.same.features
           (subst (λ (need : Need). IsIdleReply machines local need reply) one at.is);
     }
-
--- ---- replies that are written
-
--- after one more
-pub goes_on_at : (machines : List Builder) (local : Settings) (needs : List Need) (d : ℕ) (reply : Reply) (old mid new : Option (List ℕ)) → WritesReplies machines local (take d needs) old mid → IsReplyAt machines local needs d reply
-    → Appends mid new (reply_text machines reply) → WritesReplies machines local (take (d + 1) needs) old new
-goes_on_at machines local needs d reply old mid new so_far at written =
-    goes_on machines local needs d at.need old mid new (slice_get_within needs d at.need at.wants) so_far (record { reply = reply; is = idle_at machines local needs d reply at; written = written })
-
--- one more was written in part
-pub stops_at : (machines : List Builder) (local : Settings) (needs : List Need) (d : ℕ) (reply : Reply) (old mid new : Option (List ℕ)) → WritesReplies machines local (take d needs) old mid → IsReplyAt machines local needs d reply
-    → WritesPart mid new (reply_text machines reply) → WritesSomeReplies machines local needs old new
-stops_at machines local needs d reply old mid new so_far at part =
-    stops machines local needs d at.need old mid new (slice_get_within needs d at.need at.wants) so_far (record { reply = reply; is = idle_at machines local needs d reply at; part = part })

@@ -1,21 +1,20 @@
 -- Replies that are written one after another.
-use Rattle.std.proofs.Common.{◌≡◌, ◌<◌, ◌+◌, ◌↔◌, ℕ, zero, suc, Bool, IsTrue, List, [], ◌∷◌, ◌++◌, length, take, get_or, Option, None, Some, refl, sym, ap, subst, ◌∙◌, append_assoc, append-nil, arith}
-use Rattle.std.specs.List.{AllZip, Contains, flat_map}
+use Rattle.std.proofs.Common.{◌≡◌, ◌<◌, ◌↔◌, ℕ, zero, suc, Bool, IsTrue, List, [], ◌∷◌, ◌++◌, length, get_or, Option, None, Some, Result, Ok, Err, refl, sym, subst, append-nil, arith}
+use Rattle.std.specs.Prelude.{OnErr}
+use Rattle.std.specs.List.{All, AllZip, Contains, flat_map}
 use Rattle.std.specs.Io.KnownBytes.{Appends}
-use Rattle.std.proofs.KnownBytes.{Appends-trans}
-use Rattle.std.proofs.lemmas.Grind.{flat_map-append}
-use Rattle.std.proofs.lemmas.List.{take_more}
+use Rattle.std.proofs.lemmas.List.{take_all}
 use Rattle.nd_machines.specs.Builders.{Builder}
 use Rattle.nd_eligible.specs.Settings.{Settings}
 use Rattle.nd_eligible.specs.declared.need.Need.{Need}
 use Rattle.nd_hook.specs.declared.kinds.Reply.{Reply}
 use Rattle.nd_eligible.specs.Eligibility.{IsEligibleAt, AreEligible}
 use Rattle.nd_hook.specs.Replies.{IsReply}
-use Rattle.nd_hook.specs.ReplyText.{reply_text}
+use Rattle.nd_hook.specs.ReplyText.{IsInList, reply_text}
 use Rattle.nd_devices.specs.Written.{WritesPart}
-use Rattle.nd_cli.proofs.Accepted.{same_reply}
+use Rattle.nd_cli.proofs.Accepted.{idle_in_list, same_reply}
 use Rattle.nd_hook.specs.Idle.{idle, all_up, IsFreeHere, IsIdleReply}
-use Rattle.nd_cli.specs.Asks.{AreReplies, WritesReply, WritesReplyPart, WritesReplies, WritesSomeReplies}
+use Rattle.nd_cli.specs.Asks.{AreReplies, WritesReplies, WritesSomeReplies}
 
 pub AllZip-snoc : {A B : Type 0} (R : A → B → Type 0) (xs : List A) (ys : List B) (x : A) (y : B) → AllZip R xs ys → R x y → AllZip R (xs ++ x ∷ []) (ys ++ y ∷ [])
 AllZip-snoc R [] [] x y each here = (here, tt)
@@ -30,47 +29,6 @@ Appends-none (Some bytes) = sym (append-nil bytes)
 
 pub AreReplies-none : (machines : List Builder) (local : Settings) → AreReplies machines local [] []
 AreReplies-none machines local = record { replies = []; each = tt; is = refl }
-
--- one more reply
-pub AreReplies-more : (machines : List Builder) (local : Settings) (needs : List Need) (text : List ℕ) (need : Need) (reply : Reply) → AreReplies machines local needs text → IsIdleReply machines local need reply → AreReplies machines local (needs ++ need ∷ []) (text ++ reply_text machines reply)
-AreReplies-more machines local needs text need reply so_far next = record {
-  replies = so_far.replies ++ reply ∷ [];
-  each = AllZip-snoc (IsIdleReply machines local) needs so_far.replies need reply so_far.each next;
-  is = ap (λ (front : List ℕ). front ++ reply_text machines reply) so_far.is
-      ∙ ap (λ (back : List ℕ). flat_map (reply_text machines) so_far.replies ++ back) (sym (append-nil (reply_text machines reply)))
-      ∙ sym (flat_map-append (reply_text machines) so_far.replies (reply ∷ []));
-}
-
--- before the first
-pub begun : (machines : List Builder) (local : Settings) (old : Option (List ℕ)) → WritesReplies machines local [] old old
-begun machines local old = record { text = []; are = AreReplies-none machines local; written = Appends-none old }
-
--- after one more
-pub goes_on : (machines : List Builder) (local : Settings) (needs : List Need) (i : ℕ) (d : Need) (old mid new : Option (List ℕ)) → i < length needs → WritesReplies machines local (take i needs) old mid → WritesReply machines local (get_or needs i d) mid new → WritesReplies machines local (take (i + 1) needs) old new
-goes_on machines local needs i d old mid new within so_far next = record {
-  text = so_far.text ++ reply_text machines next.reply;
-  are = subst (λ (some : List Need). AreReplies machines local some (so_far.text ++ reply_text machines next.reply)) (sym (take_more needs i d within))
-      (AreReplies-more machines local (take i needs) so_far.text (get_or needs i d) next.reply so_far.are next.is);
-  written = Appends-trans old mid new so_far.text (reply_text machines next.reply) so_far.written next.written;
-}
-
--- one more was written in part
-part_after : (old mid new : Option (List ℕ)) (text more : List ℕ) → Appends old mid text → WritesPart mid new more → WritesPart old new (text ++ more)
-part_after old mid new text more before after = record {
-  part = text ++ after.part;
-  rest = after.rest;
-  whole = ap (λ (back : List ℕ). text ++ back) after.whole ∙ sym (append_assoc text after.part after.rest);
-  written = Appends-trans old mid new text after.part before after.written;
-}
-
-pub stops : (machines : List Builder) (local : Settings) (needs : List Need) (i : ℕ) (d : Need) (old mid new : Option (List ℕ)) → i < length needs → WritesReplies machines local (take i needs) old mid → WritesReplyPart machines local (get_or needs i d) mid new → WritesSomeReplies machines local needs old new
-stops machines local needs i d old mid new within so_far next = record {
-  count = i + 1;
-  text = so_far.text ++ reply_text machines next.reply;
-  are = subst (λ (some : List Need). AreReplies machines local some (so_far.text ++ reply_text machines next.reply)) (sym (take_more needs i d within))
-      (AreReplies-more machines local (take i needs) so_far.text (get_or needs i d) next.reply so_far.are next.is);
-  part = part_after old mid new so_far.text (reply_text machines next.reply) so_far.written next.part;
-}
 
 -- nothing was written at all
 pub none_written : (machines : List Builder) (local : Settings) (needs : List Need) (old : Option (List ℕ)) → WritesSomeReplies machines local needs old old
@@ -97,3 +55,38 @@ AllZip-at R [] ys i d e each within = absurd (omega arith)
 AllZip-at R (x ∷ xs) [] i d e each within = absurd each
 AllZip-at R (x ∷ xs) (y ∷ ys) zero d e each within = each.0
 AllZip-at R (x ∷ xs) (y ∷ ys) (suc i) d e each within = AllZip-at R xs ys i d e each.1 (omega arith)
+
+-- ---- all replies at once
+
+in_list_at : (machines : List Builder) (local : Settings) (needs : List Need) (replies : List Reply) (k : ℕ) (d : Reply) → AllZip (IsIdleReply machines local) needs replies → k < length replies → IsInList machines (get_or replies k d)
+in_list_at machines local needs [] k d each within = absurd (omega arith)
+in_list_at machines local [] (y ∷ ys) k d each within = absurd each
+in_list_at machines local (x ∷ xs) (y ∷ ys) zero d each within = idle_in_list machines local x y each.0
+in_list_at machines local (x ∷ xs) (y ∷ ys) (suc k) d each within = in_list_at machines local xs ys k d each.1 (omega arith)
+
+-- each accepted place is in the list
+pub all_in_list : (machines : List Builder) (local : Settings) (needs : List Need) (replies : List Reply) → AllZip (IsIdleReply machines local) needs replies → All (IsInList machines) replies
+all_in_list machines local needs replies each = λ k d within. in_list_at machines local needs replies k d each within
+
+-- all were written
+pub all_written : (machines : List Builder) (local : Settings) (needs : List Need) (replies : List Reply) (old new : Option (List ℕ)) → AllZip (IsIdleReply machines local) needs replies → Appends old new (flat_map (reply_text machines) replies) → WritesReplies machines local needs old new
+all_written machines local needs replies old new each written = record {
+  text = flat_map (reply_text machines) replies;
+  are = record { replies = replies; each = each; is = refl };
+  written = written;
+}
+
+-- .. or a part of them
+pub some_written : (machines : List Builder) (local : Settings) (needs : List Need) (replies : List Reply) (old new : Option (List ℕ)) → AllZip (IsIdleReply machines local) needs replies → WritesPart old new (flat_map (reply_text machines) replies) → WritesSomeReplies machines local needs old new
+some_written machines local needs replies old new each part = record {
+  count = length needs;
+  text = flat_map (reply_text machines) replies;
+  are = subst (λ (some : List Need). AreReplies machines local some (flat_map (reply_text machines) replies)) (sym (take_all (length needs) needs (omega arith)))
+      (record { replies = replies; each = each; is = refl });
+  part = part;
+}
+
+-- what holds anyway holds behind a refusal
+pub on_err : {T E : Type 0} (r : Result T E) (P : Type 0) → P → OnErr r P
+on_err (Ok u) P p = tt
+on_err (Err e) P p = p

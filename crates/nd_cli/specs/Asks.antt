@@ -1,5 +1,5 @@
 -- What `ask` writes: for each derivation in order the hook's reply on an idle park. `AnswersAsk` cites `WritesReplies` and
--- `WritesSomeReplies`, and with them what they are made of; `WritesReply` and `WritesReplyPart` serve proofs alone.
+-- `WritesSomeReplies`, and with them what they are made of.
 use Rattle.std.specs.Prelude.{◌≡◌, ℕ, Option, List, flat_map, take}
 use Rattle.std.specs.List.{AllZip}
 use Rattle.std.specs.Io.KnownBytes.{Appends}
@@ -16,18 +16,6 @@ pub record AreReplies (machines : List Builder) (local : Settings) (needs : List
   pub replies : List Reply
   pub each : AllZip (IsIdleReply machines local) needs replies
   pub is : text ≡ flat_map (reply_text machines) replies
-
--- a writer took the reply about a derivation with this need
-pub record WritesReply (machines : List Builder) (local : Settings) (need : Need) (old new : Option (List ℕ)) : Type 0 where
-  pub reply : Reply
-  pub is : IsIdleReply machines local need reply
-  pub written : Appends old new (reply_text machines reply)
-
--- a writer that refused took a part of it, from its beginning
-pub record WritesReplyPart (machines : List Builder) (local : Settings) (need : Need) (old new : Option (List ℕ)) : Type 0 where
-  pub reply : Reply
-  pub is : IsIdleReply machines local need reply
-  pub part : WritesPart old new (reply_text machines reply)
 
 -- a writer took the replies about derivations with these needs
 pub record WritesReplies (machines : List Builder) (local : Settings) (needs : List Need) (old new : Option (List ℕ)) : Type 0 where

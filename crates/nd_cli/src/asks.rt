@@ -1,18 +1,22 @@
 //! The replies that `ask` writes.
 
 ghost use Rattle.std.specs.Prelude.{◌≡◌, ◌<◌, ◌↔◌, ◌⊎◌, ◌||◌, true, false, IsTrue, length, take, IfOk, IfSome, OnOk, OnErr, IfErr, is_err};
-ghost use Rattle.std.specs.List.{AllZip};
+ghost use Rattle.std.specs.List.{All, AllZip, flat_map};
+ghost use Rattle.std.specs.Io.KnownBytes.{Appends};
+ghost use Rattle.nd_devices.specs.Sending.{IsPut};
+ghost use Rattle.nd_devices.specs.Written.{WritesPart};
 ghost use Rattle.nd_cli.specs.Asks.{WritesReplies, WritesSomeReplies};
 ghost use Rattle.nd_cli.specs.ClassReplies.{IsReplyAt};
 ghost use Rattle.nd_cli.specs.SharedClasses.{SharesClass};
 ghost use Rattle.nd_cli.specs.Inputs.{is_write_fault, is_write_failure};
 ghost use Rattle.nd_hook.specs.Idle.{IsFreeHere, IsIdleReply, idle, all_up};
+ghost use Rattle.nd_hook.specs.ReplyText.{IsInList, accept_text, line, reply_text};
 
 use crate::classes::Firsts;
 use crate::fault::CliFault;
-use nd_devices::{Fault, Told, WriteError};
+use nd_devices::{Fault, Page, Told};
 use nd_eligible::{Local, Need, eligible_places, local_ok};
-use nd_hook::{Reply, reply_in, write_reply};
+use nd_hook::{Reply, reply_in};
 use nd_machines::Machine;
 use std::alloc::{AllocError, Global};
 use std::io::Write;
@@ -22,7 +26,7 @@ use std::io::Write;
 ///
 /// `Memory`: nothing is written then. `Write`: the writer refused, and is marked; the replies about
 /// some of the first needs, the last of them perhaps in part, are out.
-#[tactic(auto, using(crate::proofs::Replying::none_written, crate::proofs::Replying::begun))]
+#[tactic(auto, using(crate::proofs::Replying::none_written, crate::proofs::Replying::all_written, crate::proofs::Replying::some_written))]
 pub(crate) fn write_replies<W: Write>(
     alloc: Global,
     machines: &[Machine],
@@ -39,20 +43,105 @@ pub(crate) fn write_replies<W: Write>(
     let Ok(replies) = replies_about(alloc, machines, local, needs) else {
         return Err(CliFault::Memory);
     };
-    for number in 0..needs.len() {
-        match write_reply(&replies[number], machines, output) {
-            Ok(()) => {}
-            Err(WriteError::Write) => {
-                drop(replies);
-                return Err(CliFault::Write);
-            }
-        }
-    }
+    let sent = pass_replies(&replies, machines, output);
     drop(replies);
-    match output.flush() {
+    match sent {
         Ok(()) => Ok(()),
         Err(Fault) => Err(CliFault::Write),
     }
+}
+
+/// Writes the replies, one behind another, and has the writer pass on what it holds back. It takes no memory.
+///
+/// `Fault`: the writer refused. Its mark is then set, and a part of the replies, from their beginning, is out.
+#[tactic(auto, using(nd_devices::proofs::Pieces::flushes))]
+fn pass_replies<W: Write>(
+    replies: &[Reply],
+    machines: &[Machine],
+    out: &mut Told<W>,
+) -> Result<(), Fault>
+    requires listed { All (IsInList machines.now) replies.now }
+    ensures written { OnOk result (Appends (W.contents out.old.device) (W.contents out.new.device) (flat_map (reply_text machines.now) replies.now)) }
+    ensures partly { OnErr result (WritesPart (W.contents out.old.device) (W.contents out.new.device) (flat_map (reply_text machines.now) replies.now)) }
+    ensures mark { out.new.is_marked ≡ (out.old.is_marked || is_err result) }
+{
+    send_replies(replies, machines, out)?;
+    out.flush()
+}
+
+/// Writes the replies, one behind another, in pieces of about 4,096 bytes.
+///
+/// `Fault`: the writer refused. Its mark is then set, and a part of the replies, from their beginning, is out.
+#[tactic(auto, using(nd_devices::proofs::Sent::ends))]
+fn send_replies<W: Write>(
+    replies: &[Reply],
+    machines: &[Machine],
+    out: &mut Told<W>,
+) -> Result<(), Fault>
+    requires listed { All (IsInList machines.now) replies.now }
+    ensures written { OnOk result (Appends (W.contents out.old.device) (W.contents out.new.device) (flat_map (reply_text machines.now) replies.now)) }
+    ensures partly { OnErr result (WritesPart (W.contents out.old.device) (W.contents out.new.device) (flat_map (reply_text machines.now) replies.now)) }
+    ensures mark { out.new.is_marked ≡ (out.old.is_marked || is_err result) }
+{
+    let mut page = Page::new();
+    put_replies(replies, machines, &mut page, out)?;
+    page.send(out)?;
+    Ok(())
+}
+
+/// Puts the replies behind what the page holds.
+///
+/// `Fault`: the writer refused. Its mark is then set.
+#[tactic(auto, using(nd_devices::proofs::Sent::no_text))]
+fn put_replies<W: Write>(
+    replies: &[Reply],
+    machines: &[Machine],
+    page: &mut Page,
+    out: &mut Told<W>,
+) -> Result<(), Fault>
+    requires { All (IsInList machines.now) replies.now }
+    ensures { IsPut W.contents out.old page.old out.new page.new (flat_map (reply_text machines.now) replies.now) result }
+{
+    for number in 0..replies.len() {
+        put_reply(&replies[number], machines, page, out)?;
+    }
+    Ok(())
+}
+
+/// Puts a reply behind what the page holds, as `write_reply` of `nd_hook` writes it.
+///
+/// `Fault`: the writer refused. Its mark is then set.
+fn put_reply<W: Write>(
+    reply: &Reply,
+    machines: &[Machine],
+    page: &mut Page,
+    out: &mut Told<W>,
+) -> Result<(), Fault>
+    requires { IsInList machines.now reply.now }
+    ensures { IsPut W.contents out.old page.old out.new page.new (reply_text machines.now reply.now) result }
+{
+    match reply {
+        Reply::Accept(place) => put_accept(machines[*place].uri(), page, out),
+        Reply::Postpone => put_line(b"# postpone", page, out),
+        Reply::Decline => put_line(b"# decline", page, out),
+        Reply::DeclinePermanently => put_line(b"# decline-permanently", page, out),
+    }
+}
+
+/// Puts the two lines that accept a machine.
+fn put_accept<W: Write>(uri: &[u8], page: &mut Page, out: &mut Told<W>) -> Result<(), Fault>
+    ensures { IsPut W.contents out.old page.old out.new page.new (accept_text uri.now) result }
+{
+    put_line(b"# accept", page, out)?;
+    put_line(uri, page, out)
+}
+
+/// Puts a line and its newline.
+fn put_line<W: Write>(text: &[u8], page: &mut Page, out: &mut Told<W>) -> Result<(), Fault>
+    ensures { IsPut W.contents out.old page.old out.new page.new (line text.now) result }
+{
+    page.put(text, out)?;
+    page.put(b"\n", out)
 }
 
 /// The replies about derivations with these needs, in order, where no slot is taken and every machine is up.

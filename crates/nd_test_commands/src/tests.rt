@@ -6,6 +6,7 @@ mod devices;
 mod examples;
 mod giving;
 mod inputs;
+mod pages;
 mod parks;
 mod scripts;
 mod stands;

@@ -34,20 +34,30 @@ fn asked<R: Threads + Sync, I: Read + Drop>(
     Some((answer, output.into_inner()))
 }
 
-/// Whether `ask` answers so to a text, many bytes `x`, and another text, of which it gets few bytes at a time.
+/// Whether `ask` answers so to a text, so many bytes `x`, and another text, of which it gets few bytes at a time.
 fn answers<R: Threads + Sync>(
     rt: &R,
     alloc: Global,
     before: &[u8],
+    middle: u64,
     behind: &[u8],
     want: Want,
 ) -> bool {
-    let long = EndlessReader::new(b"", b'x').take(MIDDLE);
+    let long = EndlessReader::new(b"", b'x').take(middle);
     let input = before.chain(long).chain(CountedReader::new(behind, 2, 9));
     match asked(rt, alloc, input) {
         Some((answer, written)) => is_answer(alloc, answer, written.as_slice(), want),
         None => false,
     }
+}
+
+/// For how many bytes of a bundle there is room at first.
+const ROOM: u64 = 262_144;
+
+/// How many bytes that value has in a bundle of so many bytes whose other text is this.
+fn middle_of(size: u64, behind: &[u8]) -> u64 {
+    size.saturating_sub(LONG.len() as u64)
+        .saturating_sub(behind.len() as u64)
 }
 
 /// Whether `ask` answers that its reader failed, behind a faulty line and many bytes, and writes nothing.
@@ -64,16 +74,28 @@ fn is_stopped<R: Threads + Sync>(rt: &R, alloc: Global) -> bool {
 #[test]
 fn line_over_two_blocks(rt: HostRuntime) {
     let replies = Want::Written(b"# accept\nssh://m\n");
-    assert!(rt; answers(&rt, rt.alloc(), LONG, JSON_END, replies));
+    assert!(rt; answers(&rt, rt.alloc(), LONG, MIDDLE, JSON_END, replies));
 }
 
 #[test]
 fn faulty_line_behind_a_block(rt: HostRuntime) {
     let refused = Want::Refused("nix-dispatch: drvs: BadLine 2");
-    assert!(rt; answers(&rt, rt.alloc(), LONG, AND_FAULTY, refused));
+    assert!(rt; answers(&rt, rt.alloc(), LONG, MIDDLE, AND_FAULTY, refused));
 }
 
 #[test]
 fn refused_read_behind_a_faulty_line(rt: HostRuntime) {
     assert!(rt; is_stopped(&rt, rt.alloc()));
+}
+
+#[test]
+fn bundles_about_as_long_as_the_first_room(rt: HostRuntime) {
+    for size in [ROOM - 1, ROOM, ROOM + 1, 3 * ROOM, 3 * ROOM + 1] {
+        let replies = Want::Written(b"# accept\nssh://m\n");
+        let middle = middle_of(size, JSON_END);
+        assert!(rt; answers(&rt, rt.alloc(), LONG, middle, JSON_END, replies));
+        let refused = Want::Refused("nix-dispatch: drvs: BadLine 2");
+        let middle = middle_of(size, AND_FAULTY);
+        assert!(rt; answers(&rt, rt.alloc(), LONG, middle, AND_FAULTY, refused));
+    }
 }
