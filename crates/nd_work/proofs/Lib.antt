@@ -1,2 +1,3 @@
 pub mod Going
 pub mod Posts
+pub mod Stands

@@ -26,15 +26,35 @@ pub struct Post<L: Opened, T: Transport> {
     pub transport: Guarded<T>,
 }
 
-/// The place, and its number among these, of the lease that the entry at `index` of the history chose; `None` where it
-/// chose none, where that has ended, and where its place isn't among these.
-fn place_of_choice(
-    dispatch: &Dispatch,
-    index: usize,
-    places: &[ParkPlace],
-) -> Option<(usize, ParkPlace)>
-    ensures { IfSome result (λ found. found.0 < length places.now) }
+/// How far the history was gone along, and where the next lease's place is looked for first.
+#[derive(Drop)]
+pub(crate) struct Walk {
+    /// The place in the history of the entry that is looked at next.
+    seen: usize,
+    /// The number of the place behind that of the last lease: as a rule it has the next one.
+    near: usize,
+}
+
+impl Walk {
+    /// The beginning of the history.
+    pub(crate) fn new() -> Walk {
+        Walk { seen: 0, near: 0 }
+    }
+}
+
+/// The number of a place among these, looked for at `near` first, and `None` where it isn't among them.
+fn number_of(places: &[ParkPlace], near: usize, place: ParkPlace) -> Option<usize>
+    ensures { IfSome result (λ number. number < length places.now) }
 {
+    if near < places.len() && places[near] == place {
+        return Some(near);
+    }
+    places.iter().position(|one| *one == place)
+}
+
+/// The place of the lease that the entry at `index` of the history chose; `None` where it chose none, and where that has
+/// ended.
+fn place_of_choice(dispatch: &Dispatch, index: usize) -> Option<ParkPlace> {
     let (machine, slot) = match dispatch.history().get(index)? {
         Entry::Chosen {
             drv: _,
@@ -46,8 +66,21 @@ fn place_of_choice(
     if dispatch.current(machine, slot)?.serial != index {
         return None;
     }
-    let place = ParkPlace { machine, slot };
-    let number = places.iter().position(|one| *one == place)?;
+    Some(ParkPlace { machine, slot })
+}
+
+/// The place, and its number among these, of the lease that the entry at `index` of the history chose; `None` where it
+/// chose none, where that has ended, and where its place isn't among these.
+fn numbered_choice(
+    dispatch: &Dispatch,
+    index: usize,
+    places: &[ParkPlace],
+    near: usize,
+) -> Option<(usize, ParkPlace)>
+    ensures { IfSome result (λ found. found.0 < length places.now) }
+{
+    let place = place_of_choice(dispatch, index)?;
+    let number = number_of(places, near, place)?;
     Some((number, place))
 }
 
@@ -63,16 +96,22 @@ fn worse(before: End, now: End) -> End
 
 impl<'a, L: Opened, R: Wait> Floor<'a, L, R> {
     /// What there is to do for one of the workers of these places, and its number: the first lease, in the order of
-    /// their choices, that no entry before `seen` chose. `None` where there is none, once all choices are made that
-    /// can be.
-    fn find_due(&self, places: &[ParkPlace], seen: &mut usize) -> Option<(usize, Next)>
+    /// their choices, that no entry before the walk's next chose. `None` where there is none, once all choices are made
+    /// that can be.
+    pub(crate) fn find_due(&self, places: &[ParkPlace], walk: &mut Walk) -> Option<(usize, Next)>
         ensures { IfSome result (λ found. found.0 < length places.now) }
     {
         let mut desk = self.shared.desk.lock(self.rt);
         desk.pump();
-        for index in *seen..desk.dispatch.history().len() {
-            *seen = index + 1;
-            if let Some((number, place)) = place_of_choice(&desk.dispatch, index, places) {
+        for index in walk.seen..desk.dispatch.history().len() {
+            walk.seen = index + 1;
+            let found = numbered_choice(&desk.dispatch, index, places, walk.near);
+            if let Some((number, place)) = found {
+                walk.near = if number + 1 < places.len() {
+                    number + 1
+                } else {
+                    0
+                };
                 return Some((number, desk.due(self.alloc, place)));
             }
         }
@@ -115,9 +154,9 @@ impl<'a, L: Opened, R: Wait> Floor<'a, L, R> {
         ensures { AllZip (KeepsOn result) posts.old.items posts.new.items }
     {
         let mut end = End::Finished;
-        let mut seen = 0;
+        let mut walk = Walk::new();
         'serving: for _ in self.rt.forever() {
-            let Some((number, next)) = self.find_due(places, &mut seen) else {
+            let Some((number, next)) = self.find_due(places, &mut walk) else {
                 return end;
             };
             end = worse(end, self.serve_one(posts, number, next));

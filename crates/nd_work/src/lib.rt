@@ -8,6 +8,7 @@ mod calling;
 mod floor;
 mod hand;
 mod leasing;
+mod rehearsing;
 mod scribing;
 mod working;
 
@@ -16,4 +17,5 @@ pub use bells::Bells;
 pub use calling::Guarded;
 pub use floor::{Floor, Shared};
 pub use hand::Hand;
+pub use rehearsing::{Amiss, Stand};
 pub use working::End;

@@ -104,6 +104,32 @@ fn make_posts<T>(
     }
 }
 
+/// The workers' posts, and the places that they serve, where there is one worker for each slot of the park, and they
+/// aren't too many.
+pub(crate) fn prepare_places<T>(
+    alloc: Global,
+    dispatch: &Dispatch,
+    seats: &[Seat<T>],
+) -> Result<(Posts, Vec<ParkPlace>), RunError>
+    ensures refused { IfErr result (IsRunRefused dispatch.now.inputs (places_served seats.now)) }
+    ensures manned { OnOk result (AreManned dispatch.now.inputs (places_served seats.now)) }
+    ensures few { OnOk result (length seats.now ≤ 1024) }
+    ensures places { IfOk result (λ p. p.1.items ≡ places_served seats.now) }
+    ensures apart { IfOk result (λ p. AreApart p.1.items) }
+{
+    let places = match accepted_places(alloc, dispatch, seats) {
+        Ok(places) => places,
+        Err(why) => return Err(why),
+    };
+    match make_posts(alloc, dispatch, seats) {
+        Ok(posts) => Ok((posts, places)),
+        Err(_) => {
+            drop(places);
+            Err(RunError::Memory)
+        }
+    }
+}
+
 /// The workers' posts, and what the end of the run is compared with.
 pub(crate) fn prepare<T>(
     alloc: Global,
@@ -118,13 +144,9 @@ pub(crate) fn prepare<T>(
     ensures choices { IfOk result (λ p. AreUnknown (length p.1.places.items) p.1.tables.choices.items) }
     ensures sized { IfOk result (λ p. length p.1.tables.choices.items ≡ drvs_in dispatch.now.inputs) }
 {
-    let places = match accepted_places(alloc, dispatch, seats) {
-        Ok(places) => places,
+    let (posts, places) = match prepare_places(alloc, dispatch, seats) {
+        Ok(prepared) => prepared,
         Err(why) => return Err(why),
-    };
-    let Ok(posts) = make_posts(alloc, dispatch, seats) else {
-        drop(places);
-        return Err(RunError::Memory);
     };
     match make_plan(alloc, dispatch, places) {
         Ok(plan) => Ok((posts, plan)),
