@@ -15,7 +15,7 @@ use nd_cli::CliFault;
 use nd_devices::Told;
 use nd_ledger::Dispatch;
 use nd_transports::Transport;
-use nd_workers::{NotRun, Ran, RunFault, Seat, run, run_alone};
+use nd_workers::{NotRun, Ran, Rehearsal, RunFault, Seat, rehearse, run};
 use std::io::Write;
 use std::mem;
 use std::sync::Wait;
@@ -45,8 +45,9 @@ pub fn run_engine<T: Transport, R: Threads + Wait + Sync, W: Write>(
     engine(rt, dispatch, workers, false, report, output)
 }
 
-/// As [`run_engine`], but that the calling thread does the work of all workers, one lease after another. It is for
-/// transports that answer at once, as stand-ins do. `Thread` isn't expected, though no clause excludes it.
+/// As [`run_engine`], but that the calling thread does the work of all workers, one lease after another, and no receipts
+/// are kept ([`rehearse`]). It is for transports that answer at once, as stand-ins do. `Thread` doesn't come, though no
+/// clause of this function excludes it.
 pub fn run_alone_engine<T: Transport, R: Threads + Wait + Sync, W: Write>(
     rt: &R,
     dispatch: Dispatch,
@@ -79,8 +80,6 @@ fn engine<T: Transport, R: Threads + Wait + Sync, W: Write>(
     ensures fault { IfErr result (IsRunFault dispatch (vec_len workers) report W.contents output.old output.new) }
     ensures mark { IsTrue output.new.is_marked ↔ (result ≡ Err CliFault.Write) }
 {
-    // What comes back is left to the system: the process ends with the command, and to let go of a large dispatch
-    // takes long.
     match run_by(rt, dispatch, workers, alone) {
         Ok(end) => {
             let answer = write_and_answer(&end.dispatch, end.fault, report, output);
@@ -95,13 +94,21 @@ fn engine<T: Transport, R: Threads + Wait + Sync, W: Write>(
     }
 }
 
+/// What came back of a run. All else that did is left to the system: the process ends with the command, and to let go of
+/// it takes long.
+#[derive(Drop)]
+struct Back {
+    dispatch: Dispatch,
+    fault: Option<RunFault>,
+}
+
 /// Runs a dispatch by a thread for each worker, or where the calling thread does the work `alone` by that.
 fn run_by<T: Transport, R: Threads + Wait + Sync>(
     rt: &R,
     dispatch: Dispatch,
     workers: Vec<Seat<T>>,
     alone: bool,
-) -> Result<Ran<T>, NotRun<T>>
+) -> Result<Back, NotRun<T>>
     ensures refused { IfErr result (λ r. IsRunRefused dispatch.inputs (places_served workers.items) r.why) }
     ensures runs { IfOk result (λ e. RunsOn dispatch e.dispatch) }
     ensures goes_on { IfOk result (λ e. Agrees e.fault → IsOver dispatch e.dispatch) }
@@ -111,9 +118,53 @@ fn run_by<T: Transport, R: Threads + Wait + Sync>(
     ensures unkept { IfOk result (λ e. e.fault ≡ Some RunFault.Journal → ⊥) }
 {
     if alone {
-        return run_alone(rt, dispatch, workers);
+        return rehearse_by(rt, dispatch, workers);
     }
-    run(rt, dispatch, workers)
+    match run(rt, dispatch, workers) {
+        Ok(end) => {
+            let Ran {
+                dispatch,
+                workers,
+                receipts,
+                evidence,
+                fault,
+            } = end;
+            mem::forget(workers);
+            mem::forget(receipts);
+            mem::forget(evidence);
+            Ok(Back { dispatch, fault })
+        }
+        Err(refused) => Err(refused),
+    }
+}
+
+/// Runs a dispatch by the calling thread.
+fn rehearse_by<T: Transport, R: Wait>(
+    rt: &R,
+    dispatch: Dispatch,
+    workers: Vec<Seat<T>>,
+) -> Result<Back, NotRun<T>>
+    ensures refused { IfErr result (λ r. IsRunRefused dispatch.inputs (places_served workers.items) r.why) }
+    ensures runs { IfOk result (λ e. RunsOn dispatch e.dispatch) }
+    ensures goes_on { IfOk result (λ e. Agrees e.fault → IsOver dispatch e.dispatch) }
+    ensures quiet { IfOk result (λ e. e.fault ≡ None → list_all is_quiet (since dispatch e.dispatch) ≡ true) }
+    ensures thread { IfOk result (λ e. e.fault ≡ Some RunFault.Thread → list_any is_stop e.dispatch.history ≡ true) }
+    ensures memory { IfOk result (λ e. e.fault ≡ Some RunFault.Memory → list_any is_stop e.dispatch.history ≡ true) }
+    ensures unkept { IfOk result (λ e. e.fault ≡ Some RunFault.Journal → ⊥) }
+{
+    match rehearse(rt, dispatch, workers) {
+        Ok(end) => {
+            let Rehearsal {
+                dispatch,
+                workers,
+                amiss: _,
+                fault,
+            } = end;
+            mem::forget(workers);
+            Ok(Back { dispatch, fault })
+        }
+        Err(refused) => Err(refused),
+    }
 }
 
 /// Writes what came back of a run, and answers its status or its fault.
