@@ -6,6 +6,7 @@ mod draws;
 mod meeting;
 mod parks;
 mod punishing;
+mod rehearsing;
 mod rows;
 mod runs;
 mod stand_ins;

@@ -108,7 +108,7 @@ const COPIED: &str =
     "chosen 0 1 0\nstarted 0\nbuilt 0 o\nchosen 1 1 0\nchosen 2 2 0\nstarted 1\nbuilt 1 o\nstarted 2 n0\nbuilt 2 o\nchosen 3 1 0\nchosen 4 2 0\nstarted 3 n2\nbuilt 3 o\nstarted 4\nbuilt 4 o\n";
 
 /// The places of a machine with two slots.
-const SLOTS: [ParkPlace; 2] = [
+pub(crate) const SLOTS: [ParkPlace; 2] = [
     FIRST,
     ParkPlace {
         machine: 1,
@@ -118,7 +118,7 @@ const SLOTS: [ParkPlace; 2] = [
 
 /// The runs of several workers on one machine. The leases are served in the order of their choices, each to its end;
 /// behind each end what can be chosen is.
-const ON_SLOTS: [Example; 2] = [
+pub(crate) const ON_SLOTS: [Example; 2] = [
     Example {
         bundle: PLAIN_3,
         builders: "m - - 2",
@@ -134,7 +134,7 @@ const ON_SLOTS: [Example; 2] = [
 ];
 
 /// The runs of several workers on a machine each.
-const ON_MACHINES: [Example; 2] = [
+pub(crate) const ON_MACHINES: [Example; 2] = [
     Example {
         bundle: PLAIN_2,
         builders: "m;n",
@@ -186,7 +186,7 @@ fn start_second(alloc: Global, opened: &mut Dispatch) -> bool {
 }
 
 /// The dispatch of two plain nodes with a live lease on machine 1 and a started one on machine 2.
-fn half_started(alloc: Global) -> Option<Dispatch> {
+pub(crate) fn half_started(alloc: Global) -> Option<Dispatch> {
     let mut opened = dispatch(alloc, PLAIN_2, "m;n")?;
     if !start_second(alloc, &mut opened) {
         close(opened);
@@ -196,7 +196,7 @@ fn half_started(alloc: Global) -> Option<Dispatch> {
 }
 
 /// Two leases that are live when a run begins, of which the second was started.
-const HALF_STARTED: &str =
+pub(crate) const HALF_STARTED: &str =
     "chosen 0 1 0\nchosen 1 2 0\nstarted 1\nstarted 0\nbuilt 0 o\nbuilt 1 o\n";
 
 /// Whether the receipts of two workers say in this order that their entries ended a lease which was started before.
@@ -244,7 +244,7 @@ fn stop_pumped(opened: &mut Dispatch) -> bool {
 }
 
 /// The dispatch of three plain nodes, of which two are leased, that is stopped.
-fn stopped(alloc: Global) -> Option<Dispatch> {
+pub(crate) fn stopped(alloc: Global) -> Option<Dispatch> {
     let mut opened = dispatch(alloc, PLAIN_3, "m - - 2")?;
     if !stop_pumped(&mut opened) {
         close(opened);
@@ -253,11 +253,13 @@ fn stopped(alloc: Global) -> Option<Dispatch> {
     Some(opened)
 }
 
-/// What was leased before a stop goes on, and what waited is cancelled.
+/// The lines of that run: what was leased before the stop goes on, and what waited is cancelled.
+pub(crate) const STOPPED: &str =
+    "chosen 0 1 0\nchosen 1 1 1\nstop\nstarted 0\nbuilt 0 o\nstarted 1\nbuilt 1 o\n";
+
 #[test]
 fn stopped_before(rt: HostRuntime) {
     let alloc = rt.alloc();
-    let lines = "chosen 0 1 0\nchosen 1 1 1\nstop\nstarted 0\nbuilt 0 o\nstarted 1\nbuilt 1 o\n";
     assert!(rt;
         gives(
             &rt,
@@ -266,7 +268,7 @@ fn stopped_before(rt: HostRuntime) {
             stopped(alloc),
             &SLOTS,
             Stand::Plain,
-            lines
+            STOPPED
         )
     );
 }

@@ -1,7 +1,7 @@
 //! The worked examples of runs.
 
 use crate::tests::parks::{
-    By, close_refused, close_run, dispatch, ran, stand_at, stand_in, stands,
+    By, EitherStandIn, close_refused, close_run, dispatch, ran, stand_at, stand_in, stands,
 };
 use nd_closure::Refs;
 use nd_ledger::Dispatch;
@@ -12,7 +12,7 @@ use nd_script::Rule;
 use nd_test_fixtures::bundles::{CHAIN, PLAIN_1, PLAIN_2, S3};
 use nd_test_fixtures::entries::told;
 use nd_test_fixtures::parks::close;
-use nd_transports::{StandIn, Transport};
+use nd_transports::{ForgetfulStandIn, StandIn, Transport};
 use nd_workers::{NotRun, Ran, RunError, Seat};
 use std::alloc::Global;
 use std::sync::Wait;
@@ -96,9 +96,9 @@ fn rule_of(alloc: Global, stand: Stand) -> Option<Rule> {
 }
 
 /// Puts a worker on this place, whose stand-in does so.
-fn push_worker(
+fn push_worker<S: EitherStandIn>(
     alloc: Global,
-    seats: &mut Vec<Seat<StandIn>>,
+    seats: &mut Vec<Seat<S>>,
     place: ParkPlace,
     stand: Stand,
 ) -> Option<()> {
@@ -111,7 +111,11 @@ fn push_worker(
 }
 
 /// Workers on these places, whose stand-ins do so; fewer where memory is wanting.
-pub(crate) fn workers(alloc: Global, places: &[ParkPlace], stand: Stand) -> Vec<Seat<StandIn>> {
+pub(crate) fn workers<S: EitherStandIn>(
+    alloc: Global,
+    places: &[ParkPlace],
+    stand: Stand,
+) -> Vec<Seat<S>> {
     let mut seats = Vec::new(alloc);
     for place in places {
         push_worker(alloc, &mut seats, *place, stand);
@@ -138,7 +142,7 @@ pub(crate) const ONE: [ParkPlace; 1] = [FIRST];
 pub(crate) const TWO: [ParkPlace; 2] = [FIRST, SECOND];
 
 /// Whether a run ended without a fault and with these lines.
-pub(crate) fn is_end(alloc: Global, end: Ran<StandIn>, lines: &str) -> bool {
+pub(crate) fn is_end<S: EitherStandIn>(alloc: Global, end: Ran<S>, lines: &str) -> bool {
     let right = end.fault.is_none() && has_lines(alloc, &end.dispatch, lines);
     close_run(end);
     right
@@ -154,10 +158,23 @@ pub(crate) fn gives<R: Threads + Wait + Sync>(
     stand: Stand,
     lines: &str,
 ) -> bool {
+    gives_by::<StandIn, R>(rt, by, alloc, opened, places, stand, lines)
+}
+
+/// The same, by stand-ins of this kind.
+fn gives_by<S: EitherStandIn, R: Threads + Wait + Sync>(
+    rt: &R,
+    by: By,
+    alloc: Global,
+    opened: Option<Dispatch>,
+    places: &[ParkPlace],
+    stand: Stand,
+    lines: &str,
+) -> bool {
     let Some(opened) = opened else {
         return false;
     };
-    match ran(rt, by, opened, workers(alloc, places, stand)) {
+    match ran(rt, by, opened, workers::<S>(alloc, places, stand)) {
         Ok(end) => is_end(alloc, end, lines),
         Err(refused) => {
             close_refused(refused);
@@ -175,8 +192,21 @@ pub(crate) struct Example {
     pub(crate) lines: &'static str,
 }
 
-/// Whether the runs of these examples by workers on these places end without a fault and with their lines.
+/// Whether the runs of these examples by workers on these places end without a fault and with their lines, by stand-ins
+/// that keep their calls and by such that forget them.
 pub(crate) fn are_given<R: Threads + Wait + Sync>(
+    rt: &R,
+    by: By,
+    alloc: Global,
+    places: &[ParkPlace],
+    examples: &[Example],
+) -> bool {
+    are_given_by::<StandIn, R>(rt, by, alloc, places, examples)
+        && are_given_by::<ForgetfulStandIn, R>(rt, by, alloc, places, examples)
+}
+
+/// The same, by stand-ins of this kind.
+fn are_given_by<S: EitherStandIn, R: Threads + Wait + Sync>(
     rt: &R,
     by: By,
     alloc: Global,
@@ -185,7 +215,7 @@ pub(crate) fn are_given<R: Threads + Wait + Sync>(
 ) -> bool {
     for example in examples {
         let opened = dispatch(alloc, example.bundle, example.builders);
-        if !gives(rt, by, alloc, opened, places, example.stand, example.lines) {
+        if !gives_by::<S, R>(rt, by, alloc, opened, places, example.stand, example.lines) {
             return false;
         }
     }

@@ -1,6 +1,6 @@
 //! What one stand-in answers.
 
-use crate::tests::parks::stand_in;
+use crate::tests::parks::{EitherStandIn, stand_in};
 use nd_bytes::Items;
 use nd_closure::Refs;
 use nd_leases::Ticket;
@@ -9,7 +9,8 @@ use nd_path::{PathSet, StorePath};
 use nd_script::Rule;
 use nd_test_fixtures::bundles::S1;
 use nd_transports::{
-    Ended, Fetch, Outcome, Phase, RuleBook, StandIn, Transport, serve_build, serve_copy,
+    Ended, Fetch, ForgetfulStandIn, Outcome, Phase, RuleBook, StandIn, Transport, serve_build,
+    serve_copy,
 };
 use std::alloc::Global;
 use std::test::Fail;
@@ -33,11 +34,16 @@ fn output_paths(alloc: Global) -> Result<Items<StorePath>, Fail> {
 
 /// Derivation 0 with one output, leased on slot 0 of machine 1, with one path to copy.
 fn job(alloc: Global) -> Result<Job, Fail> {
+    job_of(alloc, 0)
+}
+
+/// The same of this derivation.
+fn job_of(alloc: Global, drv: u32) -> Result<Job, Fail> {
     Ok(Job {
         ticket: Ticket {
             machine: 1,
             slot: 0,
-            drv: 0,
+            drv,
             serial: 0,
         },
         path: path(alloc, DRV)?,
@@ -47,7 +53,7 @@ fn job(alloc: Global) -> Result<Job, Fail> {
 }
 
 /// The outcome where the copy works.
-fn outcome(stand: &mut StandIn, job: &Job) -> Option<Outcome> {
+fn outcome<S: Transport>(stand: &mut S, job: &Job) -> Option<Outcome> {
     match serve_copy(stand, job) {
         Fetch::Copied => Some(serve_build(stand)),
         Fetch::Refused(_) | Fetch::Memory => None,
@@ -93,7 +99,7 @@ fn refused_copies(rt: HostRuntime) -> Result<(), Fail> {
 }
 
 /// How the build ends, where the copy works.
-fn end_of(stand: &mut StandIn, job: &Job) -> Option<Ended> {
+fn end_of<S: Transport>(stand: &mut S, job: &Job) -> Option<Ended> {
     match outcome(stand, job) {
         Some(Outcome::Status(code)) => Some(Ended::Status(code)),
         Some(Outcome::Lost) => Some(Ended::Lost),
@@ -180,5 +186,42 @@ fn blown_fuses(rt: HostRuntime) -> Result<(), Fail> {
     assert!(rt; fused_copy(alloc, 1)? == Fetch::Refused(2));
     assert!(rt; fused_end(alloc, 2)? == Some(Ended::Lost));
     assert!(rt; fused_end(alloc, 3)? == Some(Ended::Built));
+    Ok(())
+}
+
+/// Whether a build ends with so many lists of so many paths.
+fn builds<S: Transport>(stand: &mut S, job: &Job, sets: usize, paths: usize) -> bool {
+    match outcome(stand, job) {
+        Some(Outcome::Built(refs)) => has_sets(&refs, sets, paths),
+        _ => false,
+    }
+}
+
+/// A stand-in that reports two lists of derivation 0, fails derivation 1, and lets two leases pass and one call more.
+fn fused<S: EitherStandIn>(alloc: Global) -> Result<S, Fail> {
+    let refs = Refs::new(vec![in alloc; one_path(alloc)?, one_path(alloc)?]?);
+    let rules = RuleBook::new(vec![in alloc; Rule::Built(0, refs), Rule::Fail(1, 4)]?)?;
+    let mut stand = S::following(alloc, 1, rules);
+    stand.blow_behind(7);
+    Ok(stand)
+}
+
+/// Whether a stand-in of this kind ends one lease behind the other by its rules, until its fuse is blown. What it reports
+/// is what the last build came to.
+fn serves_in_turn<S: EitherStandIn>(alloc: Global) -> Result<bool, Fail> {
+    let (first, second, third) = (job_of(alloc, 0)?, job_of(alloc, 1)?, job_of(alloc, 2)?);
+    let mut failing = fused::<S>(alloc)?;
+    let fails = builds(&mut failing, &first, 2, 1)
+        && end_of(&mut failing, &second) == Some(Ended::Status(4))
+        && serve_copy(&mut failing, &third) == Fetch::Refused(2);
+    let mut building = fused::<S>(alloc)?;
+    let builds_both = builds(&mut building, &first, 2, 1) && builds(&mut building, &third, 1, 0);
+    Ok(fails && builds_both && failing.phase() == Phase::Idle)
+}
+
+#[test]
+fn leases_in_turn(rt: HostRuntime) -> Result<(), Fail> {
+    assert!(rt; serves_in_turn::<StandIn>(rt.alloc())?);
+    assert!(rt; serves_in_turn::<ForgetfulStandIn>(rt.alloc())?);
     Ok(())
 }

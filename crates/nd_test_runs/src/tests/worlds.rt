@@ -1,8 +1,9 @@
 //! Random worlds: a small graph, a small park, and stand-ins that fail, lose and refuse. Each is run by the calling
-//! thread alone, twice, and by a thread for each worker.
+//! thread alone, twice with receipts, the second time with stand-ins that forget their calls, and once without receipts,
+//! and by a thread for each worker.
 
 use crate::tests::draws::Draws;
-use crate::tests::parks::{By, at, close_refused, close_run, dispatch_where, ran};
+use crate::tests::parks::{By, EitherStandIn, at, close_refused, close_run, dispatch_where, ran};
 use crate::tests::punishing::{input, line};
 use nd_closure::Refs;
 use nd_history::Entry;
@@ -10,7 +11,7 @@ use nd_ledger::Dispatch;
 use nd_script::Rule;
 use nd_test_fixtures::entries::told;
 use nd_test_fixtures::parks::close;
-use nd_transports::{RuleBook, StandIn};
+use nd_transports::{ForgetfulStandIn, RuleBook, StandIn};
 use nd_workers::{Ran, Seat};
 use std::alloc::Global;
 use std::sync::Wait;
@@ -195,7 +196,7 @@ impl World {
     }
 
     /// The workers of all slots.
-    fn seats(&self, alloc: Global) -> Option<Vec<Seat<StandIn>>> {
+    fn seats<S: EitherStandIn>(&self, alloc: Global) -> Option<Vec<Seat<S>>> {
         let rules = self.rules(alloc)?;
         let mut seats = Vec::new(alloc);
         for (number, machine) in self.machines.iter().enumerate() {
@@ -348,15 +349,15 @@ fn push_way(alloc: Global, rules: &mut Vec<Rule>, drv: u32, way: Way) -> Option<
 }
 
 /// Puts the workers of a machine.
-fn push_seats(
+fn push_seats<S: EitherStandIn>(
     alloc: Global,
-    seats: &mut Vec<Seat<StandIn>>,
+    seats: &mut Vec<Seat<S>>,
     machine: u32,
     slots: u32,
     rules: &RuleBook,
 ) -> Option<()> {
     for slot in 0..slots {
-        let transport = StandIn::new(alloc, machine, rules.try_clone().ok()?);
+        let transport = S::following(alloc, machine, rules.try_clone().ok()?);
         let seat = Seat {
             place: at(machine, slot),
             transport,
@@ -447,7 +448,7 @@ fn seen(alloc: Global, world: &World, history: &[Entry]) -> Option<Outcome> {
 }
 
 /// What a run of a world came to that ended without a fault.
-fn outcome_of(alloc: Global, world: &World, end: Ran<StandIn>) -> Option<Outcome> {
+fn outcome_of<S: EitherStandIn>(alloc: Global, world: &World, end: Ran<S>) -> Option<Outcome> {
     let outcome = if end.fault.is_none() {
         seen(alloc, world, end.dispatch.history())
     } else {
@@ -457,14 +458,14 @@ fn outcome_of(alloc: Global, world: &World, end: Ran<StandIn>) -> Option<Outcome
     outcome
 }
 
-/// What the run of a world comes to.
-fn run_world<R: Threads + Wait + Sync>(
+/// What the run of a world by stand-ins of this kind comes to.
+fn run_world<S: EitherStandIn, R: Threads + Wait + Sync>(
     rt: &R,
     by: By,
     alloc: Global,
     world: &World,
 ) -> Option<Outcome> {
-    let seats = world.seats(alloc)?;
+    let seats = world.seats::<S>(alloc)?;
     let Some(opened) = world.opened(alloc) else {
         drop(seats);
         return None;
@@ -479,16 +480,21 @@ fn run_world<R: Threads + Wait + Sync>(
 }
 
 /// What a run of a world by the calling thread comes to, and what one by a thread for each worker. Nothing where a second
-/// one by the calling thread has another history, or where there is one slot alone and the last one has.
+/// one by the calling thread, whose stand-ins forget their calls, or one that keeps no receipts either, has another
+/// history, or where there is one slot alone and the last one has.
 fn outcomes<R: Threads + Wait + Sync>(
     rt: &R,
     alloc: Global,
     world: &World,
 ) -> Option<(Outcome, Outcome)> {
-    let alone = run_world(rt, By::Alone, alloc, world)?;
-    let again = run_world(rt, By::Alone, alloc, world)?;
-    let many = run_world(rt, By::Threads, alloc, world)?;
-    if alone.lines != again.lines || (world.is_narrow() && alone.lines != many.lines) {
+    let alone = run_world::<StandIn, R>(rt, By::Alone, alloc, world)?;
+    let again = run_world::<ForgetfulStandIn, R>(rt, By::Alone, alloc, world)?;
+    let rehearsed = run_world::<ForgetfulStandIn, R>(rt, By::Rehearsed, alloc, world)?;
+    let many = run_world::<StandIn, R>(rt, By::Threads, alloc, world)?;
+    if alone.lines != again.lines || alone.lines != rehearsed.lines {
+        return None;
+    }
+    if world.is_narrow() && alone.lines != many.lines {
         return None;
     }
     Some((alone, many))
