@@ -48,7 +48,7 @@ pub(crate) fn read_piece(alloc: Global, text: &[u8], check: bool) -> Result<Piec
 {
     let lines = cut_lines(alloc, text)?;
     let mut columns = Columns::with_capacity(alloc, lines.len())?;
-    let mut pool = Pool::new(alloc)?;
+    let mut pool = Pool::new(alloc);
     for line in &lines {
         match read_line(alloc, line, check) {
             Ok(node) => columns.push(alloc, &mut pool, node)?,

@@ -26,7 +26,7 @@ const DIGEST: usize = 12;
 #[derive(Drop)]
 pub(crate) struct Pool {
     paths: Vec<StorePath>,
-    /// The number of the path that was read last of those with these characters.
+    /// The number of the path that was read last of those with these characters; nothing before the first path.
     latest: Vec<usize>,
     names: Vec<Name>,
 }
@@ -37,14 +37,19 @@ fn place_of(path: &[u8]) -> usize {
     (digit(DIGEST) * 32 + digit(DIGEST + 1)) * 4 + digit(DIGEST + 2) % 4
 }
 
+/// For each place no number yet, which is as good as the first.
+fn no_numbers(alloc: Global) -> Result<Vec<usize>, AllocError> {
+    vec![in alloc; 0; PLACES]
+}
+
 impl Pool {
-    /// No path and no name.
-    pub(crate) fn new(alloc: Global) -> Result<Pool, AllocError> {
-        Ok(Pool {
+    /// No path and no name. It takes no memory.
+    pub(crate) fn new(alloc: Global) -> Pool {
+        Pool {
             paths: Vec::new(alloc),
-            latest: vec![in alloc; 0; PLACES]?,
+            latest: Vec::new(alloc),
             names: Vec::new(alloc),
-        })
+        }
     }
 
     /// The inputs of a line on their own.
@@ -81,7 +86,7 @@ impl Pool {
             return path.try_clone();
         }
         let path = input.store_path(alloc)?;
-        self.note(place, path.try_clone()?)?;
+        self.note(alloc, place, path.try_clone()?)?;
         Ok(path)
     }
 
@@ -98,7 +103,10 @@ impl Pool {
     }
 
     /// A path has this place from now on.
-    fn note(&mut self, place: usize, path: StorePath) -> Result<(), AllocError> {
+    fn note(&mut self, alloc: Global, place: usize, path: StorePath) -> Result<(), AllocError> {
+        if self.latest.is_empty() {
+            self.latest = no_numbers(alloc)?;
+        }
         let number = self.paths.len();
         self.paths.push(path)?;
         if place < self.latest.len() {

@@ -1,3 +1,4 @@
 pub mod Members
 pub mod Layers
 pub mod Words
+pub mod Keeping

@@ -70,7 +70,7 @@ impl Model for Flat {
 impl Flat {
     /// The number of flags.
     #[tactic(auto, using(crate::proofs::WordFacts::length_is))]
-    fn len(&self) -> usize
+    pub(crate) fn len(&self) -> usize
         ensures { result ≡ length self.now }
     {
         self.len

@@ -53,7 +53,7 @@ impl Book {
     }
 
     /// A book without entries, for this many derivations and machines, the local one among them. It
-    /// has room for at least one entry.
+    /// has room for at least one entry, and for those of a history in which each derivation is built once.
     pub fn new(alloc: Global, drvs: usize, machines: usize) -> Result<Book, AllocError>
         ensures entries { IfOk result (λ b. b.entries ≡ []) }
         ensures room { IfOk result (λ b. 1 ≤ b.room) }
@@ -61,7 +61,7 @@ impl Book {
         ensures machines { IfOk result (λ b. b.machines ≡ machines) }
     {
         Ok(Book {
-            entries: Vec::with_capacity(alloc, 1)?,
+            entries: Vec::with_capacity(alloc, usual_room(drvs))?,
             leases: Leases::new(alloc, drvs, machines)?,
             ups: vec![in alloc; true; machines]?,
         })
@@ -193,6 +193,15 @@ impl Book {
     {
         self.ups[machine]
     }
+}
+
+/// For how many entries a book has room at first: a choice, a start and an end of each of so many derivations, and
+/// the room that is kept for the end of each live lease, of which there are no more. So a list of entries is
+/// seldom moved while it grows, and leaves no holes in the heap.
+fn usual_room(drvs: usize) -> usize
+    ensures { 1 ≤ result }
+{
+    drvs.saturating_mul(4).saturating_add(4)
 }
 
 /// Copies of these entries, with room for `more` beside them.

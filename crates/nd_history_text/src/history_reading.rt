@@ -37,7 +37,7 @@ pub fn read_history(alloc: Global, text: &[u8]) -> Result<Vec<Entry>, HistoryErr
         return Err(HistoryError::Version);
     };
     let mut reading = Reading::new(alloc);
-    let mut entries = Vec::new(alloc);
+    let mut entries = Vec::with_capacity(alloc, count_lines(rest))?;
     let mut line = 2;
     while !rest.is_empty() {
         match line_first(alloc, version, rest, &mut reading) {
@@ -51,6 +51,18 @@ pub fn read_history(alloc: Global, text: &[u8]) -> Result<Vec<Entry>, HistoryErr
         }
     }
     Ok(entries)
+}
+
+/// How many lines the text has, and one more where it ends with a newline.
+fn count_lines(text: &[u8]) -> usize {
+    let mut count = 0usize;
+    let mut left = Some(text);
+    while let Some(lines) = left {
+        let (_, behind) = cut(lines, b'\n');
+        count = count.saturating_add(1);
+        left = behind;
+    }
+    count
 }
 
 /// The version that the first line says, and what stands behind that line.

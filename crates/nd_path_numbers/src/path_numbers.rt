@@ -41,6 +41,17 @@ impl PathNumbers {
         }
     }
 
+    /// No path is known, and there is room for so many. Refuses where an allocation is refused.
+    pub fn with_capacity(alloc: Global, count: usize) -> Result<PathNumbers, AllocError>
+        ensures paths { IfOk result (λ numbers. numbers.paths ≡ []) }
+        ensures rows { IfOk result (λ numbers. numbers.rows ≡ []) }
+    {
+        Ok(PathNumbers {
+            paths: IndexSet::with_capacity(alloc, count)?,
+            rows: Vec::with_capacity(alloc, count)?,
+        })
+    }
+
     /// How many paths are known: each number is below it. It takes no memory.
     pub fn len(&self) -> usize
         ensures { result ≡ length self.now.paths }

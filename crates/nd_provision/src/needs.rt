@@ -34,6 +34,15 @@ pub(crate) fn all_sources(alloc: Global, graph: &Graph) -> Result<Vec<StorePath>
     Ok(sources)
 }
 
+/// How many outputs the derivations have.
+pub(crate) fn count_outputs(graph: &Graph) -> usize {
+    let mut count = 0usize;
+    for drv in 0..graph.len() {
+        count = count.saturating_add(graph.outputs(drv).len());
+    }
+    count
+}
+
 /// The sources of derivation `drv` and the outputs that it names of its inputs.
 pub(crate) fn needed_by(
     alloc: Global,

@@ -150,7 +150,7 @@ fn list_beside(
     ensures listed { IfOk result (λ v. AreListings numbers.new.paths v.items) }
     ensures grown { HasGrown numbers.old numbers.new }
 {
-    let mut listings = Vec::new(alloc);
+    let mut listings = Vec::with_capacity(alloc, paths.len())?;
     for i in 0..paths.len() {
         let listing = list_one(alloc, numbers, &paths[i], refs[i].try_clone()?)?;
         listings.push(listing)?;

@@ -10,7 +10,7 @@ ghost use Rattle.nd_provision.specs.Stored.{AreListings, IsFirstFor, IsSameStore
 use crate::checks::{all_lie_in, are_listings_held, are_rows_held, is_covered, lacked, lie_in};
 use crate::copying::{Additions, Listing, PathsError, enter_all, put_all, set_with};
 use crate::near::are_near;
-use crate::needs::{all_sources, needed_by, seeds_by_number};
+use crate::needs::{all_sources, count_outputs, needed_by, seeds_by_number};
 use crate::numbering::{number_build, number_given, numbers_at_hand};
 use nd_bytes::Items;
 use nd_closure::{RefTable, Refs, reach};
@@ -65,7 +65,9 @@ impl Stores {
     {
         let sources = all_sources(alloc, graph)?;
         let given = reach(alloc, sources.as_slice(), info)?;
-        let mut numbers = PathNumbers::new(alloc);
+        let outputs = count_outputs(graph);
+        let known = given.len().saturating_add(outputs);
+        let mut numbers = PathNumbers::with_capacity(alloc, known)?;
         let seeds = seeds_by_number(alloc, &mut numbers, graph)?;
         let Additions { entries, own, .. } = number_given(
             alloc,
@@ -74,7 +76,7 @@ impl Stores {
             info,
         )?;
         let mut table = RefTable::new(alloc);
-        table.reserve(entries.len())?;
+        table.reserve(entries.len().saturating_add(outputs))?;
         enter_all(&mut table, &mut numbers, entries);
         let mut holdings = Holdings::new(alloc, builders + 1)?;
         holdings.reserve_below(alloc, 0, own.len(), numbers.len())?;

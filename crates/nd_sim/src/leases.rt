@@ -64,7 +64,7 @@ pub(crate) fn no_reports(alloc: Global, dispatch: &Dispatch, drv: u32) -> Result
 fn empty_sets(alloc: Global, count: usize) -> Result<Refs, AllocError>
     ensures { IfOk result (λ refs. refs ≡ replicate count []) }
 {
-    let mut sets = Vec::new(alloc);
+    let mut sets = Vec::with_capacity(alloc, count)?;
     for _made in 0..count {
         sets.push(PathSet::new(alloc))?;
     }

@@ -12,7 +12,7 @@ pub returns-clause-exactly : goal.returns-clause-exactly
 returns-clause-exactly c = λ entries h. one_history _ _ _ (returns-clause-found c) h
 
 pub loop-rest-init : goal.loop-rest-init
-loop-rest-init c = text_begun_at _ _ _ _ c.new-entries.ensures.items c.in-Some.ensures
+loop-rest-init c = text_begun_at _ _ _ _ c.in_ok-entries.ensures.items c.in-Some.ensures
 
 pub returns-in-Err-Bad-clause-exactly : goal.returns-in-Err-Bad-clause-exactly
 returns-in-Err-Bad-clause-exactly c = bad_alone _ _ _ _ _ c.loop-rest.invariant c.loop-rest-test.ensures (rw c.in-Err-Bad.field-0-is at c.in-Err-Bad.ensures.refused)
