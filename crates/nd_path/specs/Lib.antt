@@ -6,3 +6,4 @@ pub mod Lengths
 pub mod PathSets
 pub mod Encoding
 pub mod TextPaths
+pub mod PathTexts

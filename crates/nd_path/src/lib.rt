@@ -4,6 +4,7 @@
 mod encoding;
 mod path_error;
 mod path_set;
+mod path_text;
 mod store_path;
 mod texts;
 

@@ -13,11 +13,12 @@ ghost use Rattle.nd_path.specs.SamePaths.{paths_alike};
 ghost use Rattle.nd_path.specs.Fronts.{base_of, IsFrontOf};
 
 use crate::path_error::PathError;
+use crate::path_text::PathText;
 use std::alloc::{AllocError, Global};
 use std::cmp::Ordering;
 use std::hash::{Hash, Hasher};
 use std::marker::Model;
-use std::sync::ArcSlice;
+use std::sync::Arc;
 
 /// The number of characters of a digest in base 32.
 const DIGEST_LENGTH: usize = 32;
@@ -48,19 +49,18 @@ const KINDS: &[u8; 256] = b"\
 /// their bytes are, and they stand in the order of their bytes. All copies of one share its bytes.
 #[derive(Debug, Drop)]
 pub struct StorePath {
-    bytes: ArcSlice<u8>,
+    text: Arc<PathText>,
 }
 
 impl Model for StorePath {
     ghost use Rattle.std.specs.Prelude.{ℕ, List};
-    ghost use Rattle.std.specs.Arc.{arc_slice_items};
     ghost use Rattle.nd_path.specs.Refusals.{IsPath};
 
     ghost Value = { List ℕ };
 
-    ghost view = { λ p. arc_slice_items p.bytes };
+    ghost view = { λ p. p.text.value };
 
-    ghost invariant = { λ p. IsPath (arc_slice_items p.bytes) };
+    ghost invariant = { λ p. IsPath p.text.value };
 }
 
 impl StorePath {
@@ -79,9 +79,7 @@ impl StorePath {
         if let Some(fault) = fault(bytes) {
             return Err(fault);
         }
-        Ok(StorePath {
-            bytes: ArcSlice::from_slice(alloc, bytes)?,
-        })
+        Ok(StorePath::from_path(alloc, bytes)?)
     }
 
     /// The store path with these bytes, which are one ([`is_store_path`]).
@@ -89,8 +87,9 @@ impl StorePath {
         requires { IsPath bytes.now }
         ensures { IfOk result (λ p. p ≡ bytes.now) }
     {
+        let text = PathText::from_slice(alloc, bytes)?;
         Ok(StorePath {
-            bytes: ArcSlice::from_slice(alloc, bytes)?,
+            text: Arc::new(alloc, text)?,
         })
     }
 
@@ -109,9 +108,7 @@ impl StorePath {
         bytes.extend_from_slice(digest)?;
         bytes.push(b'-')?;
         bytes.extend_from_slice(name)?;
-        Ok(StorePath {
-            bytes: ArcSlice::from_vec(bytes)?,
-        })
+        StorePath::from_path(alloc, bytes.as_slice())
     }
 
     /// The whole path's bytes.
@@ -121,7 +118,7 @@ impl StorePath {
         ensures path { IsPath result.now }
         ensures spelled { IsSpelled result.now }
     {
-        self.bytes.as_slice()
+        self.text.as_slice()
     }
 
     /// What stands behind the store directory, with which every store path begins: the digest, the
@@ -132,7 +129,7 @@ impl StorePath {
         ensures value { result.now ≡ base_of self.now }
         ensures long { 33 ≤ length result.now }
     {
-        let (_, base) = self.bytes.as_slice().split_at(DIRECTORY_LENGTH);
+        let (_, base) = self.text.as_slice().split_at(DIRECTORY_LENGTH);
         base
     }
 
@@ -143,7 +140,7 @@ impl StorePath {
         ensures value { result.now ≡ name_of self.now }
         ensures named { is_name result.now ≡ true }
     {
-        let (_, name) = self.bytes.as_slice().split_at(NAME_START);
+        let (_, name) = self.text.as_slice().split_at(NAME_START);
         name
     }
 
@@ -159,7 +156,7 @@ impl StorePath {
         ensures { IfOk result (λ p. p ≡ self.now) }
     {
         Ok(StorePath {
-            bytes: self.bytes.clone()?,
+            text: self.text.clone()?,
         })
     }
 }

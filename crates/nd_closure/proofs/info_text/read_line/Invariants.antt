@@ -1,5 +1,4 @@
 use Rattle.std.proofs.Common.{◌≡◌, ◌∷◌, ◌++◌}
-use Rattle.std.specs.Arc.{arc_slice_items}
 use Rattle.std.specs.List.{All}
 use Rattle.std.specs.Option.{option_copied}
 use Rattle.nd_bytes.specs.Cut.{pieces, left_over}
@@ -9,7 +8,7 @@ use Rattle.nd_closure.proofs.info_text.read_line.Given as goal
 
 abbrev pub invariant-loop-left : goal.invariant-loop-left
 invariant-loop-left l = record {
-  words : words_of l.line ≡ arc_slice_items l.path-inside.bytes ∷ (l.refs.items ++ pieces 32 (option_copied l.left));
+  words : words_of l.line ≡ l.path-inside.text.value ∷ (l.refs.items ++ pieces 32 (option_copied l.left));
   paths : All IsPath l.refs.items;
 }
 

@@ -1,6 +1,5 @@
 use Rattle.std.proofs.Common.{◌≡◌, rules}
 use Rattle.nd_path.specs.StorePath.{name_of}
-use Rattle.std.specs.Arc.{arc_slice_items}
 use Rattle.nd_path.specs.Refusals.{IsPath}
 use Rattle.nd_path.proofs.Spelling.{named, name_behind}
 use Rattle.nd_path.proofs.store_path.StorePath.name.Goals as goal
@@ -12,4 +11,4 @@ returns-clause-part c =
     name_behind c.args.self.now c.split_at.result.1.now path is
 
 pub returns-clause-named : goal.returns-clause-named
-returns-clause-named c = rw (c.split_at.ensures.back, c.as_slice.ensures.value) (named (arc_slice_items c.self.inside.bytes) c.self.invariant)
+returns-clause-named c = rw (c.split_at.ensures.back, c.as_slice.ensures, c.deref.ensures) (named c.self.inside.text.value c.self.invariant)
