@@ -4,30 +4,41 @@ ghost use Rattle.nd_graph.specs.Graphs.{nodes_of, rows_of};
 ghost use Rattle.nd_graph.specs.Walks.{inputs_of, AreInRange};
 ghost use Rattle.nd_failure.specs.Reversed.{AreDependants, AreReversed, AddsDependant};
 
-use nd_flags::Lists;
+use nd_flags::{Lists, Rows};
 use nd_graph::{Graph, Input};
 use std::alloc::{AllocError, Global};
 use std::marker::Model;
 
-/// The nodes that inputs name.
-fn node_list(alloc: Global, inputs: &[Input]) -> Result<Vec<usize>, AllocError>
-    ensures { IfOk result (λ nodes. nodes.items ≡ nodes_of inputs.now) }
+/// How many inputs the nodes have in all.
+fn count_inputs(graph: &Graph) -> usize {
+    let mut count = 0usize;
+    for node in 0..graph.len() {
+        count = count.saturating_add(graph.inputs(node).len());
+    }
+    count
+}
+
+/// Puts the nodes that inputs name in the place of those that are there.
+fn list_nodes(nodes: &mut Vec<usize>, inputs: &[Input]) -> Result<(), AllocError>
+    ensures { OnOk result (nodes.new.items ≡ nodes_of inputs.now) }
 {
-    let mut nodes = Vec::with_capacity(alloc, inputs.len())?;
+    nodes.clear();
     for input in inputs {
         nodes.push(input.node)?;
     }
-    Ok(nodes)
+    Ok(())
 }
 
 /// The inputs of each node of a graph.
-pub(crate) fn input_lists(alloc: Global, graph: &Graph) -> Result<Lists, AllocError>
+pub(crate) fn input_rows(alloc: Global, graph: &Graph) -> Result<Rows, AllocError>
     ensures rows { IfOk result (λ rows. rows ≡ rows_of graph.now) }
     ensures ranged { OnOk result (AreInRange (rows_of graph.now)) }
 {
-    let mut rows = Lists::with_capacity(alloc, graph.len())?;
+    let mut rows = Rows::with_capacity(alloc, graph.len(), count_inputs(graph))?;
+    let mut nodes = Vec::new(alloc);
     for node in 0..graph.len() {
-        rows.add(node_list(alloc, graph.inputs(node))?)?;
+        list_nodes(&mut nodes, graph.inputs(node))?;
+        rows.add(nodes.as_slice())?;
     }
     Ok(rows)
 }
@@ -44,13 +55,13 @@ fn add_dependant(back: &mut Lists, node: usize, inputs: &[usize]) -> Result<(), 
 }
 
 /// For each node the nodes that have it in their lists.
-fn reversed(alloc: Global, rows: &Lists) -> Result<Lists, AllocError>
+fn reversed(alloc: Global, rows: &Rows) -> Result<Lists, AllocError>
     requires { AreInRange rows.now }
     ensures { IfOk result (λ back. AreReversed rows.now back) }
 {
     let mut back = Lists::empty(alloc, rows.len())?;
     for node in 0..rows.len() {
-        add_dependant(&mut back, node, rows.list(node))?;
+        add_dependant(&mut back, node, rows.row(node))?;
     }
     Ok(back)
 }
@@ -58,7 +69,7 @@ fn reversed(alloc: Global, rows: &Lists) -> Result<Lists, AllocError>
 /// The edges of a graph, seen by contracts as the inputs of each node.
 #[derive(Drop, Debug, Clone)]
 pub struct Edges {
-    inputs: Lists,
+    inputs: Rows,
     dependants: Lists,
 }
 
@@ -80,11 +91,11 @@ impl Edges {
     pub(crate) fn new(alloc: Global, graph: &Graph) -> Result<Edges, AllocError>
         ensures { IfOk result (λ edges. edges ≡ rows_of graph.now) }
     {
-        Edges::of_inputs(alloc, input_lists(alloc, graph)?)
+        Edges::of_inputs(alloc, input_rows(alloc, graph)?)
     }
 
     /// The edges with these inputs.
-    fn of_inputs(alloc: Global, inputs: Lists) -> Result<Edges, AllocError>
+    fn of_inputs(alloc: Global, inputs: Rows) -> Result<Edges, AllocError>
         requires { AreInRange inputs }
         ensures { IfOk result (λ edges. edges ≡ inputs) }
     {
@@ -111,7 +122,7 @@ impl Edges {
         requires { node < length self.now }
         ensures { result.now ≡ inputs_of self.now node }
     {
-        self.inputs.list(node)
+        self.inputs.row(node)
     }
 
     /// The nodes that have a node among their inputs, each as often as it has it there.

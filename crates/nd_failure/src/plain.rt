@@ -7,9 +7,9 @@ ghost use Rattle.nd_failure.specs.Statuses.{HasStatus, CanFail, AreCounts, IsNex
 ghost use Rattle.nd_failure.specs.Plain.{HasFailedInput, AreBuilt, AreSound};
 ghost use Rattle.nd_failure.specs.Kept.{AreDoomed};
 
-use crate::edges::input_lists;
+use crate::edges::input_rows;
 use crate::status::{Counts, Mark, Status};
-use nd_flags::{Lists, NodeSet};
+use nd_flags::{NodeSet, Rows};
 use nd_graph::Graph;
 use std::alloc::{AllocError, Global};
 use std::marker::Model;
@@ -42,14 +42,14 @@ fn are_built(inputs: &[usize], marks: &[Mark]) -> bool
 }
 
 /// Puts all nodes that have a failed one below into the set: one walk up from the inputs.
-fn find_doomed(inputs: &Lists, order: &[usize], marks: &[Mark], doomed: &mut NodeSet)
+fn find_doomed(inputs: &Rows, order: &[usize], marks: &[Mark], doomed: &mut NodeSet)
     requires order { IsOrder inputs.now order.now }
     requires marked { length marks.now ≡ length inputs.now }
     requires sound { AreSound inputs.now marks.now doomed.old }
     ensures { AreDoomed inputs.now marks.now doomed.new }
 {
     for node in order {
-        if has_failed_input(inputs.list(*node), marks, doomed) {
+        if has_failed_input(inputs.row(*node), marks, doomed) {
             doomed.insert(*node);
         }
     }
@@ -61,7 +61,7 @@ fn find_doomed(inputs: &Lists, order: &[usize], marks: &[Mark], doomed: &mut Nod
 /// nodes. Only `new` and `try_clone` take memory.
 #[derive(Drop, Debug)]
 pub struct PlainBoard {
-    inputs: Lists,
+    inputs: Rows,
     /// The nodes, each after its inputs.
     order: Vec<usize>,
     keep_going: bool,
@@ -88,7 +88,7 @@ impl PlainBoard {
         ensures { IfOk result (λ board. board ≡ untouched (rows_of graph.now) keep_going) }
     {
         Ok(PlainBoard {
-            inputs: input_lists(alloc, graph)?,
+            inputs: input_rows(alloc, graph)?,
             order: Vec::from_slice(alloc, graph.order())?,
             keep_going,
             stop: false,
@@ -208,7 +208,7 @@ impl PlainBoard {
         ensures { MatchBool result (IsReady self.now i) (IsReady self.now i → ⊥) }
     {
         match self.status(i) {
-            Status::Waiting => are_built(self.inputs.list(i), self.marks.as_slice()),
+            Status::Waiting => are_built(self.inputs.row(i), self.marks.as_slice()),
             _ => false,
         }
     }

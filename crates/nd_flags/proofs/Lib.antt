@@ -1,2 +1,3 @@
+pub mod EndFacts
 pub mod RowFacts
 pub mod WordFacts

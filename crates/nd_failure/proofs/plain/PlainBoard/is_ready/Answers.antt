@@ -7,11 +7,11 @@ use Rattle.nd_failure.proofs.plain.PlainBoard.is_ready.Goals as goal
 
 pub are_built-requires : goal.are_built-requires
 are_built-requires c =
-    order_inputs_within c.self.inside.inputs c.self.inside.order.items c.args.i c.list.result.now (length c.as_slice.result.now)
-    c.self.invariant.ordered c.list.ensures (ap (λ (xs : List Mark). length xs) c.as_slice.ensures.value ∙ c.self.invariant.marked)
+    order_inputs_within c.self.inside.inputs c.self.inside.order.items c.args.i c.row.result.now (length c.as_slice.result.now)
+    c.self.invariant.ordered c.row.ensures (ap (λ (xs : List Mark). length xs) c.as_slice.ensures.value ∙ c.self.invariant.marked)
 
 pub returns-in-Waiting : goal.returns-in-Waiting
 returns-in-Waiting c =
-    ready_told c.args.self.now c.args.i c.list.result.now c.as_slice.result.now c.are_built.result c.requires c.in-Waiting.ensures
-    (c.list.ensures ∙ ap (λ (p : Progress). inputs_of p.inputs c.args.i) c.self.view_is)
+    ready_told c.args.self.now c.args.i c.row.result.now c.as_slice.result.now c.are_built.result c.requires c.in-Waiting.ensures
+    (c.row.ensures ∙ ap (λ (p : Progress). inputs_of p.inputs c.args.i) c.self.view_is)
     (c.as_slice.ensures.value ∙ ap (λ (p : Progress). p.marks) c.self.view_is) c.are_built.ensures

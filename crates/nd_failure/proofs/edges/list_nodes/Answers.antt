@@ -2,7 +2,7 @@ use Rattle.std.proofs.Common.{ℕ, List, [], ◌∷◌, ◌++◌, take, ap, sym,
 use Rattle.std.proofs.lemmas.List.{take_more, get_or-map, length-map}
 use Rattle.nd_graph.specs.Graphs.{nodes_of}
 use Rattle.nd_graph.specs.declared.graph.Input.{Input}
-use Rattle.nd_failure.proofs.edges.node_list.Goals as goal
+use Rattle.nd_failure.proofs.edges.list_nodes.Goals as goal
 
 pub loop-input-preserved : goal.loop-input-preserved
 loop-input-preserved c =
