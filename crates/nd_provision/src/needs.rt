@@ -10,7 +10,7 @@ ghost use Rattle.nd_provision.specs.Seeds.{GoesOn, paths_at};
 ghost use Rattle.nd_provision.specs.Stored.{AreNeededIn, AreSeedsIn, IsSeedRow};
 
 use crate::copying::add_copies;
-use nd_bytes::Items;
+use nd_flags::Rows;
 use nd_graph::{Graph, Input};
 use nd_path::StorePath;
 use nd_path_numbers::PathNumbers;
@@ -67,41 +67,44 @@ pub(crate) fn seeds_by_number(
     alloc: Global,
     numbers: &mut PathNumbers,
     graph: &Graph,
-) -> Result<Vec<Items<usize>>, AllocError>
-    ensures seeds { IfOk result (λ v. AreSeedsIn graph.now numbers.new.paths v.items) }
-    ensures all { IfOk result (λ v. length v.items ≡ length graph.now.paths) }
+) -> Result<Rows, AllocError>
+    ensures seeds { IfOk result (λ v. AreSeedsIn graph.now numbers.new.paths v) }
+    ensures all { IfOk result (λ v. length v ≡ length graph.now.paths) }
     ensures grown { HasGrown numbers.old numbers.new }
 {
     let mut last = vec![in alloc; None; graph.len()]?;
-    let mut rows = Vec::with_capacity(alloc, graph.len())?;
+    let mut rows = Rows::with_capacity(alloc, graph.len(), count_seeds(graph))?;
+    let mut row = Vec::new(alloc);
     for drv in 0..graph.len() {
-        let row = seed_row(alloc, numbers, &mut last, graph, drv)?;
-        rows.push(row)?;
+        seed_row(alloc, numbers, &mut last, &mut row, graph, drv)?;
+        rows.add(row.as_slice())?;
     }
     Ok(rows)
 }
 
-/// The numbers of what derivation `drv` needs at once. `last` has what is kept of each derivation.
+/// Puts the numbers of what derivation `drv` needs at once in the place of those that are in the row. `last` has
+/// what is kept of each derivation.
 fn seed_row(
     alloc: Global,
     numbers: &mut PathNumbers,
     last: &mut Vec<Option<LastNumber>>,
+    row: &mut Vec<usize>,
     graph: &Graph,
     drv: usize,
-) -> Result<Items<usize>, AllocError>
+) -> Result<(), AllocError>
     requires drv { drv < length graph.now.paths }
     requires sized { length last.old.items ≡ length graph.now.paths }
     requires remembered { AreRemembered graph.now.outputs numbers.old.paths last.old.items }
-    ensures row { IfOk result (IsSeedRow graph.now numbers.new.paths drv) }
+    ensures row { OnOk result (IsSeedRow graph.now numbers.new.paths drv row.new.items) }
     ensures grown { HasGrown numbers.old numbers.new }
     ensures sized { OnOk result (length last.new.items ≡ length graph.now.paths) }
     ensures remembered { OnOk result (AreRemembered graph.now.outputs numbers.new.paths last.new.items) }
 {
     learn_graph(graph);
+    row.clear();
     let sources = graph.sources(drv);
+    add_numbers(alloc, numbers, row, sources)?;
     let inputs = graph.inputs(drv);
-    let mut row = Vec::with_capacity(alloc, count_needed(sources, inputs))?;
-    add_numbers(alloc, numbers, &mut row, sources)?;
     for input in inputs {
         let outputs = graph.outputs(input.node);
         let mut kept = last[input.node];
@@ -109,13 +112,22 @@ fn seed_row(
             alloc,
             numbers,
             &mut kept,
-            &mut row,
+            row,
             outputs,
             input.outputs.as_slice(),
         )?;
         last[input.node] = kept;
     }
-    Ok(Items::new(row))
+    Ok(())
+}
+
+/// How many paths all derivations need at once.
+fn count_seeds(graph: &Graph) -> usize {
+    let mut count = 0usize;
+    for drv in 0..graph.len() {
+        count = count.saturating_add(count_needed(graph.sources(drv), graph.inputs(drv)));
+    }
+    count
 }
 
 /// How many paths these sources and the outputs that inputs name are.

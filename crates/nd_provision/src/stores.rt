@@ -12,12 +12,12 @@ use crate::copying::{Additions, Listing, PathsError, enter_all, put_all, set_wit
 use crate::near::are_near;
 use crate::needs::{all_sources, count_outputs, needed_by, seeds_by_number};
 use crate::numbering::{number_build, number_given, numbers_at_hand};
-use nd_bytes::Items;
 use nd_closure::{RefTable, Refs, reach};
+use nd_flags::Rows;
 use nd_graph::Graph;
 use nd_history::Inputs;
 use nd_path::{PathSet, StorePath};
-use nd_path_numbers::{Holdings, PathNumbers, copy_rows, match_unheld, reach_unheld};
+use nd_path_numbers::{Holdings, PathNumbers, match_unheld, reach_unheld};
 use std::alloc::{AllocError, Global};
 use std::marker::Model;
 
@@ -36,7 +36,7 @@ use std::marker::Model;
 pub struct Stores {
     table: RefTable,
     numbers: PathNumbers,
-    seeds: Vec<Items<usize>>,
+    seeds: Rows,
     holdings: Holdings,
     whole: bool,
 }
@@ -97,7 +97,7 @@ impl Stores {
         Ok(Stores {
             table: self.table.try_clone()?,
             numbers: self.numbers.try_clone(alloc)?,
-            seeds: copy_rows(alloc, self.seeds.as_slice())?,
+            seeds: self.seeds.try_clone()?,
             holdings: self.holdings.try_clone()?,
             whole: self.whole,
         })
@@ -141,10 +141,7 @@ impl Stores {
     fn seeds(&self, drv: usize) -> &[usize]
         ensures { result.now ≡ row_in self.now.seeds drv }
     {
-        match self.seeds.get(drv) {
-            Some(row) => row.as_slice(),
-            None => &[],
-        }
+        self.seeds.row(drv)
     }
 
     /// The same by a walk over the whole closure.

@@ -1,10 +1,9 @@
-use Rattle.std.proofs.Common.{◌≡◌, ◌<◌, ◌≤◌, List, ℕ, length, get_or, sym, subst, ◌∙◌, arith}
+use Rattle.std.proofs.Common.{◌≡◌, ◌<◌, ◌≤◌, List, length, get_or, subst, ◌∙◌, arith}
 use Rattle.std.specs.List.{Contains}
 use Rattle.std.proofs.lemmas.List.{length-set}
 use Rattle.nd_graph.specs.declared.graph.Input.{Input}
 use Rattle.nd_history.specs.References.{inputs_at}
 use Rattle.nd_path_numbers.proofs.Growing.{grown_through}
-use Rattle.nd_provision.specs.Stored.{IsSeedRow}
 use Rattle.nd_provision.proofs.Gains.{read_there}
 use Rattle.nd_provision.proofs.Joined.{with_graph, node_there, places_there}
 use Rattle.nd_provision.proofs.Remembering.{remembered_stay, remembered_of, remembered_more, node_within}
@@ -14,7 +13,7 @@ use Rattle.nd_provision.proofs.needs.seed_row.Goals as goal
 pub loop-input-init : goal.loop-input-init
 loop-input-init c = record {
   grown = c.in_ok-add_numbers.ensures.grown;
-  row = first_seeds c.args.graph.now c.args.drv c.sources-sources.result.now c.args.numbers.now.paths c.add_numbers.new.numbers.paths c.in_ok-row.row.items c.add_numbers.new.row.items c.sources-sources.ensures c.in_ok-row.ensures.items c.in_ok-add_numbers.ensures.row;
+  row = first_seeds c.args.graph.now c.args.drv c.sources-sources.result.now c.args.numbers.now.paths c.add_numbers.new.numbers.paths c.clear.new.self.items c.add_numbers.new.row.items c.sources-sources.ensures c.clear.ensures.items c.in_ok-add_numbers.ensures.row;
   sized = c.requires.sized;
   remembered = remembered_stay c.args.graph.now.outputs c.args.numbers.now c.add_numbers.new.numbers c.args.last.now.items c.in_ok-add_numbers.ensures.grown c.requires.remembered;
 }
@@ -75,5 +74,4 @@ pub returns-clause-row : goal.returns-clause-row
 returns-clause-row c =
     let graph = c.args.graph.now in
     let past : length (inputs_at (with_graph graph) c.args.drv) ≤ c.loop-input.input-index = subst (λ (xs : List Input). length xs ≤ c.loop-input.input-index) c.inputs-inputs.ensures.inputs c.loop-input-test.false in
-    subst (λ (row : List ℕ). IsSeedRow graph c.loop-input.numbers.paths c.args.drv row) (sym c.new.ensures)
-    (seed_row_is graph c.args.drv c.loop-input.input-index c.loop-input.numbers.paths c.loop-input.row.items c.learn_graph.ensures past c.loop-input.invariant.row)
+    seed_row_is graph c.args.drv c.loop-input.input-index c.loop-input.numbers.paths c.loop-input.row.items c.learn_graph.ensures past c.loop-input.invariant.row

@@ -7,8 +7,8 @@ use Rattle.nd_provision.proofs.needs.seeds_by_number.Given as goal
 abbrev pub invariant-loop-drv : goal.invariant-loop-drv
 invariant-loop-drv l = record {
   grown : HasGrown l.fn.numbers l.numbers;
-  size : length l.rows.items ≡ l.drv;
-  seeds : AreSeedsIn l.graph l.numbers.paths l.rows.items;
+  size : length l.rows ≡ l.drv;
+  seeds : AreSeedsIn l.graph l.numbers.paths l.rows;
   sized : length l.last.items ≡ length l.graph.paths;
   remembered : AreRemembered l.graph.outputs l.numbers.paths l.last.items;
 }

@@ -22,7 +22,7 @@ returns c =
     let after : Numbered = c.enter_all.new.numbers in
     let listings : List Listing = c.in_ok-entries.field-0.entries.items in
     let own : List ℕ = c.in_ok-entries.field-0.own.items in
-    let rows : List (List ℕ) = c.in_ok-seeds.seeds.items in
+    let rows : List (List ℕ) = c.in_ok-seeds.seeds in
     let s : Stored = record { entries = c.enter_all.new.table.entries; spare = c.enter_all.new.table.spare; numbers = after; seeds = rows; stocks = c.put_all.new.holdings; whole = true } in
     let numbered : IsNumberedGiven c.args.info.now.entries before.paths c.as_slice-2.result.now c.in_ok-entries.field-0 = c.in_ok-entries.ensures.given in
     let listed : AreGivenEntries c.args.info.now.entries given (map entry_of listings) =

@@ -21,7 +21,7 @@ returns-clause-fits c =
       entries = c.self.inside.table.entries;
       spare = c.self.inside.table.spare;
       numbers = c.number_build.new.numbers;
-      seeds = c.self.inside.seeds.items;
+      seeds = c.self.inside.seeds;
       stocks = c.self.inside.holdings;
       whole = c.self.inside.whole;
     } in
