@@ -1,6 +1,7 @@
 //! What a derivation needs of the machine that builds it.
 
-ghost use Rattle.std.specs.Prelude.{◌≡◌, option_map, IfOk, IfErr};
+ghost use Rattle.std.specs.Prelude.{◌≡◌, [], option_map, unwrap_or, IfOk, IfErr};
+ghost use Rattle.nd_eligible.specs.Attributes.{word_set};
 ghost use Rattle.nd_line.specs.Attributes.{variable, is_one, structured, AreVariables, Asks, Needs, AsksNothing};
 ghost use Rattle.nd_line.specs.Refused.{Attribute};
 
@@ -9,6 +10,7 @@ use crate::structured::{Wishes, read_structured};
 use nd_aterm::{EnvEntryView, Selection};
 use nd_bytes::ByteString;
 use nd_eligible::{Need, words};
+use nd_machines::FeatureSet;
 use std::alloc::{AllocError, Global};
 
 /// The variables that say what a derivation needs, which are all that is kept of its environment.
@@ -63,10 +65,7 @@ fn wishes_of(alloc: Global, env: &[EnvEntryView<'_>]) -> Result<Wishes, LineErro
 fn variables_of(alloc: Global, env: &[EnvEntryView<'_>]) -> Result<Wishes, AllocError>
     ensures { IfOk result (λ wishes. AreVariables env.now wishes) }
 {
-    let features = match value_of(env, b"requiredSystemFeatures") {
-        Some(list) => words(alloc, list)?,
-        None => words(alloc, b"")?,
-    };
+    let features = features_in(alloc, value_of(env, b"requiredSystemFeatures"))?;
     let prefer_local = match value_of(env, b"preferLocalBuild") {
         Some(value) => value == b"1".as_slice(),
         None => false,
@@ -75,6 +74,16 @@ fn variables_of(alloc: Global, env: &[EnvEntryView<'_>]) -> Result<Wishes, Alloc
         features,
         prefer_local,
     })
+}
+
+/// The words of a list of features; none where there is no list, which takes no memory.
+fn features_in(alloc: Global, list: Option<&[u8]>) -> Result<FeatureSet, AllocError>
+    ensures { IfOk result (λ set. set ≡ word_set (unwrap_or (option_map (λ text. text.now) list.entry) [])) }
+{
+    match list {
+        Some(text) => words(alloc, text),
+        None => Ok(FeatureSet::new(Vec::new(alloc))),
+    }
 }
 
 /// The value of the variable with this name, or `None` where there is none.
