@@ -41,11 +41,20 @@ pub(crate) fn read_lines(alloc: Global, text: &[u8], check: bool) -> Result<Colu
     }
 }
 
+/// Has the heap of this thread grow by so many bytes at once, which it would do a page at a time, as the paths and
+/// lists of a piece come: each page would be a call of the system under the lock of the whole program's memory.
+/// Nothing is kept, and nothing is lost where it is refused.
+fn grow_heap(alloc: Global, size: usize) {
+    let room: Result<Vec<u8>, AllocError> = Vec::with_capacity(alloc, size);
+    drop(room);
+}
+
 /// What the lines of a piece of a text say, up to the first that is refused.
 #[tactic(auto, using(crate::proofs::Taken::says_none, crate::proofs::Pieced::said_all))]
 pub(crate) fn read_piece(alloc: Global, text: &[u8], check: bool) -> Result<Piece, AllocError>
     ensures { IfOk result (λ piece. IsReadTo check (lines text.now) piece.columns piece.refused) }
 {
+    grow_heap(alloc, text.len().saturating_add(text.len() / 4));
     let lines = cut_lines(alloc, text)?;
     let mut columns = Columns::with_capacity(alloc, lines.len())?;
     let mut pool = Pool::new(alloc);

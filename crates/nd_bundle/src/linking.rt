@@ -39,9 +39,9 @@ pub(crate) fn link(
     gather(alloc, rows)
 }
 
-/// The number of inputs from which on they are linked by many threads. Fewer are linked in less than a tenth
-/// of a second, and the lists that threads put together leave holes in the heap.
-const MANY: usize = 131_072;
+/// The number of inputs from which on they are linked by many threads. Fewer are linked in some milliseconds, and the
+/// lists that threads put together leave holes in the heap.
+const MANY: usize = 16_384;
 
 /// The same; many inputs are linked by as many threads as there are processors.
 pub(crate) fn link_side_by_side(
