@@ -21,8 +21,9 @@ use std::thread::Threads;
 /// For how many bytes of a bundle there is room at first, since most are short.
 const FIRST: usize = 262_144;
 
-/// How many bytes of a bundle are read at once at most: lines enough for many threads.
-const BLOCK: usize = 4_194_304;
+/// How many bytes of a bundle are read at once at most: lines enough for many threads, which start and end once for
+/// each block.
+const BLOCK: usize = 8_388_608;
 
 /// The graph of the bundle on the input, which is read to its end, or to one byte past [`LIMIT`].
 ///
@@ -106,7 +107,7 @@ fn new_room(alloc: Global, size: usize) -> Result<Vec<u8>, AllocError>
     vec![in alloc; 0; size]
 }
 
-/// Twice as much room, but no more than for a block. What stood in it is gone.
+/// Eight times as much room, but no more than for a block. What stood in it is gone.
 fn larger(alloc: Global, room: Vec<u8>) -> Result<Vec<u8>, AllocError>
     requires { 0 < length room.items }
     ensures { IfOk result (λ r. 0 < length r.items) }
@@ -116,7 +117,7 @@ fn larger(alloc: Global, room: Vec<u8>) -> Result<Vec<u8>, AllocError>
         return Ok(room);
     }
     drop(room);
-    new_room(alloc, 2 * size)
+    new_room(alloc, size.saturating_mul(8).min(BLOCK))
 }
 
 /// Feeds the reader as many bytes of the input as there is room for, or fewer where it ends before, and answers how

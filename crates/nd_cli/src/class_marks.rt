@@ -13,34 +13,40 @@ const AHEAD: usize = 32;
 #[derive(Drop)]
 pub(crate) struct ClassMarks {
     marks: [u64; AHEAD],
+    /// The number of the first of these needs.
+    from: usize,
 }
 
 impl ClassMarks {
-    /// No marks.
+    /// Marks of no need: no list has so many.
     pub(crate) fn new() -> ClassMarks {
-        ClassMarks { marks: [0; AHEAD] }
+        ClassMarks {
+            marks: [0; AHEAD],
+            from: usize::MAX,
+        }
     }
 
-    /// A number that needs of one class have in common, and others seldom: that of the need with this number,
-    /// where those of the needs before it were asked for, in order. Whoever picks the needs can pick many with
-    /// one mark, so it decides nothing.
+    /// A number that needs of one class have in common, and others seldom: that of the need with this number.
+    /// Where needs are asked for in order, some perhaps left out, each is looked at once at most. Whoever picks the
+    /// needs can pick many with one mark, so it decides nothing.
     pub(crate) fn mark(&mut self, needs: &[Need], number: usize) -> u64
         requires { number < length needs.now }
     {
-        let place = number % AHEAD;
-        if place == 0 {
-            self.make(needs, number);
+        match number.checked_sub(self.from) {
+            Some(place) if place < AHEAD => self.marks[place],
+            _ => self.make(needs, number),
         }
-        self.marks[place]
     }
 
-    /// Makes the marks of the needs from this number on.
-    fn make(&mut self, needs: &[Need], from: usize)
+    /// Makes the marks of the needs from this number on, and answers that of the first.
+    fn make(&mut self, needs: &[Need], from: usize) -> u64
         requires { from < length needs.now }
     {
         for (mark, need) in self.marks.iter_mut().zip(&needs[from..]) {
             *mark = mark_of(need);
         }
+        self.from = from;
+        self.marks[0]
     }
 }
 

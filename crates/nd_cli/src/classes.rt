@@ -15,9 +15,16 @@ use std::collections::BTreeMap;
 /// whether the local machine may build it and has a free slot too changes nothing.
 type Class<'a> = (&'a ByteString, &'a FeatureSet);
 
+/// How many classes are compared with before a mark is made: most graphs have no more.
+const RECENT: usize = 8;
+
 /// Derivations by their classes: for each class that was met the first derivation of it.
 #[derive(Drop)]
 pub(crate) struct Firsts<'a> {
+    /// The first derivations of the classes that were looked for by their marks last.
+    recent: [usize; RECENT],
+    /// How many of these were noted.
+    noted: usize,
     marks: ClassMarks,
     /// By marks of classes, the first derivation with each mark.
     marked: BTreeMap<u64, usize>,
@@ -29,6 +36,8 @@ impl<'a> Firsts<'a> {
     /// No derivation.
     pub(crate) fn new(alloc: Global) -> Firsts<'a> {
         Firsts {
+            recent: [usize::MAX; RECENT],
+            noted: 0,
             marks: ClassMarks::new(),
             marked: BTreeMap::new(alloc),
             others: BTreeMap::new(alloc),
@@ -47,19 +56,51 @@ impl<'a> Firsts<'a> {
         requires { drv < length needs.now }
         ensures { IfOk result (λ found. IfSome found (SharesClass needs.now drv)) }
     {
+        match self.find_recent(needs, drv) {
+            Some(first) => Ok(Some(first)),
+            None => self.meet_marked(needs, drv),
+        }
+    }
+
+    /// The first derivation of the class of derivation `drv`, if it is one of those that were noted last.
+    fn find_recent(&self, needs: &[Need], drv: usize) -> Option<usize>
+        requires { drv < length needs.now }
+        ensures { IfSome result (SharesClass needs.now drv) }
+    {
+        for first in &self.recent {
+            if shares_class(needs, drv, *first) {
+                return Some(*first);
+            }
+        }
+        None
+    }
+
+    /// Notes the first derivation of a class, in the place of the one that was noted longest ago.
+    fn note(&mut self, first: usize) {
+        self.recent[self.noted % RECENT] = first;
+        self.noted = self.noted.wrapping_add(1);
+    }
+
+    /// As `meet`, where the class isn't one of those that were noted last.
+    fn meet_marked(&mut self, needs: &'a [Need], drv: usize) -> Result<Option<usize>, AllocError>
+        requires { drv < length needs.now }
+        ensures { IfOk result (λ found. IfSome found (SharesClass needs.now drv)) }
+    {
         let mark = self.marks.mark(needs, drv);
         let Some(first) = self.marked.get(&mark) else {
             self.marked.insert(mark, drv)?;
+            self.note(drv);
             return Ok(None);
         };
         let marked = *first;
         if shares_class(needs, drv, marked) {
+            self.note(marked);
             return Ok(Some(marked));
         }
         self.meet_other(needs, drv)
     }
 
-    /// As `meet`, where another class has the mark of this one.
+    /// As `meet_marked`, where another class has the mark of this one.
     fn meet_other(&mut self, needs: &'a [Need], drv: usize) -> Result<Option<usize>, AllocError>
         requires { drv < length needs.now }
         ensures { IfOk result (λ found. IfSome found (SharesClass needs.now drv)) }
