@@ -15,16 +15,12 @@ use std::collections::BTreeMap;
 /// whether the local machine may build it and has a free slot too changes nothing.
 type Class<'a> = (&'a ByteString, &'a FeatureSet);
 
-/// How many classes are compared with before a mark is made: most graphs have no more.
-const RECENT: usize = 8;
-
 /// Derivations by their classes: for each class that was met the first derivation of it.
 #[derive(Drop)]
 pub(crate) struct Firsts<'a> {
-    /// The first derivations of the classes that were looked for by their marks last.
-    recent: [usize; RECENT],
-    /// How many of these were noted.
-    noted: usize,
+    /// The first derivation of the class that was met last. Most derivations are of the class of the one before,
+    /// and no mark is made for these.
+    latest: Option<usize>,
     marks: ClassMarks,
     /// By marks of classes, the first derivation with each mark.
     marked: BTreeMap<u64, usize>,
@@ -36,8 +32,7 @@ impl<'a> Firsts<'a> {
     /// No derivation.
     pub(crate) fn new(alloc: Global) -> Firsts<'a> {
         Firsts {
-            recent: [usize::MAX; RECENT],
-            noted: 0,
+            latest: None,
             marks: ClassMarks::new(),
             marked: BTreeMap::new(alloc),
             others: BTreeMap::new(alloc),
@@ -56,32 +51,15 @@ impl<'a> Firsts<'a> {
         requires { drv < length needs.now }
         ensures { IfOk result (λ found. IfSome found (SharesClass needs.now drv)) }
     {
-        match self.find_recent(needs, drv) {
-            Some(first) => Ok(Some(first)),
-            None => self.meet_marked(needs, drv),
-        }
-    }
-
-    /// The first derivation of the class of derivation `drv`, if it is one of those that were noted last.
-    fn find_recent(&self, needs: &[Need], drv: usize) -> Option<usize>
-        requires { drv < length needs.now }
-        ensures { IfSome result (SharesClass needs.now drv) }
-    {
-        for first in &self.recent {
-            if shares_class(needs, drv, *first) {
-                return Some(*first);
+        if let Some(latest) = self.latest {
+            if shares_class(needs, drv, latest) {
+                return Ok(Some(latest));
             }
         }
-        None
+        self.meet_marked(needs, drv)
     }
 
-    /// Notes the first derivation of a class, in the place of the one that was noted longest ago.
-    fn note(&mut self, first: usize) {
-        self.recent[self.noted % RECENT] = first;
-        self.noted = self.noted.wrapping_add(1);
-    }
-
-    /// As `meet`, where the class isn't one of those that were noted last.
+    /// As `meet`, where another class was met last.
     fn meet_marked(&mut self, needs: &'a [Need], drv: usize) -> Result<Option<usize>, AllocError>
         requires { drv < length needs.now }
         ensures { IfOk result (λ found. IfSome found (SharesClass needs.now drv)) }
@@ -89,12 +67,12 @@ impl<'a> Firsts<'a> {
         let mark = self.marks.mark(needs, drv);
         let Some(first) = self.marked.get(&mark) else {
             self.marked.insert(mark, drv)?;
-            self.note(drv);
+            self.latest = Some(drv);
             return Ok(None);
         };
         let marked = *first;
         if shares_class(needs, drv, marked) {
-            self.note(marked);
+            self.latest = Some(marked);
             return Ok(Some(marked));
         }
         self.meet_other(needs, drv)
