@@ -100,7 +100,7 @@ pub(crate) fn read_audit_inputs<R: Read>(
 const LONG: usize = 65_536;
 
 /// The entries of the history text, and a dispatch over the park with the empty history. One thread reads a long text
-/// while this one makes the dispatch.
+/// while this one makes the dispatch. Behind a short one that is refused none is made, and `Memory` stands for it.
 fn open_and_read(
     rt: &(impl Threads + Sync),
     alloc: Global,
@@ -116,8 +116,13 @@ fn open_and_read(
     ensures memory { IfErr result.1 (λ e. e ≡ Memory) }
 {
     if history.len() < LONG {
-        let entries = read_entries(alloc, history);
-        return (entries, dispatch_over(alloc, options, park));
+        return match read_entries(alloc, history) {
+            Ok(entries) => (Ok(entries), dispatch_over(alloc, options, park)),
+            Err(fault) => {
+                drop(park);
+                (Err(fault), Err(CliFault::Memory))
+            }
+        };
     }
     join(
         rt,
