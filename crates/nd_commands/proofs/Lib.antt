@@ -1,4 +1,3 @@
 pub mod Commanded
 pub mod Answering
 pub mod Accepting
-pub mod Both

@@ -4,6 +4,7 @@ use Rattle.std.specs.Prelude.{◌≡◌, ℕ, Bool, List, [], Option, Some, Resu
 use Rattle.nd_machines.specs.Builders.{Builder}
 use Rattle.nd_eligible.specs.Settings.{Settings}
 use Rattle.nd_graph.specs.Graphs.{Nodes}
+use Rattle.nd_devices.specs.Watched.{Watched}
 use Rattle.nd_history.specs.Premises.{Premises, premises}
 use Rattle.nd_ledger.specs.Worlds.{World}
 use Rattle.nd_cli.specs.Inputs.{ReadsWhole}
@@ -48,3 +49,7 @@ pub record ReadsInputs (options : ParkOptions) (unread left : Option (List ℕ))
   pub text : List ℕ
   pub read : ReadsWhole unread left text
   pub has : HasInputs options text i
+
+-- .. of this reader, and they are those of this park
+abbrev pub IsParkGiven : {R : Type 0} → ParkOptions → (R → Option (List ℕ)) → Watched R → Watched R → Park → Type 0
+IsParkGiven options remaining reader reader_after park = ReadsInputs options (remaining reader.device) (remaining reader_after.device) (park_inputs park options.keep_going)

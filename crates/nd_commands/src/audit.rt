@@ -1,6 +1,6 @@
 //! The command `audit`.
 
-ghost use Rattle.std.specs.Prelude.{◌≡◌, ◌||◌, ℕ, [], List, Some, false, length, reverse, is_err, IfOk, IfErr, OnOk, OnErr};
+ghost use Rattle.std.specs.Prelude.{◌≡◌, ◌≤◌, ◌||◌, ℕ, List, Some, false, length, reverse, is_err, IfOk, IfErr, OnOk, OnErr};
 ghost use Rattle.std.specs.Io.KnownBytes.{Appends};
 ghost use Rattle.nd_devices.specs.Written.{WritesPart};
 ghost use Rattle.nd_cli.specs.declared.fault.CliFault.{CliFault};
@@ -8,12 +8,13 @@ ghost use Rattle.nd_cli.specs.Statuses.{RefusesNoInput};
 ghost use Rattle.nd_cli.specs.Inputs.{is_write_fault, is_read_failure, is_write_failure};
 ghost use Rattle.nd_history.specs.Legal.{IsLegal};
 ghost use Rattle.nd_report.specs.Audits.{IsAuditRefused};
+ghost use Rattle.nd_commands.specs.Opened.{park_inputs};
 ghost use Rattle.nd_commands.specs.Audited.{IsAuditAccepted, AnswersAudit, LeavesAudit, IsAuditFault, WritesVerdict, LeavesVerdict, IsVerdictFault, legal_line, illegal_line};
 
 use crate::opening::close_dispatch;
 use crate::reading::read_audit_inputs;
 use crate::verdict::{write_illegal, write_legal};
-use nd_cli::{CliFault, ParkOptions};
+use nd_cli::{CliFault, Park, ParkOptions};
 use nd_devices::{Fault, Told};
 use nd_history::{Entry, Rule};
 use nd_ledger::Dispatch;
@@ -54,42 +55,57 @@ pub fn audit_engine<R: Read, W: Write>(
     ensures partly { IfErr result (LeavesAudit options.now history.now R.remaining input.old input.new W.contents output.old output.new) }
 {
     let given = read_audit_inputs(rt, alloc, options, history, input)?;
-    match write_verdict(alloc, given.dispatch, given.entries, output) {
+    match write_verdict(alloc, given.park, options.keep_going, given.entries, output) {
         Ok(status) => Ok(status),
         Err(fault) => Err(fault),
     }
 }
 
-/// Writes whether these entries are a legal history of the dispatch's inputs, and answers the status.
+/// Writes whether these entries are a legal history, and answers the status.
 fn write_verdict<W: Write>(
     alloc: Global,
-    dispatch: Dispatch,
+    park: Park,
+    keep_going: bool,
     entries: Vec<Entry>,
     output: &mut Told<W>,
 ) -> Result<u8, CliFault>
-    requires empty { dispatch.history ≡ [] }
-    ensures written { IfOk result (λ status. WritesVerdict dispatch.inputs entries.items status W.contents output.old output.new) }
-    ensures partly { IfErr result (LeavesVerdict dispatch.inputs entries.items W.contents output.old output.new) }
+    requires few { length park.machines.items ≤ 1024 }
+    ensures written { IfOk result (λ status. WritesVerdict (park_inputs park keep_going) entries.items status W.contents output.old output.new) }
+    ensures partly { IfErr result (LeavesVerdict (park_inputs park keep_going) entries.items W.contents output.old output.new) }
     ensures fault { IfErr result (IsVerdictFault output.new.is_marked) }
     ensures mark { output.new.is_marked ≡ (output.old.is_marked || is_write_failure result) }
     ensures untouched { IfErr result (λ e. is_write_fault e ≡ false → output.new ≡ output.old) }
 {
     let count = entries.len();
-    match judge(alloc, dispatch, entries) {
+    match judge(alloc, park, keep_going, entries) {
         Ok(()) => say_legal(count, output),
         Err(AuditError::Illegal { index, rule }) => say_illegal(index, rule, output),
         Err(AuditError::Memory) => Err(CliFault::Memory),
     }
 }
 
-/// Whether these entries are a legal history of the dispatch's inputs, as `audit` of `nd_report` says it. The
-/// dispatch that says so is left to the system, since the command ends with it.
-fn judge(alloc: Global, dispatch: Dispatch, entries: Vec<Entry>) -> Result<(), AuditError>
-    requires empty { dispatch.history ≡ [] }
-    ensures legal { OnOk result (IsLegal dispatch.inputs (reverse entries.items)) }
-    ensures refused { IfErr result (IsAuditRefused dispatch.inputs entries.items) }
+/// Whether these entries are a legal history of the park, as `audit` of `nd_report` says it. The dispatch
+/// that says so is left to the system, since the command ends with it.
+fn judge(alloc: Global, park: Park, keep_going: bool, entries: Vec<Entry>) -> Result<(), AuditError>
+    requires few { length park.machines.items ≤ 1024 }
+    ensures legal { OnOk result (IsLegal (park_inputs park keep_going) (reverse entries.items)) }
+    ensures refused { IfErr result (IsAuditRefused (park_inputs park keep_going) entries.items) }
 {
-    let mut dispatch = dispatch;
+    let mut dispatch = match Dispatch::new(
+        alloc,
+        park.graph,
+        park.machines,
+        park.local,
+        park.info,
+        keep_going,
+    ) {
+        Ok(dispatch) => dispatch,
+        Err(parts) => {
+            drop(parts);
+            drop(entries);
+            return Err(AuditError::Memory);
+        }
+    };
     let answer = admit_all(alloc, &mut dispatch, entries);
     close_dispatch(dispatch);
     answer

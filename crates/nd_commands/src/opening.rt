@@ -59,11 +59,7 @@ pub fn take_dispatch<R: Read>(
 }
 
 /// A dispatch over this park, with the empty history. `Memory` alone is refused.
-pub(crate) fn dispatch_over(
-    alloc: Global,
-    options: &ParkOptions,
-    park: Park,
-) -> Result<Dispatch, CliFault>
+fn dispatch_over(alloc: Global, options: &ParkOptions, park: Park) -> Result<Dispatch, CliFault>
     requires few { length park.machines.items ≤ 1024 }
     ensures made { IfOk result (IsMadeOf options.now park) }
     ensures memory { IfErr result (λ e. e ≡ Memory) }

@@ -1,11 +1,9 @@
 //! The worked examples of audits: a history, the verdict, and the exit status.
 
-use crate::tests::running::{Call, Want, answers, audits};
+use crate::tests::running::{Want, audits};
 use nd_test_fixtures::bundles::{CHAIN, FLIGHT, PLAIN_1, PLAIN_3, PREFER_2};
 use nd_test_fixtures::histories::{DRAINS, STOPPED, STORED, VERSION_1, VERSION_2};
 use nd_test_fixtures::places::park;
-use std::alloc::{AllocError, Global};
-use std::thread::Threads;
 
 /// Another builder than the best, another slot than the least free one, and another machine than the preferred.
 #[test]
@@ -90,40 +88,4 @@ fn legal_histories(rt: HostRuntime) {
     assert!(rt; audits(&rt, &park(PLAIN_3, "m;n", 0), &[VERSION_2, DRAINS], drains));
     let none = Want::Written("legal 0\n", 0);
     assert!(rt; audits(&rt, &park(PLAIN_1, "m", 0), &[VERSION_1], none));
-}
-
-/// A history text of more than 64 KiB, which another thread reads: a drain and its end, so often, and a last line.
-fn long_history(alloc: Global, last: &str) -> Result<Vec<u8>, AllocError> {
-    let mut text = Vec::from_slice(alloc, VERSION_2.as_bytes())?;
-    for _ in 0..4_500 {
-        text.extend_from_slice(b"drain 1\nenable 1\n")?;
-    }
-    text.extend_from_slice(last.as_bytes())?;
-    Ok(text)
-}
-
-/// Whether `audit` answers so of it. Want of memory is a no.
-fn audits_long<R: Threads + Sync + AllocGlobal>(rt: &R, last: &str, want: Want<'_>) -> bool {
-    match long_history(rt.alloc(), last) {
-        Ok(text) => {
-            let call = Call::Audit(text.as_slice());
-            answers(rt, rt.alloc(), &park(PLAIN_1, "m", 0), call, want)
-        }
-        Err(_) => false,
-    }
-}
-
-/// A long history that is legal, one whose last entry isn't, and one whose last line is none.
-#[test]
-fn long_histories(rt: HostRuntime) {
-    for (last, want) in [
-        ("", Want::Written("legal 9000\n", 0)),
-        ("drain 2\n", Want::Written("illegal 9000 Range\n", 4)),
-        (
-            "drain\n",
-            Want::Refused("nix-dispatch: history: BadLine 9002"),
-        ),
-    ] {
-        assert!(rt; audits_long(&rt, last, want));
-    }
 }

@@ -1,5 +1,6 @@
 use Rattle.std.proofs.Common.{sym, ◌∙◌}
 use Rattle.std.proofs.result.Match.{err_is}
+use Rattle.nd_commands.specs.Opened.{inputs_of}
 use Rattle.nd_commands.proofs.Answering.{audit_answered, audit_begun, verdict_fault, read_no_write, audit_read_no_write, verdict_ends}
 use Rattle.nd_commands.proofs.audit.audit_engine.Goals as goal
 
@@ -8,9 +9,10 @@ returns-in_err-given-clause-fault g c = rw (err_is c.from_residual.result _ c.fr
 
 pub returns-in-Ok-clause-answer : goal.returns-in-Ok-clause-answer
 returns-in-Ok-clause-answer g c =
+    let park = c.in_ok-given.given.park in
     audit_answered c.args.options.now c.args.history.now c.in-Ok.status g.R.Read.remaining c.args.input.now c.read_audit_inputs.new.input
     g.W.Write.contents c.args.output.now c.write_verdict.new.output
-    c.in_ok-given.given.dispatch.inputs c.in_ok-given.given.entries.items
+    (inputs_of c.args.options.now park.graph park.machines.items park.local park.info.entries) c.in_ok-given.given.entries.items
     c.in_ok-given.ensures.read c.in_ok-given.ensures.entries c.in-Ok.ensures.written
 
 pub returns-in-Err-clause-fault : goal.returns-in-Err-clause-fault
@@ -20,9 +22,10 @@ returns-in-Err-clause-fault g c =
 
 pub returns-in-Err-clause-partly : goal.returns-in-Err-clause-partly
 returns-in-Err-clause-partly g c = λ write_failed.
+    let park = c.in_ok-given.given.park in
     audit_begun c.args.options.now c.args.history.now g.R.Read.remaining c.args.input.now c.read_audit_inputs.new.input
     g.W.Write.contents c.args.output.now c.write_verdict.new.output
-    c.in_ok-given.given.dispatch.inputs c.in_ok-given.given.entries.items
+    (inputs_of c.args.options.now park.graph park.machines.items park.local park.info.entries) c.in_ok-given.given.entries.items
     c.in_ok-given.ensures.read c.in_ok-given.ensures.entries (c.in-Err.ensures.partly write_failed)
 
 pub returns-in_err-given-clause-partly : goal.returns-in_err-given-clause-partly
