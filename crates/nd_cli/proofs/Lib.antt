@@ -5,5 +5,6 @@ pub mod LocalTest
 pub mod Refused
 pub mod Replying
 pub mod SameClass
+pub mod Sharing
 pub mod Slots
 pub mod Whole

@@ -1,5 +1,5 @@
 -- A bundle that is read from its input in blocks. The clauses of `take_park` cite `AnswersKnownPark`; the rest serves private ones.
-use Rattle.std.specs.Prelude.{◌≡◌, ℕ, ◌<◌, ◌≤◌, List, ◌++◌, length, Option, Some, Result, MatchResult}
+use Rattle.std.specs.Prelude.{◌≡◌, ℕ, ◌<◌, ◌≤◌, List, length, Option, Some, Result, MatchResult}
 use Rattle.std.specs.Io.KnownBytes.{Consumes, IsAtEnd}
 use Rattle.nd_machines.specs.Builders.{Builder}
 use Rattle.nd_graph.specs.Graphs.{Nodes}
@@ -15,13 +15,6 @@ pub record ReadsPart (most : ℕ) (old new : Option (List ℕ)) (bytes : List �
   pub read : Consumes old new bytes
   pub bound : length bytes ≤ most
   pub whole : length bytes < most → IsAtEnd new
-
--- .. and these, so many, stand behind the text that was there
-pub record FeedsPart (most : ℕ) (old new : Option (List ℕ)) (before after : List ℕ) (count : ℕ) : Type 0 where
-  pub bytes : List ℕ
-  pub part : ReadsPart most old new bytes
-  pub fed : after ≡ before ++ bytes
-  pub counted : count ≡ length bytes
 
 -- the whole input, as the bundle of this graph
 pub record ReadsGraph (options : ParkOptions) (unread left : Option (List ℕ)) (graph : Nodes) : Type 0 where

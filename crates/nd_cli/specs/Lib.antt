@@ -11,3 +11,4 @@ pub mod Names
 pub mod SlotLines
 pub mod Listed
 pub mod Limits
+pub mod Shares

@@ -45,6 +45,7 @@ pub fn ask_engine<R: Read, W: Write>(
 {
     let park = take_park(rt, alloc, options, input)?;
     let written = write_replies(
+        rt,
         alloc,
         &park.machines,
         &park.local,

@@ -14,12 +14,14 @@ ghost use Rattle.nd_hook.specs.ReplyText.{IsInList, accept_text, line, reply_tex
 
 use crate::classes::Firsts;
 use crate::fault::CliFault;
+use crate::shares::replies_side_by_side;
 use nd_devices::{Fault, Page, Told};
 use nd_eligible::{Local, Need, eligible_places, local_ok};
 use nd_hook::{Reply, reply_in};
 use nd_machines::Machine;
 use std::alloc::{AllocError, Global};
 use std::io::Write;
+use std::thread::Threads;
 
 /// Writes for each need, in order, the reply on an idle park: no slot is taken, and every machine
 /// is up. Then it has the writer pass on what it holds back.
@@ -28,6 +30,7 @@ use std::io::Write;
 /// some of the first needs, the last of them perhaps in part, are out.
 #[tactic(auto, using(crate::proofs::Replying::none_written, crate::proofs::Replying::all_written, crate::proofs::Replying::some_written))]
 pub(crate) fn write_replies<W: Write>(
+    rt: &(impl Threads + Sync),
     alloc: Global,
     machines: &[Machine],
     local: &Local,
@@ -40,7 +43,7 @@ pub(crate) fn write_replies<W: Write>(
     ensures mark { output.new.is_marked ≡ (output.old.is_marked || is_write_failure result) }
     ensures untouched { IfErr result (λ e. is_write_fault e ≡ false → output.new ≡ output.old) }
 {
-    let Ok(replies) = replies_about(alloc, machines, local, needs) else {
+    let Ok(replies) = replies_side_by_side(rt, alloc, machines, local, needs) else {
         return Err(CliFault::Memory);
     };
     let sent = pass_replies(&replies, machines, output);
@@ -145,7 +148,7 @@ fn put_line<W: Write>(text: &[u8], page: &mut Page, out: &mut Told<W>) -> Result
 }
 
 /// The replies about derivations with these needs, in order, where no slot is taken and every machine is up.
-fn replies_about(
+pub(crate) fn replies_about(
     alloc: Global,
     machines: &[Machine],
     local: &Local,

@@ -1,9 +1,9 @@
 //! The graph of a bundle that is read from its input in blocks, so that its text is never in memory whole.
 
-ghost use Rattle.std.specs.Prelude.{◌≡◌, ◌<◌, ◌≤◌, ◌||◌, ℕ, List, [], false, length, take, IfOk, IfErr};
+ghost use Rattle.std.specs.Prelude.{◌≡◌, ◌++◌, ◌<◌, ◌≤◌, ◌||◌, ℕ, List, [], false, length, take, IfOk, IfErr, OnOk};
 ghost use Rattle.nd_graph.specs.Graphs.{Nodes};
 ghost use Rattle.nd_cli.specs.Asked.{IsAskFault};
-ghost use Rattle.nd_cli.specs.Blocks.{AnswersKnownGraph, FeedsPart, ReadsGraph, ReadsPart};
+ghost use Rattle.nd_cli.specs.Blocks.{AnswersKnownGraph, ReadsGraph, ReadsPart};
 ghost use Rattle.nd_cli.specs.Inputs.{IsReadFault, OkUnlessMemory, ReadsWhole, is_read_failure};
 ghost use Rattle.nd_cli.specs.Parks.{HasGraph, IsBundleFault};
 
@@ -16,7 +16,7 @@ use nd_devices::{Fault, Told};
 use nd_graph::Graph;
 use std::alloc::{AllocError, Global};
 use std::io::Read;
-use std::thread::Threads;
+use std::thread::{Threads, join_mut};
 
 /// For how many bytes of a bundle there is room at first, since most are short.
 const FIRST: usize = 262_144;
@@ -89,12 +89,13 @@ fn feed_input<R: Read>(
     let mut count = 0;
     'feeding: while count <= LIMIT {
         let most = room.len().min(LIMIT + 1 - count);
-        let fed = feed_block(rt, &mut room[..most], input, reader)?;
-        count += fed;
-        if fed < most {
+        let filled = fill(&mut room, most, input)?;
+        count += filled;
+        if filled < room.len() {
+            reader.feed(rt, &room[..filled])?;
             return Ok(count);
         }
-        room = larger(alloc, room)?;
+        room = feed_room(rt, alloc, room, reader)?;
     }
     Ok(count)
 }
@@ -107,53 +108,49 @@ fn new_room(alloc: Global, size: usize) -> Result<Vec<u8>, AllocError>
     vec![in alloc; 0; size]
 }
 
-/// Eight times as much room, but no more than for a block. What stood in it is gone.
-fn larger(alloc: Global, room: Vec<u8>) -> Result<Vec<u8>, AllocError>
+/// Feeds the reader the block that fills the room, and answers room for the next one. That is this room where it is
+/// as large as a block may be, and else one eight times as large, which another thread makes meanwhile.
+fn feed_room(
+    rt: &(impl Threads + Sync),
+    alloc: Global,
+    room: Vec<u8>,
+    reader: &mut BundleReader,
+) -> Result<Vec<u8>, AllocError>
     requires { 0 < length room.items }
-    ensures { IfOk result (λ r. 0 < length r.items) }
+    ensures check { reader.new.check ≡ reader.old.check }
+    ensures read { OnOk result (reader.new.text ≡ reader.old.text ++ room.items) }
+    ensures room { IfOk result (λ next. 0 < length next.items) }
 {
-    let size = room.len();
-    if size >= BLOCK {
+    let block = room.as_slice();
+    if block.len() >= BLOCK {
+        reader.feed(rt, block)?;
         return Ok(room);
     }
-    drop(room);
-    new_room(alloc, size.saturating_mul(8).min(BLOCK))
+    let size = block.len().saturating_mul(8).min(BLOCK);
+    let (next, fed) = join_mut(
+        rt,
+        &mut || new_room(alloc, size),
+        &mut || reader.feed(rt, block),
+    );
+    fed?;
+    next
 }
 
-/// Feeds the reader as many bytes of the input as there is room for, or fewer where it ends before, and answers how
-/// many.
-///
-/// `Read`: the device refused a read, and is then marked. `Memory`.
-fn feed_block<R: Read>(
-    rt: &(impl Threads + Sync),
-    room: &mut [u8],
-    input: &mut Told<R>,
-    reader: &mut BundleReader,
-) -> Result<usize, CliFault>
-    ensures check { reader.new.check ≡ reader.old.check }
-    ensures read { IfOk result (FeedsPart (length room.old) (R.remaining input.old.device) (R.remaining input.new.device) reader.old.text reader.new.text) }
-    ensures fault { IfErr result (IsReadFault input.new.is_marked) }
-    ensures mark { input.new.is_marked ≡ (input.old.is_marked || is_read_failure result) }
-{
-    let count = fill(room, input)?;
-    let (block, _) = room.split_at(count);
-    reader.feed(rt, block)?;
-    Ok(count)
-}
-
-/// Reads on in the input, from the front of the room, until it is full or the input ends; and answers how many bytes
-/// these are.
+/// Reads on in the input, from the front of the room, until so many bytes stand there or the input ends; and answers how
+/// many these are.
 ///
 /// `Read`: the device refused a read, and is then marked.
-fn fill<R: Read>(room: &mut [u8], input: &mut Told<R>) -> Result<usize, CliFault>
-    ensures bound { IfOk result (λ count. count ≤ length room.old) }
-    ensures read { IfOk result (λ count. ReadsPart (length room.old) (R.remaining input.old.device) (R.remaining input.new.device) (take count room.new)) }
+fn fill<R: Read>(room: &mut [u8], most: usize, input: &mut Told<R>) -> Result<usize, CliFault>
+    requires { most ≤ length room.old }
+    ensures long { length room.new ≡ length room.old }
+    ensures bound { IfOk result (λ count. count ≤ most) }
+    ensures read { IfOk result (λ count. ReadsPart most (R.remaining input.old.device) (R.remaining input.new.device) (take count room.new)) }
     ensures fault { IfErr result (IsReadFault input.new.is_marked) }
     ensures mark { input.new.is_marked ≡ (input.old.is_marked || is_read_failure result) }
 {
     let mut count = 0;
-    'filling: while count < room.len() {
-        match input.take(&mut room[count..]) {
+    'filling: while count < most {
+        match input.take(&mut room[count..most]) {
             Ok(0) => return Ok(count),
             Ok(taken) => count += taken,
             Err(Fault) => return Err(CliFault::Read),

@@ -13,6 +13,7 @@ mod listing;
 mod options;
 mod park;
 mod path;
+mod shares;
 mod slot_lines;
 
 pub use ask::ask_engine;

@@ -1,0 +1,64 @@
+-- The replies about some derivations, one share behind another.
+use Rattle.std.proofs.Common.{◌≡◌, ℕ, ◌+◌, ◌*◌, ◌/◌, ◌%◌, ◌<◌, ◌≤◌, min, List, [], ◌∷◌, ◌++◌, length, get_or, take, Ok, IfOk, refl, sym, ap, subst, ◌∙◌, inl, inr, arith}
+use Rattle.std.specs.Prelude.{Vec}
+use Rattle.std.specs.Fork.{slice_chunk}
+use Rattle.std.specs.List.{AllZip}
+use Rattle.std.proofs.lemmas.Bool.{cases_lt}
+use Rattle.std.proofs.lemmas.List.{get_or_at, length-append, length_push, take_all}
+use Rattle.std.proofs.lemmas.Nat.{div-add-mod', mod_below}
+use lib.Seq.{take-add}
+use native.Mathlib.Nat.{add-mul, one-mul}
+use Rattle.nd_machines.specs.Builders.{Builder}
+use Rattle.nd_eligible.specs.Settings.{Settings}
+use Rattle.nd_eligible.specs.declared.need.Need.{Need}
+use Rattle.nd_hook.specs.declared.kinds.Reply.{Reply}
+use Rattle.nd_hook.specs.Idle.{IsIdleReply}
+use Rattle.nd_cli.specs.Shares.{AreShares, Share}
+
+AllZip-append : {A B : Type 0} (R : A → B → Type 0) (xs : List A) (ys : List B) (vs : List A) (ws : List B) → AllZip R xs ys → AllZip R vs ws → AllZip R (xs ++ vs) (ys ++ ws)
+AllZip-append R [] [] vs ws front back = back
+AllZip-append R [] (y ∷ ys) vs ws front back = absurd front
+AllZip-append R (x ∷ xs) [] vs ws front back = absurd front
+AllZip-append R (x ∷ xs) (y ∷ ys) vs ws front back = (front.0, AllZip-append R xs ys vs ws front.1 back)
+
+-- the replies of the first shares
+abbrev pub AreFirst : List Builder → Settings → ℕ → List Need → ℕ → List Reply → Type 0
+AreFirst machines local size needs count replies = AllZip (IsIdleReply machines local) (take (count * size) needs) replies
+
+-- one share more
+module _ {A : Type 0} (machines : List Builder) (local : Settings) (size : ℕ) (needs : List Need) where
+  pub first_more : (shares front rest : List (Share A)) (made : Share A) (share : Vec Reply A) (replies new : List Reply) → AreShares machines local size needs shares → shares ≡ front ++ made ∷ rest → made ≡ Ok share → new ≡ replies ++ share.items
+      → AreFirst machines local size needs (length front) replies → AreFirst machines local size needs (length (front ++ made ∷ [])) new
+  first_more shares front rest made share replies new are parts is grown so =
+      let R : Need → Reply → Type 0 = IsIdleReply machines local in
+      let n : ℕ = length front in
+      let here : n < length shares = omega (arith, ap (λ (xs : List (Share A)). length xs) parts, length-append front (made ∷ rest)) in
+      let at : get_or shares n made ≡ Ok share = ap (λ (xs : List (Share A)). get_or xs n made) parts ∙ get_or_at front made rest made n refl ∙ is in
+      let chunk : AllZip R (slice_chunk needs size n) share.items = subst (λ (s : Share A). IfOk s (λ some. AllZip R (slice_chunk needs size n) some.items)) at (are.each n made here) in
+      let joined : AllZip R (take (n * size + size) needs) new =
+      subst (λ (rs : List Reply). AllZip R (take (n * size + size) needs) rs) (sym grown)
+      (subst (λ (ns : List Need). AllZip R ns (replies ++ share.items)) (sym (take-add (n * size) size needs)) (AllZip-append R (take (n * size) needs) replies (slice_chunk needs size n) share.items so chunk)) in
+      subst (λ (k : ℕ). AllZip R (take k needs) new) (sym (ap (λ (k : ℕ). k * size) (length_push front made) ∙ add-mul n 1 size ∙ ap (λ (k : ℕ). n * size + k) (one-mul size))) joined
+
+-- so many shares hold all
+spans : (count len size : ℕ) → 0 < size → count ≡ len / size + min 1 (len % size) → len ≤ count * size
+spans count len size some is =
+    let q = len / size in
+    let r = len % size in
+    let parts : q * size + r ≡ len = div-add-mod' len size in
+    let small : r < size = mod_below len size some in
+    elim (cases_lt 0 r) [
+      | inl more ↦
+          let one : count ≡ q + 1 = omega arith in
+          let wide = ap (λ (n : ℕ). n * size) one ∙ add-mul q 1 size in
+          let last = one-mul size in omega arith
+      | inr none ↦
+          let same : count ≡ q = omega arith in
+          let wide = ap (λ (n : ℕ). n * size) same in omega arith
+    ]
+
+-- all shares
+pub all_first : {A : Type 0} (machines : List Builder) (local : Settings) (size : ℕ) (needs : List Need) (shares : List (Share A)) (replies : List Reply) → AreShares machines local size needs shares → AreFirst machines local size needs (length shares) replies
+    → AllZip (IsIdleReply machines local) needs replies
+all_first machines local size needs shares replies are so =
+    subst (λ (ns : List Need). AllZip (IsIdleReply machines local) ns replies) (take_all (length shares * size) needs (spans (length shares) (length needs) size are.some are.count)) so

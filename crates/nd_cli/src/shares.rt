@@ -1,0 +1,79 @@
+//! The replies about many derivations, of which many threads make a share each.
+
+ghost use Rattle.std.specs.Prelude.{◌<◌, ℕ, List, IfOk};
+ghost use Rattle.std.specs.List.{AllZip};
+ghost use Rattle.nd_machines.specs.Builders.{Builder};
+ghost use Rattle.nd_eligible.specs.Settings.{Settings};
+ghost use Rattle.nd_hook.specs.Idle.{IsIdleReply};
+ghost use Rattle.nd_cli.specs.Shares.{AreShares};
+
+use crate::asks::replies_about;
+use nd_eligible::{Local, Need};
+use nd_hook::Reply;
+use nd_machines::Machine;
+use std::alloc::{AllocError, Global};
+use std::num::NonZeroUsize;
+use std::thread::{Threads, available_parallelism, map_chunks};
+
+/// The least share of a thread: the replies about fewer derivations are mostly made before another thread has started.
+const SHARE: usize = 4096;
+
+/// The replies about derivations with these needs, in order, where no slot is taken and every machine is up. Those
+/// about more derivations than [`SHARE`] are made by as many threads as there are processors.
+pub(crate) fn replies_side_by_side<R: Threads + Sync>(
+    rt: &R,
+    alloc: Global,
+    machines: &[Machine],
+    local: &Local,
+    needs: &[Need],
+) -> Result<Vec<Reply>, AllocError>
+    ensures { IfOk result (λ replies. AllZip (IsIdleReply machines.now local.now) needs.now replies.items) }
+{
+    if needs.len() <= SHARE {
+        return replies_about(alloc, machines, local, needs);
+    }
+    let processors = available_parallelism(rt).map_or(1, NonZeroUsize::get);
+    let size = (needs.len() / processors + 1).max(SHARE);
+    let shares = make_shares(rt, alloc, machines, local, needs, size)?;
+    join_shares(alloc, needs, shares)
+}
+
+/// The replies about so many derivations each, the last ones perhaps about fewer, made by a thread each.
+fn make_shares<R: Threads + Sync>(
+    rt: &R,
+    alloc: Global,
+    machines: &[Machine],
+    local: &Local,
+    needs: &[Need],
+    size: usize,
+) -> Result<Vec<Result<Vec<Reply>, AllocError>>, AllocError>
+    requires { 0 < size }
+    ensures { IfOk result (λ shares. AreShares machines.now local.now size needs.now shares.items) }
+{
+    map_chunks(
+        rt,
+        alloc,
+        needs,
+        size,
+        &|_, share: &[Need]| -> Result<Vec<Reply>, AllocError>
+            ensures { IfOk result (λ replies. AllZip (IsIdleReply machines.entry.now local.entry.now) share.entry.now replies.items) }
+        { replies_about(alloc, machines, local, share) },
+    )
+}
+
+/// All replies in one list.
+fn join_shares(
+    alloc: Global,
+    needs: &[Need],
+    shares: Vec<Result<Vec<Reply>, AllocError>>,
+) -> Result<Vec<Reply>, AllocError>
+    ensures { (machines : List Builder) (local : Settings) (size : ℕ) → AreShares machines local size needs.now shares.items
+        → IfOk result (λ replies. AllZip (IsIdleReply machines local) needs.now replies.items) }
+{
+    let mut replies = Vec::with_capacity(alloc, needs.len())?;
+    for share in shares {
+        let mut share = share?;
+        replies.append(&mut share)?;
+    }
+    Ok(replies)
+}
