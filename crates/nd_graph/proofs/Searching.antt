@@ -4,7 +4,7 @@ use Rattle.std.proofs.lemmas.Bool.{cases_lt, cases_eq}
 use Rattle.std.proofs.lemmas.List.{get_or_append_left, get_or_at, get_or_default, get_or-map, length-map, length-set, length_push}
 use Rattle.std.proofs.lemmas.List.Elements.{Contains-push, Contains-push_cases, Contains-append_left}
 use Rattle.std.proofs.lemmas.List.Sums.{sum_by-set}
-use Rattle.nd_graph.specs.Orders.{input_count, left_of, IsNew, IsOpen, IsSearch, Advances}
+use Rattle.nd_graph.specs.Orders.{input_count, left_of, IsNew, IsOpen, IsSearch, Advances, KeepsSearch}
 use Rattle.nd_graph.specs.Walks.{inputs_of, Walk, IsOrder, IsRising, AreInRange, IsCyclic}
 use Rattle.nd_graph.specs.Graphs.{needed}
 use Rattle.nd_graph.specs.declared.graph.Input.{Input}
@@ -167,6 +167,24 @@ passed_by rows left trail order top next search more is gone =
       once = search.once;
       rises = search.rises;
     }
+
+pub kept_first : (rows : List (List ℕ)) (top : ℕ) (left : List ℕ) → KeepsSearch rows top left left
+kept_first rows top left = record { kept = λ trail order search. search }
+
+-- .. and so it passes one more
+pub kept_on : (rows : List (List ℕ)) (top next : ℕ) (old left : List ℕ) → KeepsSearch rows top old left → (1 < left_of left top) × Contains (inputs_of rows top) next × (next ≡ get_or (inputs_of rows top) (input_count rows top + 1 - left_of left top) 0) → left_of left next ≡ 0
+    → KeepsSearch rows top old (set left top (left_of left top - 1))
+kept_on rows top next old left so is gone = record {
+  kept = λ trail order search. passed_by rows left trail order top next (so.kept trail order search) is.0 is.2 gone;
+}
+
+-- an input that has steps left and is met is open
+pub is_open : (rows : List (List ℕ)) (left trail order : List ℕ) (d : ℕ) → IsSearch rows left trail order → d < length rows → 0 < left_of left d → (IsNew rows left d → ⊥) → IsOpen rows left d
+is_open rows left trail order d search row some met =
+    elim (cases_lt (left_of left d) (input_count rows d + 2)) [
+      | inl low ↦ (some, low)
+      | inr high ↦ absurd (met (let most = search.bounded d row in omega (arith, high, most)))
+    ]
 
 -- a new node, needed by the last of the trail, is met
 pub met : (rows : List (List ℕ)) (left trail order : List ℕ) (x : ℕ) → IsSearch rows left trail order → x < length rows → IsNew rows left x → ((j : ℕ) → suc j ≡ length trail → Contains (inputs_of rows (get_or trail j 0)) x) → IsSearch rows (set left x (left_of left x - 1)) (trail ++ x ∷ []) order

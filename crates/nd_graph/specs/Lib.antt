@@ -2,5 +2,4 @@ pub mod Graphs
 pub mod Names
 pub mod Orders
 pub mod Placing
-pub mod Stages
 pub mod Walks

@@ -1,5 +1,5 @@
 -- The state of a depth-first search for an order of the nodes in which each stands after its inputs. Serves proofs alone.
-use Rattle.std.specs.Prelude.{◌≡◌, ℕ, suc, ◌+◌, ◌<◌, ◌≤◌, List, length, Contains}
+use Rattle.std.specs.Prelude.{◌≡◌, ℕ, suc, ◌+◌, ◌-◌, ◌<◌, ◌≤◌, List, [], ◌∷◌, ◌++◌, length, Contains, Option, None, Some}
 use Rattle.std.specs.List.{slice_index_or}
 use Rattle.nd_graph.specs.Walks.{inputs_of, IsRising, AreDistinct}
 
@@ -20,6 +20,11 @@ IsNew rows left d = left_of left d ≡ input_count rows d + 2
 abbrev pub IsOpen : List (List ℕ) → List ℕ → ℕ → Type 0
 IsOpen rows left d = (0 < left_of left d) × (left_of left d < input_count rows d + 2)
 
+-- the next input that the node has to pass: none where one step is left
+abbrev pub IsNext : List (List ℕ) → List ℕ → ℕ → Option ℕ → Type 0
+IsNext rows left d None = left_of left d ≡ 1
+IsNext rows left d (Some next) = (1 < left_of left d) × Contains (inputs_of rows d) next × (next ≡ slice_index_or (inputs_of rows d) (input_count rows d + 1 - left_of left d) 0)
+
 -- the search went on: no node has more steps left than before
 pub record Advances (old new : List ℕ) : Type 0 where
   pub sized : length new ≡ length old
@@ -39,3 +44,7 @@ pub record IsSearch (rows : List (List ℕ)) (left trail order : List ℕ) : Typ
   pub done : (d : ℕ) → Contains order d → (d < length rows) × (left_of left d ≡ 0)
   pub once : AreDistinct order
   pub rises : IsRising rows order
+
+-- what a search keeps is kept still, whatever stands on the trail before its last node
+pub record KeepsSearch (rows : List (List ℕ)) (top : ℕ) (old new : List ℕ) : Type 0 where
+  pub kept : (trail order : List ℕ) → IsSearch rows old (trail ++ top ∷ []) order → IsSearch rows new (trail ++ top ∷ []) order

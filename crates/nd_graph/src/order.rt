@@ -1,26 +1,14 @@
 //! The search for an order of the nodes in which each stands after its inputs.
 
-ghost use Rattle.std.specs.Prelude.{◌≡◌, ℕ, ◌+◌, ◌<◌, ◌≤◌, [], ◌∷◌, ◌++◌, ◌-◌, length, sum, slice_set, IfOk, OnOk, IfErr};
+ghost use Rattle.std.specs.Prelude.{◌≡◌, ℕ, ◌+◌, ◌<◌, ◌≤◌, [], ◌∷◌, ◌++◌, ◌-◌, ◌↔◌, length, sum, slice_set, IsTrue, Contains, MatchOption, IfOk, OnOk, IfErr};
 ghost use Rattle.nd_graph.specs.Graphs.{needed, IsOrderFault};
-ghost use Rattle.nd_graph.specs.Orders.{input_count, left_of, Advances, IsSearch};
-ghost use Rattle.nd_graph.specs.Stages.{IsNext, IsStage};
-ghost use Rattle.nd_graph.specs.Walks.{AreInRange, IsAcyclic, IsOrder};
+ghost use Rattle.nd_graph.specs.Orders.{input_count, left_of, Advances, IsNew, IsNext, IsSearch, KeepsSearch};
+ghost use Rattle.nd_graph.specs.Walks.{inputs_of, AreInRange, IsAcyclic, IsOrder};
 
 use crate::fault::OrderError;
 use crate::graph::Input;
 use nd_bytes::Items;
 use std::alloc::{AllocError, Global};
-
-/// How far the search is with a node.
-#[derive(Clone, Copy)]
-enum Stage {
-    /// The node isn't met yet.
-    New,
-    /// The node stands on the trail.
-    Open,
-    /// The node stands in the order.
-    Done,
-}
 
 /// The nodes of `inputs`, each once and after its inputs. There is such an order exactly where no
 /// node needs itself. It takes time in proportion to the nodes and inputs together.
@@ -43,33 +31,6 @@ pub fn find_order(alloc: Global, inputs: &[Items<Input>]) -> Result<Vec<usize>, 
     Ok(order)
 }
 
-/// Puts `root` into the order, after all nodes below it.
-fn visit(
-    alloc: Global,
-    inputs: &[Items<Input>],
-    left: &mut [usize],
-    order: &mut Vec<usize>,
-    root: usize,
-) -> Result<(), OrderError>
-    requires ranged { AreInRange (needed inputs.now) }
-    requires root { root < length inputs.now }
-    requires search { IsSearch (needed inputs.now) left.old [] order.old.items }
-    ensures search { OnOk result (IsSearch (needed inputs.now) left.new [] order.new.items) }
-    ensures advances { OnOk result (Advances left.old left.new) }
-    ensures done { OnOk result (left_of left.new root ≡ 0) }
-    ensures err { IfErr result (λ fault. IsOrderFault (needed inputs.now) fault) }
-{
-    let Stage::New = stage_of(inputs, left, root) else {
-        return Ok(());
-    };
-    let mut trail = Vec::new(alloc);
-    meet(left, &mut trail, root)?;
-    while let Some(top) = trail.pop() {
-        step(inputs, left, &mut trail, order, top)?;
-    }
-    Ok(())
-}
-
 /// Visits all nodes.
 fn visit_all(
     alloc: Global,
@@ -82,27 +43,56 @@ fn visit_all(
     ensures ok { OnOk result (IsOrder (needed inputs.now) order.new.items) }
     ensures err { IfErr result (λ fault. IsOrderFault (needed inputs.now) fault) }
 {
+    let mut trail = Vec::new(alloc);
     for root in 0..inputs.len() {
-        visit(alloc, inputs, left, order, root)?;
+        visit(inputs, left, &mut trail, order, root)?;
     }
     Ok(())
 }
 
-/// The stage of a node.
-fn stage_of(inputs: &[Items<Input>], left: &[usize], node: usize) -> Stage
+/// Puts `root` into the order, after all nodes below it. Nothing stands on the trail before and after.
+fn visit(
+    inputs: &[Items<Input>],
+    left: &mut [usize],
+    trail: &mut Vec<usize>,
+    order: &mut Vec<usize>,
+    root: usize,
+) -> Result<(), OrderError>
+    requires ranged { AreInRange (needed inputs.now) }
+    requires root { root < length inputs.now }
+    requires trail { trail.old.items ≡ [] }
+    requires search { IsSearch (needed inputs.now) left.old [] order.old.items }
+    ensures trail { OnOk result (trail.new.items ≡ []) }
+    ensures search { OnOk result (IsSearch (needed inputs.now) left.new [] order.new.items) }
+    ensures advances { OnOk result (Advances left.old left.new) }
+    ensures done { OnOk result (left_of left.new root ≡ 0) }
+    ensures err { IfErr result (λ fault. IsOrderFault (needed inputs.now) fault) }
+{
+    if !is_new(inputs, left, root) {
+        return Ok(());
+    }
+    meet(left, trail, root)?;
+    while let Some(top) = trail.pop() {
+        step(inputs, left, trail, order, top)?;
+    }
+    Ok(())
+}
+
+/// Whether a node isn't met yet.
+fn is_new(inputs: &[Items<Input>], left: &[usize], node: usize) -> bool
     requires within { node < length inputs.now }
     requires sized { length left.now ≡ length inputs.now }
-    requires bounded { left_of left.now node ≤ input_count (needed inputs.now) node + 2 }
-    ensures { IsStage (needed inputs.now) left.now node result }
+    ensures { IsTrue result ↔ IsNew (needed inputs.now) left.now node }
 {
-    let steps = left[node];
-    if steps == 0 {
-        return Stage::Done;
-    }
-    if steps == inputs[node].as_slice().len() + 2 {
-        return Stage::New;
-    }
-    Stage::Open
+    left[node] == inputs[node].as_slice().len() + 2
+}
+
+/// Whether a node stands in the order.
+fn is_done(left: &[usize], node: usize) -> bool
+    requires within { node < length left.now }
+    ensures { IsTrue result ↔ (left_of left.now node ≡ 0) }
+{
+    left[node] == 0
 }
 
 /// Puts a new node on the trail.
@@ -133,8 +123,31 @@ fn next_input(inputs: &[Items<Input>], left: &[usize], top: usize) -> Option<usi
     Some(row[row.len() + 1 - steps].node)
 }
 
-/// One step of the search: `top`, which was taken off the trail, goes into the order, or it goes
-/// back and passes its next input, or that input is met.
+/// Passes the inputs of `top` that are done, and answers the first that isn't.
+fn pass_done(inputs: &[Items<Input>], left: &mut [usize], top: usize) -> Option<usize>
+    requires ranged { AreInRange (needed inputs.now) }
+    requires within { top < length inputs.now }
+    requires sized { length left.old ≡ length inputs.now }
+    requires some { 0 < left_of left.old top }
+    requires few { left_of left.old top < input_count (needed inputs.now) top + 2 }
+    ensures search { KeepsSearch (needed inputs.now) top left.old left.new }
+    ensures advances { Advances left.old left.new }
+    ensures smaller { sum left.new ≤ sum left.old }
+    ensures next { MatchOption result
+        (left_of left.new top ≡ 1)
+        (λ next. Contains (inputs_of (needed inputs.now) top) next × (0 < left_of left.new next)) }
+{
+    while let Some(next) = next_input(inputs, left, top) {
+        if !is_done(left, next) {
+            return Some(next);
+        }
+        left[top] -= 1;
+    }
+    None
+}
+
+/// One step of the search: `top`, which was taken off the trail, passes the inputs that are done. Where these are all it
+/// goes into the order; else it goes back, and the first that isn't done is met.
 fn step(
     inputs: &[Items<Input>],
     left: &mut [usize],
@@ -149,16 +162,15 @@ fn step(
     ensures smaller { OnOk result (sum left.new < sum left.old) }
     ensures err { IfErr result (λ fault. IsOrderFault (needed inputs.now) fault) }
 {
-    let Some(next) = next_input(inputs, left, top) else {
+    let Some(next) = pass_done(inputs, left, top) else {
         left[top] = 0;
         order.push(top)?;
         return Ok(());
     };
-    trail.push(top)?;
-    match stage_of(inputs, left, next) {
-        Stage::New => meet(left, trail, next)?,
-        Stage::Open => return Err(OrderError::Cycle),
-        Stage::Done => left[top] -= 1,
+    if !is_new(inputs, left, next) {
+        return Err(OrderError::Cycle);
     }
+    trail.push(top)?;
+    meet(left, trail, next)?;
     Ok(())
 }
