@@ -36,9 +36,8 @@ impl Ahead {
 
     /// Reads a line, or few, by this thread. They aren't taken yet.
     #[tactic(auto, using(crate::proofs::ReadAhead::reads_settled))]
-    pub(crate) fn read_line<R: Threads>(
+    pub(crate) fn read_line(
         &mut self,
-        rt: &R,
         alloc: Global,
         text: &[u8],
         check: bool,
@@ -47,7 +46,7 @@ impl Ahead {
         ensures { OnOk result (ReadsLines check text.now self.old self.new) }
     {
         self.add_piece(alloc, text, check)?;
-        self.settle(rt, alloc)
+        self.settle(alloc)
     }
 
     /// Reads a piece, which isn't looked at yet.
@@ -77,7 +76,7 @@ impl Ahead {
             Some(_) => Ok(()),
             None => {
                 if is_short(text) {
-                    return self.read_short(rt, alloc, text, check);
+                    return self.read_short(alloc, text, check);
                 }
                 self.read_long(rt, alloc, text, check)
             }
@@ -86,18 +85,12 @@ impl Ahead {
 
     /// Reads the lines of a short text by this thread, and takes all.
     #[tactic(auto, using(crate::proofs::ReadAhead::reads_settled))]
-    fn read_short<R: Threads>(
-        &mut self,
-        rt: &R,
-        alloc: Global,
-        text: &[u8],
-        check: bool,
-    ) -> Result<(), AllocError>
+    fn read_short(&mut self, alloc: Global, text: &[u8], check: bool) -> Result<(), AllocError>
         requires { self.old.found.refused ≡ None }
         ensures { OnOk result (ReadsLines check text.now self.old self.new) }
     {
         self.add_piece(alloc, text, check)?;
-        self.take_pieces(rt, alloc)
+        self.take_pieces(alloc)
     }
 
     /// Reads the lines of a long text by many threads. They aren't taken yet.
@@ -113,7 +106,7 @@ impl Ahead {
         ensures { OnOk result (ReadsLines check text.now self.old self.new) }
     {
         self.read_beside(rt, alloc, text, check)?;
-        self.settle(rt, alloc)
+        self.settle(alloc)
     }
 
     /// Reads the lines of the text by many threads, while this thread takes what was read before.
@@ -137,7 +130,7 @@ impl Ahead {
             { read_pieces(rt, alloc, text, check) },
             move || -> Result<Found, AllocError>
                 ensures { IfOk result (TakesAll found pieces.items) }
-            { found.with(rt, pieces) },
+            { found.with(pieces) },
         );
         self.found = taken?;
         self.pieces = read?;
@@ -146,34 +139,32 @@ impl Ahead {
 
     /// Takes what was read ahead where some of it is refused, so that nothing is read behind that.
     #[tactic(auto, using(crate::proofs::ReadAhead::stays_read))]
-    fn settle<R: Threads>(&mut self, rt: &R, alloc: Global) -> Result<(), AllocError>
+    fn settle(&mut self, alloc: Global) -> Result<(), AllocError>
         ensures { OnOk result (StaysRead self.old self.new) }
     {
         if are_clean(self.pieces.as_slice()) {
             return Ok(());
         }
-        self.take_pieces(rt, alloc)
+        self.take_pieces(alloc)
     }
 
     /// Takes what was read ahead, unless a line before it is refused.
     #[tactic(auto, using(crate::proofs::ReadAhead::stays_read, crate::proofs::ReadAhead::takes_pieces))]
-    fn take_pieces<R: Threads>(&mut self, rt: &R, alloc: Global) -> Result<(), AllocError>
+    fn take_pieces(&mut self, alloc: Global) -> Result<(), AllocError>
         ensures { OnOk result (StaysRead self.old self.new) }
     {
         match self.found.refused {
             Some(_) => Ok(()),
             None => {
-                let found = mem::replace(&mut self.found, Found::new(alloc));
                 let pieces = mem::replace(&mut self.pieces, Vec::new(alloc));
-                self.found = found.with(rt, pieces)?;
-                Ok(())
+                self.found.take_all(pieces)
             }
         }
     }
 
     /// What the lines say with their paths numbered, or the first refusal.
     #[tactic(auto, using(crate::proofs::ReadAhead::refused_before, crate::proofs::ReadAhead::read_numbered, crate::proofs::ReadAhead::read_fault))]
-    pub(crate) fn into_numbered<R: Threads>(self, rt: &R) -> Result<Numbered, GraphError>
+    pub(crate) fn into_numbered(self) -> Result<Numbered, GraphError>
         ensures ok { IfOk result (IsReadNumbered self) }
         ensures err { IfErr result (IsReadFault self) }
     {
@@ -181,7 +172,7 @@ impl Ahead {
         match found.refused {
             Some(fault) => Err(fault),
             None => {
-                let found = found.with(rt, pieces)?;
+                let found = found.with(pieces)?;
                 // For the proof: each clause of the answer is met where the answer is known.
                 match found.into_numbered() {
                     Ok(numbered) => Ok(numbered),
@@ -206,7 +197,7 @@ pub(crate) fn read_lines_side_by_side(
 {
     let mut ahead = Ahead::new(alloc);
     ahead.read_lines(rt, alloc, text, check)?;
-    ahead.into_numbered(rt)
+    ahead.into_numbered()
 }
 
 /// Whether all lines of the pieces were read, and none was refused.

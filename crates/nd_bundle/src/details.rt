@@ -73,15 +73,6 @@ impl Details {
         Ok(())
     }
 
-    /// The same with those of other nodes behind these.
-    pub(crate) fn with(self, others: Details) -> Result<Details, AllocError>
-        ensures { IfOk result (IsAppended self others) }
-    {
-        let mut details = self;
-        details.append(others)?;
-        Ok(details)
-    }
-
     /// Adds those of other nodes behind these. Where memory is refused some of them may have been added.
     #[tactic(auto, using(crate::proofs::Taken::appended))]
     pub(crate) fn append(&mut self, others: Details) -> Result<(), AllocError>

@@ -1,9 +1,7 @@
 //! What was found in the lines of a bundle.
 
 ghost use Rattle.std.specs.Prelude.{◌≡◌, Ok, None, IfErr, IfOk, OnOk};
-ghost use Rattle.nd_bundle.specs.Numbering.{AddsPaths};
 ghost use Rattle.nd_bundle.specs.Parts.{IsFoundFault, IsFoundNowhere, IsFoundNumbered, Takes, TakesAll};
-ghost use Rattle.nd_bundle.specs.Pieces.{IsAppended};
 
 use crate::columns::Columns;
 use crate::details::Details;
@@ -13,10 +11,6 @@ use crate::piece::Piece;
 use indexmap::IndexSet;
 use nd_path::StorePath;
 use std::alloc::{AllocError, Global};
-use std::thread::{Threads, join};
-
-/// From how many lines on a piece is large.
-const MANY: usize = 2048;
 
 /// What was found in lines of a bundle: what they say, or the first refusal. Behind a refusal nothing is taken
 /// any more, and the lists have what stands before it.
@@ -47,71 +41,63 @@ impl Found {
         }
     }
 
-    /// The same with what was read of pieces behind its lines, for which room is made at once. Of a large piece the
-    /// paths are numbered while another thread puts the rest behind what was found before.
-    #[tactic(auto, using(crate::proofs::Parted::takes_reserved))]
-    pub(crate) fn with<R: Threads>(
-        self,
-        rt: &R,
-        pieces: Vec<Result<Piece, AllocError>>,
-    ) -> Result<Found, AllocError>
+    /// The same with what was read of pieces behind its lines.
+    pub(crate) fn with(self, pieces: Vec<Result<Piece, AllocError>>) -> Result<Found, AllocError>
         ensures { IfOk result (TakesAll self pieces.items) }
     {
         let mut found = self;
-        found.details.reserve(count_nodes(pieces.as_slice()))?;
-        found.with_each(rt, pieces)
-    }
-
-    /// The same with what was read of pieces, one behind another.
-    #[tactic(auto, using(crate::proofs::Parted::takes_none))]
-    fn with_each<R: Threads>(
-        self,
-        rt: &R,
-        pieces: Vec<Result<Piece, AllocError>>,
-    ) -> Result<Found, AllocError>
-        ensures { IfOk result (TakesAll self pieces.items) }
-    {
-        let mut found = self;
-        for piece in pieces {
-            found = found.with_piece(rt, piece)?;
-        }
+        found.take_all(pieces)?;
         Ok(found)
     }
 
-    /// The same with what was read of a piece, unless a line before it is refused.
-    fn with_piece<R: Threads>(
-        self,
-        rt: &R,
-        read: Result<Piece, AllocError>,
-    ) -> Result<Found, AllocError>
-        ensures { IfOk result (Takes self read) }
+    /// Takes what was read of pieces of a text, and makes room for it at once.
+    pub(crate) fn take_all(
+        &mut self,
+        pieces: Vec<Result<Piece, AllocError>>,
+    ) -> Result<(), AllocError>
+        ensures { OnOk result (TakesAll self.old pieces.items self.new) }
+    {
+        self.details.reserve(count_nodes(pieces.as_slice()))?;
+        self.take_each(pieces)
+    }
+
+    /// Takes what was read of pieces of a text, one behind another.
+    #[tactic(auto, using(crate::proofs::Parted::takes_none))]
+    fn take_each(&mut self, pieces: Vec<Result<Piece, AllocError>>) -> Result<(), AllocError>
+        ensures { OnOk result (TakesAll self.old pieces.items self.new) }
+    {
+        for piece in pieces {
+            self.take(piece)?;
+        }
+        Ok(())
+    }
+
+    /// Takes what was read of a piece, unless a line before it is refused.
+    #[tactic(auto, using(crate::proofs::Parted::passes))]
+    fn take(&mut self, read: Result<Piece, AllocError>) -> Result<(), AllocError>
+        ensures { OnOk result (Takes self.old read self.new) }
     {
         match self.refused {
-            Some(_) => Ok(self),
-            None => self.with_lines(rt, read?),
+            Some(_) => Ok(()),
+            None => self.add(read?),
         }
     }
 
-    /// The same with the lines of a piece. Its refusal has the line's number: so many nodes were said before, and one.
-    fn with_lines<R: Threads>(self, rt: &R, piece: Piece) -> Result<Found, AllocError>
-        requires { self.refused ≡ None }
-        ensures { IfOk result (Takes self (Ok piece)) }
+    /// Adds what was read of a piece. Its refusal has the line's number: so many nodes were said before, and one.
+    fn add(&mut self, piece: Piece) -> Result<(), AllocError>
+        requires { self.old.refused ≡ None }
+        ensures { OnOk result (Takes self.old (Ok piece) self.new) }
     {
         let Piece { columns, refused } = piece;
-        let (numbers, details) = put_behind(rt, self.numbers, self.details, columns)?;
+        let Columns { paths, details } = columns;
+        self.numbers.add(paths)?;
+        self.details.append(details)?;
         match refused {
-            None => Ok(Found {
-                numbers,
-                details,
-                refused: None,
-            }),
+            None => Ok(()),
             Some(fault) => {
-                let line = details.next_line();
-                Ok(Found {
-                    numbers,
-                    details,
-                    refused: Some(GraphError::of_line(fault, line)),
-                })
+                let line = self.details.next_line();
+                self.refused = Some(GraphError::of_line(fault, line));
+                Ok(())
             }
         }
     }
@@ -135,33 +121,6 @@ impl Found {
             },
         }
     }
-}
-
-/// Puts the nodes of a piece behind those before: the numbers of their paths, and the rest. Those of a large piece are
-/// numbered by this thread, while another one sees to the rest.
-fn put_behind<R: Threads>(
-    rt: &R,
-    numbers: Numbers,
-    before: Details,
-    columns: Columns,
-) -> Result<(Numbers, Details), AllocError>
-    ensures numbers { IfOk result (λ made. AddsPaths numbers columns.paths.items made.0) }
-    ensures details { IfOk result (λ made. IsAppended before columns.details made.1) }
-{
-    let Columns { paths, details } = columns;
-    if paths.len() < MANY {
-        return Ok((numbers.with(paths)?, before.with(details)?));
-    }
-    let (details, numbers) = join(
-        rt,
-        move || -> Result<Details, AllocError>
-            ensures { IfOk result (IsAppended before details) }
-        { before.with(details) },
-        move || -> Result<Numbers, AllocError>
-            ensures { IfOk result (AddsPaths numbers paths.items) }
-        { numbers.with(paths) },
-    );
-    Ok((numbers?, details?))
 }
 
 /// How many nodes the pieces have.

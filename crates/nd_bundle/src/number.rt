@@ -29,15 +29,6 @@ impl Numbers {
         }
     }
 
-    /// The same with paths numbered behind those before, unless one stood twice.
-    pub(crate) fn with(self, paths: Vec<StorePath>) -> Result<Numbers, AllocError>
-        ensures { IfOk result (AddsPaths self paths.items) }
-    {
-        let mut numbers = self;
-        numbers.add(paths)?;
-        Ok(numbers)
-    }
-
     /// Numbers paths behind those before, unless one stood twice.
     #[tactic(auto, using(crate::proofs::Numbers::adds_behind))]
     pub(crate) fn add(&mut self, paths: Vec<StorePath>) -> Result<(), AllocError>

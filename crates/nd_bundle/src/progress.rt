@@ -92,27 +92,20 @@ impl Progress {
                 Ok(())
             }
             Some((end, behind)) => {
-                self.end_line(rt, alloc, end, check)?;
+                self.end_line(alloc, end, check)?;
                 self.read_behind(rt, alloc, behind, check)
             }
         }
     }
 
     /// Reads the line that hasn't ended, which ends so.
-    fn end_line(
-        &mut self,
-        rt: &impl Threads,
-        alloc: Global,
-        end: &[u8],
-        check: bool,
-    ) -> Result<(), AllocError>
+    fn end_line(&mut self, alloc: Global, end: &[u8], check: bool) -> Result<(), AllocError>
         requires { self.old.ahead.found.refused ≡ None }
         ensures lines { OnOk result (ReadsLines check (self.old.rest.items ++ end.now) self.old.ahead self.new.ahead) }
         ensures rest { OnOk result (self.new.rest.items ≡ []) }
     {
         self.rest.extend_from_slice(end)?;
-        self.ahead
-            .read_line(rt, alloc, self.rest.as_slice(), check)?;
+        self.ahead.read_line(alloc, self.rest.as_slice(), check)?;
         self.rest.clear();
         Ok(())
     }
@@ -138,12 +131,7 @@ impl Progress {
     /// What the lines of the text that was read say, the last line being the rest where there is one; or the
     /// first refusal.
     #[tactic(auto, using(crate::proofs::Parted::told_by, crate::proofs::Parted::fault_by, crate::proofs::Parted::fault_before, crate::proofs::Parted::fault_of_memory))]
-    pub(crate) fn into_numbered(
-        self,
-        rt: &impl Threads,
-        alloc: Global,
-        check: bool,
-    ) -> Result<Numbered, GraphError>
+    pub(crate) fn into_numbered(self, alloc: Global, check: bool) -> Result<Numbered, GraphError>
         ensures ok { IfOk result (IsToldBy check self) }
         ensures err { IfErr result (IsFaultBy check self) }
     {
@@ -152,8 +140,8 @@ impl Progress {
             Some(fault) => Err(fault),
             None => {
                 let mut ahead = ahead;
-                ahead.read_line(rt, alloc, rest.as_slice(), check)?;
-                ahead.into_numbered(rt)
+                ahead.read_line(alloc, rest.as_slice(), check)?;
+                ahead.into_numbered()
             }
         }
     }

@@ -84,7 +84,7 @@ impl BundleReader {
             progress,
             ..
         } = self;
-        let numbered = progress.into_numbered(rt, alloc, check)?;
+        let numbered = progress.into_numbered(alloc, check)?;
         graph_side_by_side(rt, alloc, numbered)
     }
 }
