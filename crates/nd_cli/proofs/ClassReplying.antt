@@ -1,11 +1,12 @@
 -- On an idle park needs with the same platform and the same required features have the same reply.
-use Rattle.std.proofs.Common.{◌≡◌, ℕ, ◌+◌, ◌<◌, ◌≤◌, Bool, true, List, [], ◌∷◌, ◌++◌, length, take, replicate, get_or, Option, None, Some, slice_get, subst, sym, refl, ◌∙◌, inl, inr, arith}
+use Rattle.std.proofs.Common.{◌≡◌, ℕ, ◌+◌, ◌<◌, ◌≤◌, zero, suc, Bool, true, List, [], ◌∷◌, ◌++◌, length, take, replicate, get_or, Option, None, Some, slice_get, subst, sym, refl, inl, inr, arith}
 use Rattle.std.specs.Prelude.{IsSomeAnd}
-use Rattle.std.specs.List.{AllZip}
+use Rattle.std.specs.Borrow.{Bor}
+use Rattle.std.specs.List.{All, AllZip}
 use Rattle.std.specs.Option.{option_map_or}
 use Rattle.std.proofs.lemmas.Bool.{cases_lt}
-use Rattle.std.proofs.lemmas.List.{get_or-replicate, get_or-take, get_or_default, get_or_past, length-replicate, length-take, length-take-le, take_more}
-use Rattle.std.proofs.lemmas.Option.{slice_get_read, slice_get_within, slice_get_cases, get_or_from_slice_get}
+use Rattle.std.proofs.lemmas.List.{get_or-replicate, get_or_default, get_or_past, length-replicate}
+use Rattle.std.proofs.lemmas.Option.{slice_get_read, slice_get_within, get_or_from_slice_get}
 use Rattle.std.proofs.lemmas.Slice.Zip.{AllZip-long}
 use Rattle.nd_machines.specs.Builders.{Builder}
 use Rattle.nd_eligible.specs.Settings.{Settings}
@@ -18,9 +19,10 @@ use Rattle.nd_hook.specs.Idle.{idle, all_up, IsIdleReply}
 use Rattle.nd_hook.specs.Replies.{IsReply}
 use Rattle.nd_cli.proofs.Accepted.{same_reply}
 use Rattle.nd_cli.proofs.LocalTest.{free_here}
-use Rattle.nd_cli.proofs.Replying.{AllZip-snoc, AllZip-at}
-use Rattle.nd_cli.specs.ClassReplies.{IsReplyAt}
-use Rattle.nd_cli.specs.SharedClasses.{SharesClass}
+use Rattle.nd_cli.proofs.Replying.{AllZip-at, zip_more}
+use Rattle.nd_cli.specs.ClassReplies.{IsClassReply}
+use Rattle.nd_cli.specs.Shares.{IsMade}
+use Rattle.nd_cli.specs.SharedClasses.{IsOfClass}
 
 -- ---- an eligible machine is free on an idle park
 
@@ -78,71 +80,49 @@ reply_alike machines local one other reply system features h = let free = free_h
       h.is);
 }
 
--- ---- at one derivation
+-- ---- the reply about a class is that about each of its derivations
 
-pub reply_at : (machines : List Builder) (local : Settings) (needs : List Need) (d : ℕ) (need : Need) (reply : Reply) → d < length needs → need ≡ get_or needs d need → IsIdleReply machines local need reply
-    → IsReplyAt machines local needs d reply
-reply_at machines local needs d need reply within is_need is = record { need = need; wants = slice_get_read needs (length needs) d need refl within is_need; is = is }
+one_reply : (machines : List Builder) (local : Settings) (firsts : List (Bor Need)) (made : List Reply) (need : Need) (class : ℕ) (reply : Reply) → AllZip (IsClassReply machines local) firsts made → IsOfClass firsts need class → IsMade made class reply
+    → IsIdleReply machines local need reply
+one_reply machines local firsts made need class reply each of made_so =
+    let at = AllZip-at (IsClassReply machines local) firsts made class of.first reply each (slice_get_within firsts class of.first of.listed) in
+    reply_alike machines local of.first.now need reply of.same.system of.same.features
+    (subst (λ (f : Bor Need). IsIdleReply machines local f.now reply) (get_or_from_slice_get firsts class of.first of.first of.listed)
+    (subst (λ (r : Reply). IsIdleReply machines local (get_or firsts class of.first).now r) (get_or_from_slice_get made class reply reply made_so.is) at.is))
 
-idle_at : (machines : List Builder) (local : Settings) (needs : List Need) (d : ℕ) (reply : Reply) → (at : IsReplyAt machines local needs d reply) → IsIdleReply machines local (get_or needs d at.need) reply
-idle_at machines local needs d reply at =
-    subst (λ (need : Need). IsIdleReply machines local need reply) (sym (get_or_from_slice_get needs d at.need at.need at.wants)) at.is
+-- each derivation has the reply about its class
+pub all_replies : (machines : List Builder) (local : Settings) (firsts : List (Bor Need)) (made : List Reply) (needs : List Need) (members : List ℕ) (replies : List Reply) → AllZip (IsClassReply machines local) firsts made
+    → AllZip (IsOfClass firsts) needs members → AllZip (IsMade made) members replies → AllZip (IsIdleReply machines local) needs replies
+all_replies machines local firsts made [] [] [] each of are = tt
+all_replies machines local firsts made [] [] (reply ∷ replies) each of are = absurd are
+all_replies machines local firsts made [] (class ∷ members) replies each of are = absurd of
+all_replies machines local firsts made (need ∷ needs) [] replies each of are = absurd of
+all_replies machines local firsts made (need ∷ needs) (class ∷ members) [] each of are = absurd are
+all_replies machines local firsts made (need ∷ needs) (class ∷ members) (reply ∷ replies) each of are =
+    (one_reply machines local firsts made need class reply each of.0 are.0, all_replies machines local firsts made needs members replies each of.1 are.1)
 
--- one more reply
-pub replies_more : (machines : List Builder) (local : Settings) (needs : List Need) (replies : List Reply) (d : ℕ) (reply : Reply) → AllZip (IsIdleReply machines local) (take d needs) replies
-    → IsReplyAt machines local needs d reply → AllZip (IsIdleReply machines local) (take (d + 1) needs) (replies ++ reply ∷ [])
-replies_more machines local needs replies d reply so_far at =
-    subst (λ (some : List Need). AllZip (IsIdleReply machines local) some (replies ++ reply ∷ [])) (sym (take_more needs d at.need (slice_get_within needs d at.need at.wants)))
-    (AllZip-snoc (IsIdleReply machines local) (take d needs) replies (get_or needs d at.need) reply so_far (idle_at machines local needs d reply at))
+-- a reply was made about each class
+made_about : (machines : List Builder) (local : Settings) (firsts : List (Bor Need)) (made : List Reply) (needs : List Need) (members : List ℕ) → AllZip (IsClassReply machines local) firsts made → AllZip (IsOfClass firsts) needs members
+    → (k d : ℕ) → k < length members → get_or members k d < length made
+made_about machines local firsts made needs [] each of k d within = absurd (omega arith)
+made_about machines local firsts made [] (class ∷ members) each of k d within = absurd of
+made_about machines local firsts made (need ∷ needs) (class ∷ members) each of zero d within =
+    let long = AllZip-long (IsClassReply machines local) firsts made each in
+    let first = of.0 in
+    let there = slice_get_within firsts class first.first first.listed in
+    omega (arith, long, there)
+made_about machines local firsts made (need ∷ needs) (class ∷ members) each of (suc k) d within = made_about machines local firsts made needs members each of.1 k d (omega (arith, within))
 
--- the reply in its place
-pub reply_there : (machines : List Builder) (local : Settings) (needs : List Need) (replies : List Reply) (d : ℕ) (reply : Reply) → AllZip (IsIdleReply machines local) needs replies → d < length needs
-    → reply ≡ get_or replies d reply → IsReplyAt machines local needs d reply
-reply_there machines local needs replies d reply each within is = elim (slice_get_cases needs d).1 [
-  | inl found ↦ record {
-    need = found.0;
-    wants = found.2;
-    is = subst (λ (need : Need). IsIdleReply machines local need reply) found.3
-        (subst (λ (some : Reply). IsIdleReply machines local (get_or needs d found.0) some) (sym is)
-        (AllZip-at (IsIdleReply machines local) needs replies d found.0 reply each within));
-  }
-  | inr past ↦ let small = past.0 in absurd (omega (arith, small, within))
-]
+pub are_made : (machines : List Builder) (local : Settings) (firsts : List (Bor Need)) (made : List Reply) (needs : List Need) (members : List ℕ) → AllZip (IsClassReply machines local) firsts made → AllZip (IsOfClass firsts) needs members
+    → All (λ class. class < length made) members
+are_made machines local firsts made needs members each of = λ k d within. made_about machines local firsts made needs members each of k d within
 
--- ---- a derivation of the class of an earlier one
-
--- what stands in the first of a list stands in the list
-stands : {X : Type 0} → (xs : List X) (n i : ℕ) (x : X) → i < n → slice_get (take n xs) i ≡ Some x → slice_get xs i ≡ Some x
-stands xs n i x lt is =
-    let within : i < length xs = let some = slice_get_within (take n xs) i x is in omega (arith, some, length-take n xs) in
-    slice_get_read xs (length xs) i x refl within (sym (sym (get_or-take n xs i x lt) ∙ get_or_from_slice_get (take n xs) i x x is))
-
--- the earlier one has its reply
-pub first_within : (machines : List Builder) (local : Settings) (needs : List Need) (replies : List Reply) (d first : ℕ) → SharesClass needs d first
-    → AllZip (IsIdleReply machines local) (take d needs) replies → first < length replies
-first_within machines local needs replies d first shares each =
-    let long = AllZip-long (IsIdleReply machines local) (take d needs) replies each in
-    let within = slice_get_within needs d shares.other shares.here in
-    let some = length-take-le d needs (omega (arith, within)) in
-    let earlier = shares.earlier in
-    omega (arith, long, some, earlier)
-
--- the reply about the earlier one is that about this one
-pub reply_shared : (machines : List Builder) (local : Settings) (needs : List Need) (replies : List Reply) (d first : ℕ) (other : Reply) → SharesClass needs d first
-    → AllZip (IsIdleReply machines local) (take d needs) replies → IsReplyAt machines local needs d (get_or replies first other)
-reply_shared machines local needs replies d first other shares each =
-    let reply = get_or replies first other in
-    let within = slice_get_within needs d shares.other shares.here in
-    let some = length-take-le d needs (omega (arith, within)) in
-    let earlier = shares.earlier in
-    let at = reply_there machines local (take d needs) replies first reply each (omega (arith, some, earlier))
-    (get_or_default replies first other reply (first_within machines local needs replies d first shares each)) in
-    let there = stands needs d first at.need earlier at.wants in
-    let shared_there = shares.there in
-    let one : at.need ≡ shares.one = cc in
-    record {
-      need = shares.other;
-      wants = shares.here;
-      is = reply_alike machines local shares.one shares.other reply shares.same.system shares.same.features
-          (subst (λ (need : Need). IsIdleReply machines local need reply) one at.is);
-    }
+-- the reply about one derivation more
+pub one_made : (made : List Reply) (members : List ℕ) (replies new : List Reply) (n d : ℕ) (other : Reply) → n < length members → All (λ class. class < length made) members → AllZip (IsMade made) (take n members) replies
+    → new ≡ replies ++ get_or made (get_or members n d) other ∷ [] → AllZip (IsMade made) (take (n + 1) members) new
+one_made made members replies new n d other here there each grown =
+    let class = get_or members n d in
+    let reply = get_or made class other in
+    let within : class < length made = there n d here in
+    let is = get_or_default made class other reply within in
+    zip_more (IsMade made) members replies new n class reply here (get_or_default members n d class here) each (record { is = slice_get_read made (length made) class reply refl within is }) grown

@@ -1,9 +1,9 @@
 -- Replies that are written one after another.
-use Rattle.std.proofs.Common.{◌≡◌, ◌<◌, ◌↔◌, ℕ, zero, suc, Bool, IsTrue, List, [], ◌∷◌, ◌++◌, length, get_or, Option, None, Some, Result, Ok, Err, refl, sym, subst, append-nil, arith}
+use Rattle.std.proofs.Common.{◌≡◌, ◌<◌, ◌↔◌, ℕ, ◌+◌, zero, suc, Bool, IsTrue, List, [], ◌∷◌, ◌++◌, length, get_or, take, Option, None, Some, Result, Ok, Err, refl, sym, subst, append-nil, arith}
 use Rattle.std.specs.Prelude.{OnErr}
 use Rattle.std.specs.List.{All, AllZip, Contains, flat_map}
 use Rattle.std.specs.Io.KnownBytes.{Appends}
-use Rattle.std.proofs.lemmas.List.{take_all}
+use Rattle.std.proofs.lemmas.List.{take_all, take_more}
 use Rattle.nd_machines.specs.Builders.{Builder}
 use Rattle.nd_eligible.specs.Settings.{Settings}
 use Rattle.nd_eligible.specs.declared.need.Need.{Need}
@@ -21,6 +21,13 @@ AllZip-snoc R [] [] x y each here = (here, tt)
 AllZip-snoc R [] (z ∷ ys) x y each here = absurd each
 AllZip-snoc R (z ∷ xs) [] x y each here = absurd each
 AllZip-snoc R (a ∷ xs) (b ∷ ys) x y each here = (each.0, AllZip-snoc R xs ys x y each.1 here)
+
+-- one more of a list
+pub zip_more : {A B : Type 0} (R : A → B → Type 0) (xs : List A) (ys new : List B) (n : ℕ) (x : A) (y : B) → n < length xs → x ≡ get_or xs n x → AllZip R (take n xs) ys → R x y → new ≡ ys ++ y ∷ [] → AllZip R (take (n + 1) xs) new
+zip_more {A} {B} R xs ys new n x y within is each here grown =
+    subst (λ (zs : List B). AllZip R (take (n + 1) xs) zs) (sym grown)
+    (subst (λ (some : List A). AllZip R some (ys ++ y ∷ [])) (sym (take_more xs n x within))
+    (AllZip-snoc R (take n xs) ys (get_or xs n x) y each (subst (λ (a : A). R a y) is here)))
 
 -- nothing is written
 Appends-none : (old : Option (List ℕ)) → Appends old old []

@@ -1,6 +1,7 @@
--- The replies about some derivations, one share behind another.
+-- The replies about some classes, one share behind another.
 use Rattle.std.proofs.Common.{◌≡◌, ℕ, ◌+◌, ◌*◌, ◌/◌, ◌%◌, ◌<◌, ◌≤◌, min, List, [], ◌∷◌, ◌++◌, length, get_or, take, Ok, IfOk, refl, sym, ap, subst, ◌∙◌, inl, inr, arith}
 use Rattle.std.specs.Prelude.{Vec}
+use Rattle.std.specs.Borrow.{Bor}
 use Rattle.std.specs.Fork.{slice_chunk}
 use Rattle.std.specs.List.{AllZip}
 use Rattle.std.proofs.lemmas.Bool.{cases_lt}
@@ -12,7 +13,7 @@ use Rattle.nd_machines.specs.Builders.{Builder}
 use Rattle.nd_eligible.specs.Settings.{Settings}
 use Rattle.nd_eligible.specs.declared.need.Need.{Need}
 use Rattle.nd_hook.specs.declared.kinds.Reply.{Reply}
-use Rattle.nd_hook.specs.Idle.{IsIdleReply}
+use Rattle.nd_cli.specs.ClassReplies.{IsClassReply}
 use Rattle.nd_cli.specs.Shares.{AreShares, Share}
 
 AllZip-append : {A B : Type 0} (R : A → B → Type 0) (xs : List A) (ys : List B) (vs : List A) (ws : List B) → AllZip R xs ys → AllZip R vs ws → AllZip R (xs ++ vs) (ys ++ ws)
@@ -22,23 +23,23 @@ AllZip-append R (x ∷ xs) [] vs ws front back = absurd front
 AllZip-append R (x ∷ xs) (y ∷ ys) vs ws front back = (front.0, AllZip-append R xs ys vs ws front.1 back)
 
 -- the replies of the first shares
-abbrev pub AreFirst : List Builder → Settings → ℕ → List Need → ℕ → List Reply → Type 0
-AreFirst machines local size needs count replies = AllZip (IsIdleReply machines local) (take (count * size) needs) replies
+abbrev pub AreFirst : List Builder → Settings → ℕ → List (Bor Need) → ℕ → List Reply → Type 0
+AreFirst machines local size firsts count replies = AllZip (IsClassReply machines local) (take (count * size) firsts) replies
 
 -- one share more
-module _ {A : Type 0} (machines : List Builder) (local : Settings) (size : ℕ) (needs : List Need) where
-  pub first_more : (shares front rest : List (Share A)) (made : Share A) (share : Vec Reply A) (replies new : List Reply) → AreShares machines local size needs shares → shares ≡ front ++ made ∷ rest → made ≡ Ok share → new ≡ replies ++ share.items
-      → AreFirst machines local size needs (length front) replies → AreFirst machines local size needs (length (front ++ made ∷ [])) new
+module _ {A : Type 0} (machines : List Builder) (local : Settings) (size : ℕ) (firsts : List (Bor Need)) where
+  pub first_more : (shares front rest : List (Share A)) (made : Share A) (share : Vec Reply A) (replies new : List Reply) → AreShares machines local size firsts shares → shares ≡ front ++ made ∷ rest → made ≡ Ok share → new ≡ replies ++ share.items
+      → AreFirst machines local size firsts (length front) replies → AreFirst machines local size firsts (length (front ++ made ∷ [])) new
   first_more shares front rest made share replies new are parts is grown so =
-      let R : Need → Reply → Type 0 = IsIdleReply machines local in
+      let R : Bor Need → Reply → Type 0 = IsClassReply machines local in
       let n : ℕ = length front in
       let here : n < length shares = omega (arith, ap (λ (xs : List (Share A)). length xs) parts, length-append front (made ∷ rest)) in
       let at : get_or shares n made ≡ Ok share = ap (λ (xs : List (Share A)). get_or xs n made) parts ∙ get_or_at front made rest made n refl ∙ is in
-      let chunk : AllZip R (slice_chunk needs size n) share.items = subst (λ (s : Share A). IfOk s (λ some. AllZip R (slice_chunk needs size n) some.items)) at (are.each n made here) in
-      let joined : AllZip R (take (n * size + size) needs) new =
-      subst (λ (rs : List Reply). AllZip R (take (n * size + size) needs) rs) (sym grown)
-      (subst (λ (ns : List Need). AllZip R ns (replies ++ share.items)) (sym (take-add (n * size) size needs)) (AllZip-append R (take (n * size) needs) replies (slice_chunk needs size n) share.items so chunk)) in
-      subst (λ (k : ℕ). AllZip R (take k needs) new) (sym (ap (λ (k : ℕ). k * size) (length_push front made) ∙ add-mul n 1 size ∙ ap (λ (k : ℕ). n * size + k) (one-mul size))) joined
+      let chunk : AllZip R (slice_chunk firsts size n) share.items = subst (λ (s : Share A). IfOk s (λ some. AllZip R (slice_chunk firsts size n) some.items)) at (are.each n made here) in
+      let joined : AllZip R (take (n * size + size) firsts) new =
+      subst (λ (rs : List Reply). AllZip R (take (n * size + size) firsts) rs) (sym grown)
+      (subst (λ (fs : List (Bor Need)). AllZip R fs (replies ++ share.items)) (sym (take-add (n * size) size firsts)) (AllZip-append R (take (n * size) firsts) replies (slice_chunk firsts size n) share.items so chunk)) in
+      subst (λ (k : ℕ). AllZip R (take k firsts) new) (sym (ap (λ (k : ℕ). k * size) (length_push front made) ∙ add-mul n 1 size ∙ ap (λ (k : ℕ). n * size + k) (one-mul size))) joined
 
 -- so many shares hold all
 spans : (count len size : ℕ) → 0 < size → count ≡ len / size + min 1 (len % size) → len ≤ count * size
@@ -58,7 +59,7 @@ spans count len size some is =
     ]
 
 -- all shares
-pub all_first : {A : Type 0} (machines : List Builder) (local : Settings) (size : ℕ) (needs : List Need) (shares : List (Share A)) (replies : List Reply) → AreShares machines local size needs shares → AreFirst machines local size needs (length shares) replies
-    → AllZip (IsIdleReply machines local) needs replies
-all_first machines local size needs shares replies are so =
-    subst (λ (ns : List Need). AllZip (IsIdleReply machines local) ns replies) (take_all (length shares * size) needs (spans (length shares) (length needs) size are.some are.count)) so
+pub all_first : {A : Type 0} (machines : List Builder) (local : Settings) (size : ℕ) (firsts : List (Bor Need)) (shares : List (Share A)) (replies : List Reply) → AreShares machines local size firsts shares → AreFirst machines local size firsts (length shares) replies
+    → AllZip (IsClassReply machines local) firsts replies
+all_first machines local size firsts shares replies are so =
+    subst (λ (fs : List (Bor Need)). AllZip (IsClassReply machines local) fs replies) (take_all (length shares * size) firsts (spans (length shares) (length firsts) size are.some are.count)) so

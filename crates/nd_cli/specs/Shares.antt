@@ -1,5 +1,6 @@
--- The replies about many derivations, of which many threads make a share each. They serve private clauses.
-use Rattle.std.specs.Prelude.{◌≡◌, ℕ, ◌+◌, ◌/◌, ◌%◌, ◌<◌, min, List, length, Result, IfOk, Vec}
+-- The replies about many classes, of which many threads make a share each. They serve private clauses.
+use Rattle.std.specs.Prelude.{◌≡◌, ℕ, ◌+◌, ◌/◌, ◌%◌, ◌<◌, min, List, Some, length, slice_get, Result, IfOk, Vec}
+use Rattle.std.specs.Borrow.{Bor}
 use Rattle.std.specs.Fork.{slice_chunk}
 use Rattle.std.specs.List.{AllZip, slice_index_or}
 use Rattle.std.specs.declared.alloc.AllocError.{AllocError}
@@ -7,14 +8,18 @@ use Rattle.nd_machines.specs.Builders.{Builder}
 use Rattle.nd_eligible.specs.Settings.{Settings}
 use Rattle.nd_eligible.specs.declared.need.Need.{Need}
 use Rattle.nd_hook.specs.declared.kinds.Reply.{Reply}
-use Rattle.nd_hook.specs.Idle.{IsIdleReply}
+use Rattle.nd_cli.specs.ClassReplies.{IsClassReply}
 
--- what a thread made, with any allocator: the replies about some derivations
+-- what a thread made, with any allocator: the replies about some classes
 abbrev pub Share : Type 0 → Type 0
 Share A = Result (Vec Reply A) AllocError
 
--- each share has the replies about so many derivations, the last one perhaps about fewer
-pub record AreShares {A : Type 0} (machines : List Builder) (local : Settings) (size : ℕ) (needs : List Need) (shares : List (Share A)) : Type 0 where
+-- each share has the replies about so many classes, the last one perhaps about fewer
+pub record AreShares {A : Type 0} (machines : List Builder) (local : Settings) (size : ℕ) (firsts : List (Bor Need)) (shares : List (Share A)) : Type 0 where
   pub some : 0 < size
-  pub count : length shares ≡ length needs / size + min 1 (length needs % size)
-  pub each : (n : ℕ) (d : Share A) → n < length shares → IfOk (slice_index_or shares n d) (λ replies. AllZip (IsIdleReply machines local) (slice_chunk needs size n) replies.items)
+  pub count : length shares ≡ length firsts / size + min 1 (length firsts % size)
+  pub each : (n : ℕ) (d : Share A) → n < length shares → IfOk (slice_index_or shares n d) (λ replies. AllZip (IsClassReply machines local) (slice_chunk firsts size n) replies.items)
+
+-- the reply about a derivation of this class is the one that was made about the class
+pub record IsMade (made : List Reply) (class : ℕ) (reply : Reply) : Type 0 where
+  pub is : slice_get made class ≡ Some reply

@@ -6,7 +6,7 @@ ghost use Rattle.nd_cli.specs.Statuses.{RefusesNoInput};
 ghost use Rattle.nd_cli.specs.Asked.{AnswersAsk, LeavesAsk, IsAskFault};
 ghost use Rattle.nd_cli.specs.Inputs.{is_write_fault, is_read_failure, is_write_failure};
 
-use crate::asks::write_replies;
+use crate::asks::write_replies_side_by_side;
 use crate::fault::CliFault;
 use crate::options::ParkOptions;
 use crate::park::take_park;
@@ -44,7 +44,7 @@ pub fn ask_engine<R: Read, W: Write>(
     ensures partly { IfErr result (LeavesAsk options.now R.remaining input.old input.new W.contents output.old output.new) }
 {
     let park = take_park(rt, alloc, options, input)?;
-    let written = write_replies(
+    let written = write_replies_side_by_side(
         rt,
         alloc,
         &park.machines,

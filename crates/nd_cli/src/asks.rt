@@ -6,13 +6,11 @@ ghost use Rattle.std.specs.Io.KnownBytes.{Appends};
 ghost use Rattle.nd_devices.specs.Sending.{IsPut};
 ghost use Rattle.nd_devices.specs.Written.{WritesPart};
 ghost use Rattle.nd_cli.specs.Asks.{WritesReplies, WritesSomeReplies};
-ghost use Rattle.nd_cli.specs.ClassReplies.{IsReplyAt};
-ghost use Rattle.nd_cli.specs.SharedClasses.{SharesClass};
+ghost use Rattle.nd_cli.specs.ClassReplies.{IsClassReply};
 ghost use Rattle.nd_cli.specs.Inputs.{is_write_fault, is_write_failure};
 ghost use Rattle.nd_hook.specs.Idle.{IsFreeHere, IsIdleReply, idle, all_up};
 ghost use Rattle.nd_hook.specs.ReplyText.{IsInList, accept_text, line, reply_text};
 
-use crate::classes::Firsts;
 use crate::fault::CliFault;
 use crate::shares::replies_side_by_side;
 use nd_devices::{Fault, Page, Told};
@@ -29,7 +27,7 @@ use std::thread::Threads;
 /// `Memory`: nothing is written then. `Write`: the writer refused, and is marked; the replies about
 /// some of the first needs, the last of them perhaps in part, are out.
 #[tactic(auto, using(crate::proofs::Replying::none_written, crate::proofs::Replying::all_written, crate::proofs::Replying::some_written))]
-pub(crate) fn write_replies<W: Write>(
+pub(crate) fn write_replies_side_by_side<W: Write>(
     rt: &(impl Threads + Sync),
     alloc: Global,
     machines: &[Machine],
@@ -147,58 +145,23 @@ fn put_line<W: Write>(text: &[u8], page: &mut Page, out: &mut Told<W>) -> Result
     page.put(b"\n", out)
 }
 
-/// The replies about derivations with these needs, in order, where no slot is taken and every machine is up.
+/// The replies about some classes, in order, where no slot is taken and every machine is up.
 pub(crate) fn replies_about(
     alloc: Global,
     machines: &[Machine],
     local: &Local,
-    needs: &[Need],
+    firsts: &[&Need],
 ) -> Result<Vec<Reply>, AllocError>
-    ensures { IfOk result (λ replies. AllZip (IsIdleReply machines.now local.now) needs.now replies.items) }
+    ensures { IfOk result (λ replies. AllZip (IsClassReply machines.now local.now) firsts.now replies.items) }
 {
     let loads = vec![in alloc; 0u32; machines.len()]?;
     let up = vec![in alloc; true; machines.len()]?;
-    let mut known = Firsts::new(alloc);
-    let mut replies = Vec::with_capacity(alloc, needs.len())?;
-    for drv in 0..needs.len() {
-        let first = known.meet(needs, drv)?;
-        let reply = reply_about(
-            alloc, machines, local, needs, &loads, &up, &replies, drv, first,
-        )?;
+    let mut replies = Vec::with_capacity(alloc, firsts.len())?;
+    for class in 0..firsts.len() {
+        let reply = make_reply(alloc, machines, local, &loads, &up, firsts[class])?;
         replies.push(reply)?;
     }
     Ok(replies)
-}
-
-/// The reply about the derivation with this number, where no slot is taken and every machine is up. `replies` are
-/// those about the derivations before it. `first` is one of these that has the same class, if one is known.
-#[tactic(auto, using(crate::proofs::ClassReplying::first_within, crate::proofs::ClassReplying::reply_shared))]
-fn reply_about(
-    alloc: Global,
-    machines: &[Machine],
-    local: &Local,
-    needs: &[Need],
-    loads: &[u32],
-    up: &[bool],
-    replies: &[Reply],
-    number: usize,
-    first: Option<usize>,
-) -> Result<Reply, AllocError>
-    requires loads { loads.now ≡ idle machines.now }
-    requires up { up.now ≡ all_up machines.now }
-    requires number { number < length needs.now }
-    requires replies { AllZip (IsIdleReply machines.now local.now) (take number needs.now) replies.now }
-    requires first { IfSome first (SharesClass needs.now number) }
-    ensures { IfOk result (IsReplyAt machines.now local.now needs.now number) }
-{
-    match first {
-        Some(first) => Ok(replies[first]),
-        None => {
-            let need = &needs[number];
-            let reply = make_reply(alloc, machines, local, loads, up, need)?;
-            Ok(reply)
-        }
-    }
 }
 
 /// The reply about a derivation with this need, where no slot is taken and every machine is up.

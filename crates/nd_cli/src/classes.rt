@@ -1,7 +1,8 @@
-//! Which derivations have the class of an earlier one.
+//! The classes of derivations.
 
-ghost use Rattle.std.specs.Prelude.{◌≡◌, ◌<◌, length, IfOk, IfSome, IsTrue};
-ghost use Rattle.nd_cli.specs.SharedClasses.{IsSameClass, SharesClass};
+ghost use Rattle.std.specs.Prelude.{◌≡◌, ◌<◌, length, IfOk, IsTrue};
+ghost use Rattle.std.specs.List.{AllZip};
+ghost use Rattle.nd_cli.specs.SharedClasses.{IsOfClass, IsSameClass, MeetsClass};
 
 use crate::class_marks::ClassMarks;
 use nd_bytes::ByteString;
@@ -15,97 +16,147 @@ use std::collections::BTreeMap;
 /// whether the local machine may build it and has a free slot too changes nothing.
 type Class<'a> = (&'a ByteString, &'a FeatureSet);
 
-/// Derivations by their classes: for each class that was met the first derivation of it.
+/// Derivations by their classes, which are numbered from zero as they are met.
 #[derive(Drop)]
-pub(crate) struct Firsts<'a> {
-    /// The first derivation of the class that was met last. Most derivations are of the class of the one before,
-    /// and no mark is made for these.
-    latest: Option<usize>,
+pub(crate) struct Classes<'a> {
+    /// Of each class the need of its first derivation.
+    firsts: Vec<&'a Need>,
+    /// Of each derivation its class.
+    members: Vec<usize>,
+}
+
+impl<'a> Classes<'a> {
+    /// The classes of derivations with these needs.
+    pub(crate) fn of(alloc: Global, needs: &'a [Need]) -> Result<Classes<'a>, AllocError>
+        ensures { IfOk result (λ classes. AllZip (IsOfClass classes.firsts.items) needs.now classes.members.items) }
+    {
+        let mut known = Known::new(alloc);
+        let mut members = Vec::with_capacity(alloc, needs.len())?;
+        for drv in 0..needs.len() {
+            let class = known.meet(needs, drv)?;
+            members.push(class)?;
+        }
+        let Known { firsts, .. } = known;
+        Ok(Classes { firsts, members })
+    }
+
+    /// Of each class the need of its first derivation.
+    pub(crate) fn firsts(&self) -> &[&'a Need]
+        ensures { result.now ≡ self.now.firsts.items }
+    {
+        self.firsts.as_slice()
+    }
+
+    /// Of each derivation its class.
+    pub(crate) fn members(&self) -> &[usize]
+        ensures { result.now ≡ self.now.members.items }
+    {
+        self.members.as_slice()
+    }
+}
+
+/// The classes that were met.
+#[derive(Drop)]
+struct Known<'a> {
+    /// Of each class the need of its first derivation.
+    firsts: Vec<&'a Need>,
+    /// The class that was met last, or zero. Most derivations are of the class of the one before, and no mark is
+    /// made for these.
+    latest: usize,
     marks: ClassMarks,
-    /// By marks of classes, the first derivation with each mark.
+    /// By marks of classes, the first class with each mark.
     marked: BTreeMap<u64, usize>,
-    /// By classes, those whose mark is one of another class's.
+    /// Classes whose mark is one of another class's.
     others: BTreeMap<Class<'a>, usize>,
 }
 
-impl<'a> Firsts<'a> {
-    /// No derivation.
-    pub(crate) fn new(alloc: Global) -> Firsts<'a> {
-        Firsts {
-            latest: None,
+impl<'a> Known<'a> {
+    /// No class.
+    fn new(alloc: Global) -> Known<'a>
+        ensures { length result.firsts.items ≡ 0 }
+    {
+        Known {
+            firsts: Vec::new(alloc),
+            latest: 0,
             marks: ClassMarks::new(),
             marked: BTreeMap::new(alloc),
             others: BTreeMap::new(alloc),
         }
     }
 
-    /// An earlier derivation of the class of derivation `drv`, if one is known; else this one is known from now
-    /// on.
+    /// The class of derivation `drv`, which is known from now on.
     ///
     /// For the proof: what the maps answer is compared once more, so that nothing has to be said of them.
-    pub(crate) fn meet(
-        &mut self,
-        needs: &'a [Need],
-        drv: usize,
-    ) -> Result<Option<usize>, AllocError>
+    #[tactic(auto, using(crate::proofs::SameClass::meets_known))]
+    fn meet(&mut self, needs: &'a [Need], drv: usize) -> Result<usize, AllocError>
         requires { drv < length needs.now }
-        ensures { IfOk result (λ found. IfSome found (SharesClass needs.now drv)) }
+        ensures { IfOk result (MeetsClass needs.now drv self.old.firsts.items self.new.firsts.items) }
     {
-        if let Some(latest) = self.latest {
-            if shares_class(needs, drv, latest) {
-                return Ok(Some(latest));
-            }
+        let latest = self.latest;
+        if is_of_class(self.firsts.as_slice(), latest, &needs[drv]) {
+            return Ok(latest);
         }
-        self.meet_marked(needs, drv)
+        let class = self.meet_marked(needs, drv)?;
+        self.latest = class;
+        Ok(class)
     }
 
     /// As `meet`, where another class was met last.
-    fn meet_marked(&mut self, needs: &'a [Need], drv: usize) -> Result<Option<usize>, AllocError>
+    #[tactic(auto, using(crate::proofs::SameClass::meets_known))]
+    fn meet_marked(&mut self, needs: &'a [Need], drv: usize) -> Result<usize, AllocError>
         requires { drv < length needs.now }
-        ensures { IfOk result (λ found. IfSome found (SharesClass needs.now drv)) }
+        ensures { IfOk result (MeetsClass needs.now drv self.old.firsts.items self.new.firsts.items) }
     {
         let mark = self.marks.mark(needs, drv);
-        let Some(first) = self.marked.get(&mark) else {
-            self.marked.insert(mark, drv)?;
-            self.latest = Some(drv);
-            return Ok(None);
+        let Some(marked) = self.marked.get(&mark) else {
+            self.marked.insert(mark, self.firsts.len())?;
+            return self.begin(needs, drv);
         };
-        let marked = *first;
-        if shares_class(needs, drv, marked) {
-            self.latest = Some(marked);
-            return Ok(Some(marked));
+        let marked = *marked;
+        if is_of_class(self.firsts.as_slice(), marked, &needs[drv]) {
+            return Ok(marked);
         }
         self.meet_other(needs, drv)
     }
 
     /// As `meet_marked`, where another class has the mark of this one.
-    fn meet_other(&mut self, needs: &'a [Need], drv: usize) -> Result<Option<usize>, AllocError>
+    #[tactic(auto, using(crate::proofs::SameClass::meets_known))]
+    fn meet_other(&mut self, needs: &'a [Need], drv: usize) -> Result<usize, AllocError>
         requires { drv < length needs.now }
-        ensures { IfOk result (λ found. IfSome found (SharesClass needs.now drv)) }
+        ensures { IfOk result (MeetsClass needs.now drv self.old.firsts.items self.new.firsts.items) }
     {
         let need = &needs[drv];
         let class = (&need.system, &need.features);
-        if let Some(first) = self.others.get(&class) {
-            let first = *first;
-            if shares_class(needs, drv, first) {
-                return Ok(Some(first));
+        if let Some(other) = self.others.get(&class) {
+            let other = *other;
+            if is_of_class(self.firsts.as_slice(), other, need) {
+                return Ok(other);
             }
         }
-        self.others.insert(class, drv)?;
-        Ok(None)
+        self.others.insert(class, self.firsts.len())?;
+        self.begin(needs, drv)
+    }
+
+    /// A class of which derivation `drv` is the first.
+    fn begin(&mut self, needs: &'a [Need], drv: usize) -> Result<usize, AllocError>
+        requires { drv < length needs.now }
+        ensures { IfOk result (MeetsClass needs.now drv self.old.firsts.items self.new.firsts.items) }
+    {
+        let class = self.firsts.len();
+        self.firsts.push(&needs[drv])?;
+        Ok(class)
     }
 }
 
-/// Whether derivation `first` is an earlier one of the class of derivation `drv`.
-#[tactic(auto, using(crate::proofs::SameClass::class_shared))]
-fn shares_class(needs: &[Need], drv: usize, first: usize) -> bool
-    requires { drv < length needs.now }
-    ensures { IsTrue result → SharesClass needs.now drv first }
+/// Whether a derivation with this need is of the class with this number, which may be that of no class.
+#[tactic(auto, using(crate::proofs::SameClass::of_class))]
+fn is_of_class(firsts: &[&Need], class: usize, need: &Need) -> bool
+    ensures { IsTrue result → IsOfClass firsts.now need.now class }
 {
-    if first >= drv {
+    if class >= firsts.len() {
         return false;
     }
-    is_same_class(&needs[first], &needs[drv])
+    is_same_class(firsts[class], need)
 }
 
 /// Whether two needs are of one class.

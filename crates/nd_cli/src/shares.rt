@@ -1,13 +1,15 @@
-//! The replies about many derivations, of which many threads make a share each.
+//! The replies about many derivations: one for each class of them, of which many threads make a share each.
 
-ghost use Rattle.std.specs.Prelude.{◌<◌, ℕ, List, IfOk};
-ghost use Rattle.std.specs.List.{AllZip};
+ghost use Rattle.std.specs.Prelude.{◌<◌, ℕ, List, length, IfOk};
+ghost use Rattle.std.specs.List.{All, AllZip};
 ghost use Rattle.nd_machines.specs.Builders.{Builder};
 ghost use Rattle.nd_eligible.specs.Settings.{Settings};
 ghost use Rattle.nd_hook.specs.Idle.{IsIdleReply};
-ghost use Rattle.nd_cli.specs.Shares.{AreShares};
+ghost use Rattle.nd_cli.specs.ClassReplies.{IsClassReply};
+ghost use Rattle.nd_cli.specs.Shares.{AreShares, IsMade};
 
 use crate::asks::replies_about;
+use crate::classes::Classes;
 use nd_eligible::{Local, Need};
 use nd_hook::Reply;
 use nd_machines::Machine;
@@ -15,11 +17,11 @@ use std::alloc::{AllocError, Global};
 use std::num::NonZeroUsize;
 use std::thread::{Threads, available_parallelism, map_chunks};
 
-/// The least share of a thread: the replies about fewer derivations are mostly made before another thread has started.
-const SHARE: usize = 4096;
+/// The least share of a thread: the replies about fewer classes are mostly made before another thread has started.
+const SHARE: usize = 64;
 
-/// The replies about derivations with these needs, in order, where no slot is taken and every machine is up. Those
-/// about more derivations than [`SHARE`] are made by as many threads as there are processors.
+/// The replies about derivations with these needs, in order, where no slot is taken and every machine is up.
+#[tactic(auto, using(crate::proofs::ClassReplying::are_made, crate::proofs::ClassReplying::all_replies))]
 pub(crate) fn replies_side_by_side<R: Threads + Sync>(
     rt: &R,
     alloc: Global,
@@ -29,34 +31,50 @@ pub(crate) fn replies_side_by_side<R: Threads + Sync>(
 ) -> Result<Vec<Reply>, AllocError>
     ensures { IfOk result (λ replies. AllZip (IsIdleReply machines.now local.now) needs.now replies.items) }
 {
-    if needs.len() <= SHARE {
-        return replies_about(alloc, machines, local, needs);
-    }
-    let processors = available_parallelism(rt).map_or(1, NonZeroUsize::get);
-    let size = (needs.len() / processors + 1).max(SHARE);
-    let shares = make_shares(rt, alloc, machines, local, needs, size)?;
-    join_shares(alloc, needs, shares)
+    let classes = Classes::of(alloc, needs)?;
+    let made = class_replies(rt, alloc, machines, local, classes.firsts())?;
+    replies_by_class(alloc, &made, classes.members())
 }
 
-/// The replies about so many derivations each, the last ones perhaps about fewer, made by a thread each.
+/// The replies about some classes, in order. Those about more classes than [`SHARE`] are made by as many threads as
+/// there are processors.
+fn class_replies<R: Threads + Sync>(
+    rt: &R,
+    alloc: Global,
+    machines: &[Machine],
+    local: &Local,
+    firsts: &[&Need],
+) -> Result<Vec<Reply>, AllocError>
+    ensures { IfOk result (λ replies. AllZip (IsClassReply machines.now local.now) firsts.now replies.items) }
+{
+    if firsts.len() <= SHARE {
+        return replies_about(alloc, machines, local, firsts);
+    }
+    let processors = available_parallelism(rt).map_or(1, NonZeroUsize::get);
+    let size = (firsts.len() / processors + 1).max(SHARE);
+    let shares = make_shares(rt, alloc, machines, local, firsts, size)?;
+    join_shares(alloc, firsts, shares)
+}
+
+/// The replies about so many classes each, the last ones perhaps about fewer, made by a thread each.
 fn make_shares<R: Threads + Sync>(
     rt: &R,
     alloc: Global,
     machines: &[Machine],
     local: &Local,
-    needs: &[Need],
+    firsts: &[&Need],
     size: usize,
 ) -> Result<Vec<Result<Vec<Reply>, AllocError>>, AllocError>
     requires { 0 < size }
-    ensures { IfOk result (λ shares. AreShares machines.now local.now size needs.now shares.items) }
+    ensures { IfOk result (λ shares. AreShares machines.now local.now size firsts.now shares.items) }
 {
     map_chunks(
         rt,
         alloc,
-        needs,
+        firsts,
         size,
-        &|_, share: &[Need]| -> Result<Vec<Reply>, AllocError>
-            ensures { IfOk result (λ replies. AllZip (IsIdleReply machines.entry.now local.entry.now) share.entry.now replies.items) }
+        &|_, share: &[&Need]| -> Result<Vec<Reply>, AllocError>
+            ensures { IfOk result (λ replies. AllZip (IsClassReply machines.entry.now local.entry.now) share.entry.now replies.items) }
         { replies_about(alloc, machines, local, share) },
     )
 }
@@ -64,16 +82,33 @@ fn make_shares<R: Threads + Sync>(
 /// All replies in one list.
 fn join_shares(
     alloc: Global,
-    needs: &[Need],
+    firsts: &[&Need],
     shares: Vec<Result<Vec<Reply>, AllocError>>,
 ) -> Result<Vec<Reply>, AllocError>
-    ensures { (machines : List Builder) (local : Settings) (size : ℕ) → AreShares machines local size needs.now shares.items
-        → IfOk result (λ replies. AllZip (IsIdleReply machines local) needs.now replies.items) }
+    ensures { (machines : List Builder) (local : Settings) (size : ℕ) → AreShares machines local size firsts.now shares.items
+        → IfOk result (λ replies. AllZip (IsClassReply machines local) firsts.now replies.items) }
 {
-    let mut replies = Vec::with_capacity(alloc, needs.len())?;
+    let mut replies = Vec::with_capacity(alloc, firsts.len())?;
     for share in shares {
         let mut share = share?;
         replies.append(&mut share)?;
+    }
+    Ok(replies)
+}
+
+/// For each derivation the reply that was made about its class.
+fn replies_by_class(
+    alloc: Global,
+    made: &[Reply],
+    members: &[usize],
+) -> Result<Vec<Reply>, AllocError>
+    requires made { All (λ class. class < length made.now) members.now }
+    ensures { IfOk result (λ replies. AllZip (IsMade made.now) members.now replies.items) }
+{
+    let mut replies = Vec::with_capacity(alloc, members.len())?;
+    for number in 0..members.len() {
+        let class = members[number];
+        replies.push(made[class])?;
     }
     Ok(replies)
 }

@@ -9,6 +9,6 @@ use Rattle.nd_cli.proofs.shares.join_shares.Given as goal
 -- the replies of the shares so far
 abbrev pub invariant-loop-share : goal.invariant-loop-share
 invariant-loop-share l = record {
-  first : (machines : List Builder) (local : Settings) (size : ℕ) → AreShares machines local size l.needs l.fn.shares.items → AreFirst machines local size l.needs (length l.yielded) l.replies.items;
+  first : (machines : List Builder) (local : Settings) (size : ℕ) → AreShares machines local size l.firsts l.fn.shares.items → AreFirst machines local size l.firsts (length l.yielded) l.replies.items;
   whole : l.fn.shares.items ≡ l.yielded ++ into_iter_items l.share-iterator;
 }

@@ -3,7 +3,7 @@ use Rattle.std.specs.List.{All}
 use Rattle.nd_hook.specs.declared.kinds.Reply.{Reply}
 use Rattle.nd_hook.specs.ReplyText.{IsInList}
 use Rattle.nd_cli.proofs.Replying.{all_in_list}
-use Rattle.nd_cli.proofs.asks.write_replies.Goals as goal
+use Rattle.nd_cli.proofs.asks.write_replies_side_by_side.Goals as goal
 
 pub pass_replies-sent-requires : goal.pass_replies-sent-requires
 pass_replies-sent-requires g c = record {
