@@ -2,6 +2,7 @@
 
 mod asking;
 mod blocks;
+mod classes;
 mod devices;
 mod examples;
 mod giving;

@@ -61,6 +61,16 @@ pub(crate) fn options(alloc: Global, park: Park) -> Result<ParkOptions, AllocErr
         info: ByteString::new(Vec::new(alloc)),
     })
 }
+/// The last three digits of a number.
+pub(crate) fn three_digits(number: usize) -> [u8; 3] {
+    let digits = b"0123456789";
+    [
+        digits[number / 100 % 10],
+        digits[number / 10 % 10],
+        digits[number % 10],
+    ]
+}
+
 /// Whether a command answered as it is to, and wrote this.
 pub(crate) fn is_answer(
     alloc: Global,

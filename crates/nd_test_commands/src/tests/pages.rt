@@ -1,6 +1,6 @@
 //! Replies that have more bytes than a page.
 
-use crate::tests::asking::{builders, options};
+use crate::tests::asking::{builders, options, three_digits};
 use nd_cli::{CliFault, ask_engine};
 use nd_devices::Told;
 use nd_test_fixtures::devices::CountedWriter;
@@ -19,12 +19,7 @@ const WRITES: usize = 8;
 
 /// Puts the line of the derivation with this number, which has three digits, behind a text.
 fn push_line(text: &mut Vec<u8>, number: usize) -> Result<(), AllocError> {
-    let digits = b"0123456789";
-    let number = [
-        digits[number / 100 % 10],
-        digits[number / 10 % 10],
-        digits[number % 10],
-    ];
+    let number = three_digits(number);
     text.extend_from_slice(b"/nix/store/00000000000000000000000000000")?;
     text.extend_from_slice(&number)?;
     text.extend_from_slice(b"-n.drv Derive([(\"out\",\"/nix/store/aaaaaaaaaaaaaaaaaaaaaaaaaaaaa")?;
