@@ -109,7 +109,7 @@ fn new_room(alloc: Global, size: usize) -> Result<Vec<u8>, AllocError>
 }
 
 /// Feeds the reader the block that fills the room, and answers room for the next one. That is this room where it is
-/// as large as a block may be, and else one four times as large, which another thread makes meanwhile.
+/// as large as a block may be, and else one eight times as large, which another thread makes meanwhile.
 fn feed_room(
     rt: &(impl Threads + Sync),
     alloc: Global,
@@ -126,7 +126,7 @@ fn feed_room(
         reader.feed(rt, block)?;
         return Ok(room);
     }
-    let size = block.len().saturating_mul(4).min(BLOCK);
+    let size = block.len().saturating_mul(8).min(BLOCK);
     let (next, fed) = join_mut(
         rt,
         &mut || new_room(alloc, size),
