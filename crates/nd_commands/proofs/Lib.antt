@@ -1,3 +1,4 @@
 pub mod Commanded
 pub mod Answering
 pub mod Accepting
+pub mod Beside

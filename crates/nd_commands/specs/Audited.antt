@@ -35,6 +35,12 @@ abbrev pub as_history_error : HistoryTextError → HistoryError
 as_history_error Version = HistoryError.Version
 as_history_error (BadLine n) = HistoryError.BadLine n
 
+-- the program's name for the refusal
+abbrev pub fault_of : HistoryError → CliFault
+fault_of HistoryError.Version = History Version
+fault_of (HistoryError.BadLine n) = History (BadLine n)
+fault_of HistoryError.Memory = Memory
+
 -- Why the history text is refused: it is too large, it has no version, or this is its first bad line. Want of memory is told only of
 -- one that isn't too large.
 abbrev pub IsHistoryFault : List ℕ → CliFault → Type 0

@@ -1,13 +1,15 @@
 -- The dispatch over what a command was given. The engines' clauses cite this, but for `IsOpened`, which those of `open_dispatch` cite,
 -- `AnswersKnownInputs`, which those of `take_dispatch` cite, and `IsMadeOf`, which serves a private one.
-use Rattle.std.specs.Prelude.{◌≡◌, ℕ, Bool, List, [], Option, Some, Result, MatchResult}
+use Rattle.std.specs.Prelude.{◌≡◌, ◌||◌, ℕ, ◌≤◌, Bool, false, List, [], length, Option, Some, Result, MatchResult, IfOk, IfErr}
 use Rattle.nd_machines.specs.Builders.{Builder}
 use Rattle.nd_eligible.specs.Settings.{Settings}
 use Rattle.nd_graph.specs.Graphs.{Nodes}
 use Rattle.nd_devices.specs.Watched.{Watched}
 use Rattle.nd_history.specs.Premises.{Premises, premises}
 use Rattle.nd_ledger.specs.Worlds.{World}
-use Rattle.nd_cli.specs.Inputs.{ReadsWhole}
+use Rattle.nd_cli.specs.Asked.{IsAskFault, ReadsPark}
+use Rattle.nd_cli.specs.Blocks.{AnswersKnownPark}
+use Rattle.nd_cli.specs.Inputs.{ReadsWhole, is_read_failure}
 use Rattle.nd_cli.specs.Parks.{HasPark, local_of}
 use Rattle.nd_cli.specs.Statuses.{exit_status}
 use Rattle.nd_cli.specs.declared.fault.CliFault.{CliFault}
@@ -53,3 +55,12 @@ pub record ReadsInputs (options : ParkOptions) (unread left : Option (List ℕ))
 -- .. of this reader, and they are those of this park
 abbrev pub IsParkGiven : {R : Type 0} → ParkOptions → (R → Option (List ℕ)) → Watched R → Watched R → Park → Type 0
 IsParkGiven options remaining reader reader_after park = ReadsInputs options (remaining reader.device) (remaining reader_after.device) (park_inputs park options.keep_going)
+
+-- what reading the bundle on the input and what the options name answers, and what it leaves of the reader; this serves private clauses
+pub record IsParkTaken {R : Type 0} (options : ParkOptions) (remaining : R → Option (List ℕ)) (reader reader_after : Watched R) (answer : Result Park CliFault) : Type 0 where
+  pub read : IfOk answer (λ park. ReadsPark options (remaining reader.device) (remaining reader_after.device) park.graph park.machines.items park.info.entries)
+  pub local : IfOk answer (λ park. park.local ≡ local_of options)
+  pub few : IfOk answer (λ park. length park.machines.items ≤ 1024)
+  pub fault : IfErr answer (IsAskFault options remaining reader reader_after false)
+  pub mark : reader_after.is_marked ≡ (reader.is_marked || is_read_failure answer)
+  pub exactly : AnswersKnownPark options (remaining reader.device) answer

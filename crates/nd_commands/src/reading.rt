@@ -1,15 +1,16 @@
 //! What `sim` and `audit` are given.
 
-ghost use Rattle.std.specs.Prelude.{◌≡◌, ◌≤◌, ℕ, List, Some, Bool, false, length, IfOk, IfErr};
+ghost use Rattle.std.specs.Prelude.{◌≡◌, ◌≤◌, ℕ, List, Some, Bool, false, length, IfOk, IfErr, IfSome};
 ghost use Rattle.std.specs.List.{All};
-ghost use Rattle.nd_cli.specs.Inputs.{is_read_failure};
+ghost use Rattle.nd_history.specs.declared.entry.Entry.{Entry};
+ghost use Rattle.nd_cli.specs.Inputs.{OkUnlessMemory, is_read_failure};
 ghost use Rattle.nd_cli.specs.Statuses.{RefusesNoInput};
 ghost use Rattle.nd_sim.specs.Answers.{IsNamed};
-ghost use Rattle.nd_commands.specs.Opened.{IsParkGiven};
+ghost use Rattle.nd_commands.specs.Opened.{IsParkGiven, IsParkTaken};
 ghost use Rattle.nd_commands.specs.Simulated.{IsSimAccepted, IsSimGiven, IsSimFault};
-ghost use Rattle.nd_commands.specs.Audited.{HasHistory, IsAuditAccepted, IsAuditFault};
+ghost use Rattle.nd_commands.specs.Audited.{HasHistory, IsHistoryFault, IsAuditAccepted, IsAuditFault};
 
-use crate::history::read_entries;
+use crate::history::{read_entries, read_entries_ahead};
 use crate::opening::{close_dispatch, take_dispatch};
 use crate::script::read_script;
 use nd_cli::{CliFault, Park, ParkOptions, take_park};
@@ -19,7 +20,8 @@ use nd_ledger::Dispatch;
 use nd_script::Command;
 use std::alloc::Global;
 use std::io::Read;
-use std::thread::Threads;
+use std::sync::atomic::{AtomicBool, Ordering};
+use std::thread::{Threads, join_mut};
 
 /// What `sim` is given, once all of it is accepted.
 pub struct SimInputs {
@@ -88,7 +90,67 @@ pub(crate) fn read_audit_inputs<R: Read>(
     ensures exactly { (text : List ℕ) → R.remaining input.old.device ≡ Some text → IsAuditAccepted options.now text history.now → RefusesNoInput result }
     ensures fault { IfErr result (λ e. (writer_marked : Bool) → IsAuditFault options.now history.now R.remaining input.old input.new writer_marked e) }
 {
-    let park = take_park(rt, alloc, options, input)?;
-    let entries = read_entries(alloc, history)?;
+    let (park, ahead) = take_park_beside(rt, alloc, options, history, input);
+    let park = park?;
+    let entries = entries_of(alloc, history, ahead)?;
     Ok(AuditInputs { park, entries })
+}
+
+/// What the bundle on the input and the options describe, as [`take_park`], and what [`read_entries_ahead`] answers of
+/// the history text, which another thread reads meanwhile, until the park is refused.
+fn take_park_beside<R: Read>(
+    rt: &(impl Threads + Sync),
+    alloc: Global,
+    options: &ParkOptions,
+    history: &[u8],
+    input: &mut Told<R>,
+) -> (Result<Park, CliFault>, Option<Result<Vec<Entry>, CliFault>>)
+    ensures park { IsParkTaken options.now R.remaining input.old input.new result.0 }
+    ensures read { IfSome result.1 (λ answer. IfOk answer (λ entries. HasHistory history.now entries.items)) }
+    ensures refused { IfSome result.1 (λ answer. IfErr answer (IsHistoryFault history.now)) }
+    ensures exactly { IfSome result.1 (λ answer. (entries : List Entry) → HasHistory history.now entries → OkUnlessMemory answer (λ read. read.items ≡ entries)) }
+{
+    let stop = AtomicBool::new(false);
+    let (entries, park) = join_mut(
+        rt,
+        &mut || read_entries_ahead(alloc, history, &stop),
+        &mut || take_park_or_stop(rt, alloc, options, input, &stop),
+    );
+    (park, entries)
+}
+
+/// The same as [`take_park`]. Where that refuses, `stop` is set, so that nothing is read any more beside it.
+fn take_park_or_stop<R: Read>(
+    rt: &(impl Threads + Sync),
+    alloc: Global,
+    options: &ParkOptions,
+    input: &mut Told<R>,
+    stop: &AtomicBool,
+) -> Result<Park, CliFault>
+    ensures { IsParkTaken options.now R.remaining input.old input.new result }
+{
+    let park = take_park(rt, alloc, options, input);
+    if park.is_err() {
+        stop.store(true, Ordering::Relaxed);
+    }
+    park
+}
+
+/// The entries of a history text, which may have been read already.
+fn entries_of(
+    alloc: Global,
+    history: &[u8],
+    ahead: Option<Result<Vec<Entry>, CliFault>>,
+) -> Result<Vec<Entry>, CliFault>
+    requires read { IfSome ahead (λ answer. IfOk answer (λ entries. HasHistory history.now entries.items)) }
+    requires refused { IfSome ahead (λ answer. IfErr answer (IsHistoryFault history.now)) }
+    requires exactly { IfSome ahead (λ answer. (entries : List Entry) → HasHistory history.now entries → OkUnlessMemory answer (λ read. read.items ≡ entries)) }
+    ensures read { IfOk result (λ entries. HasHistory history.now entries.items) }
+    ensures refused { IfErr result (IsHistoryFault history.now) }
+    ensures exactly { (entries : List Entry) → HasHistory history.now entries → OkUnlessMemory result (λ read. read.items ≡ entries) }
+{
+    match ahead {
+        Some(answer) => answer,
+        None => read_entries(alloc, history),
+    }
 }

@@ -1,5 +1,6 @@
 //! The tests, by what they are about, and what they share.
 
+mod ahead;
 mod calls;
 mod copies;
 mod devices;

@@ -21,7 +21,7 @@ const ENDINGS_AS_SECOND: &[u8] =
     b"nix-dispatch-history 2\nnobuilder 4294967295\nbuilt 7\nbuilt 3 o /nix/store/pppppppppppppppppppppppppppppppp-s1 /nix/store/qqqqqqqqqqqqqqqqqqqqqqqqqqqqqqqq-s2 o\nfailed 0 status 255\nfailed 1 lost\nfailed 2 references\nfailed 3 noworker\nfailed 10 memory\nstop\n";
 
 /// Whether this is what is written of a history.
-fn is_text_of(alloc: Global, entries: &[Entry], text: &[u8]) -> bool {
+pub fn is_text_of(alloc: Global, entries: &[Entry], text: &[u8]) -> bool {
     let mut out = Told::new(Vec::new(alloc));
     match write_history(entries, &mut out) {
         Ok(()) => out.into_inner().as_slice() == text,

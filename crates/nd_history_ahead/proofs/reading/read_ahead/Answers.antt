@@ -1,0 +1,5 @@
+use Rattle.nd_history_text.proofs.Texts.{one_history}
+use Rattle.nd_history_ahead.proofs.reading.read_ahead.Goals as goal
+
+pub returns-in-Whole-clause-exactly : goal.returns-in-Whole-clause-exactly
+returns-in-Whole-clause-exactly c = λ entries is. one_history c.args.text.now c.in-Whole.entries.items entries c.in-Whole.ensures is
