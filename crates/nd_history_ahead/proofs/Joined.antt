@@ -14,29 +14,32 @@ use Rattle.nd_history_ahead.specs.declared.reading.Progress.{Progress}
 use Rattle.nd_history_ahead.specs.declared.reading.Progress.TheVariants.{Whole}
 
 -- the first line in front of a text is its first 23 bytes
-first_taken : (version : Version) (rest : List ℕ) → take 23 (first_line version ++ rest) ≡ first_line version
+pub first_taken : (version : Version) (rest : List ℕ) → take 23 (first_line version ++ rest) ≡ first_line version
 unfolding first_line
 first_taken First rest = refl
 first_taken Second rest = refl
 
-first_dropped : (version : Version) (rest : List ℕ) → drop 23 (first_line version ++ rest) ≡ rest
+pub first_dropped : (version : Version) (rest : List ℕ) → drop 23 (first_line version ++ rest) ≡ rest
 unfolding first_line
 first_dropped First rest = refl
 first_dropped Second rest = refl
 
-one_version : (v w : Version) → first_line v ≡ first_line w → v ≡ w
+pub one_version : (v w : Version) → first_line v ≡ first_line w → v ≡ w
 unfolding first_line
 one_version First First h = refl
 one_version First Second h = let differ : 49 ≡ 50 = ap (λ (l : List ℕ). get_or l 21 0) h in absurd (omega (arith, differ))
 one_version Second First h = let differ : 50 ≡ 49 = ap (λ (l : List ℕ). get_or l 21 0) h in absurd (omega (arith, differ))
 one_version Second Second h = refl
 
+-- a text that was read begins with the first line of its version
+pub opens : (done first : List ℕ) (entries : List Entry) → take 23 done ≡ first → (reads : IsHistoryText done entries) → first ≡ first_line reads.version
+opens done first entries begins reads = sym begins ∙ ap (take 23) reads.text ∙ first_taken reads.version (flat_map line_of entries)
+
 -- a text, and the lines of another behind the first line that both have
 pub joined : (done first lines : List ℕ) (entries more : List Entry) → take 23 done ≡ first → IsHistoryText done entries → IsHistoryText (first ++ lines) more
     → IsHistoryText (done ++ lines) (entries ++ more)
 joined done first lines entries more begins reads also =
-    let opens : first ≡ first_line reads.version = sym begins ∙ ap (take 23) reads.text ∙ first_taken reads.version (flat_map line_of entries) in
-    let whole : first_line reads.version ++ lines ≡ history_text also.version more = ap (λ (l : List ℕ). l ++ lines) (sym opens) ∙ also.text in
+    let whole : first_line reads.version ++ lines ≡ history_text also.version more = ap (λ (l : List ℕ). l ++ lines) (sym (opens done first entries begins reads)) ∙ also.text in
     let same : first_line reads.version ≡ first_line also.version = sym (first_taken reads.version lines) ∙ ap (take 23) whole ∙ first_taken also.version (flat_map line_of more) in
     let version : also.version ≡ reads.version = one_version also.version reads.version (sym same) in
     let behind : lines ≡ flat_map line_of more = sym (first_dropped reads.version lines) ∙ ap (drop 23) whole ∙ first_dropped also.version (flat_map line_of more) in

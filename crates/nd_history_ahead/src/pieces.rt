@@ -1,7 +1,8 @@
 //! The pieces of a history text.
 
-ghost use Rattle.std.specs.Prelude.{◌≡◌, ◌<◌, ◌++◌, length, IfOk};
-ghost use Rattle.nd_history_text.specs.Sound.{IsHistoryText};
+ghost use Rattle.std.specs.Prelude.{◌≡◌, ◌<◌, ◌++◌, length, IfErr, IfOk};
+ghost use Rattle.nd_history_text.specs.Sound.{IsHistoryText, IsRefused};
+ghost use Rattle.nd_history_ahead.specs.Ahead.{IsEndedBefore};
 
 use nd_bytes::cut;
 use nd_history::Entry;
@@ -12,6 +13,7 @@ use std::alloc::Global;
 pub(crate) fn cut_behind(text: &[u8], least: usize) -> (&[u8], &[u8])
     ensures parts { text.now ≡ result.0.now ++ result.1.now }
     ensures shorter { 0 < length text.now → length result.1.now < length text.now }
+    ensures ended { IsEndedBefore result.0.now result.1.now }
 {
     if text.len() <= least {
         return (text, &[]);
@@ -31,7 +33,8 @@ pub(crate) fn read_lines(
     first: &[u8],
     lines: &[u8],
 ) -> Result<Vec<Entry>, HistoryError>
-    ensures { IfOk result (λ entries. IsHistoryText (first.now ++ lines.now) entries.items) }
+    ensures read { IfOk result (λ entries. IsHistoryText (first.now ++ lines.now) entries.items) }
+    ensures refused { IfErr result (IsRefused (first.now ++ lines.now)) }
 {
     let mut text = Vec::with_capacity(alloc, first.len().saturating_add(lines.len()))?;
     text.extend_from_slice(first)?;

@@ -1,10 +1,10 @@
 //! Reading a history text until it is told to stop.
 
-ghost use Rattle.std.specs.Prelude.{◌≡◌, ℕ, List, true, IfErr, IfOk, IfSome, MatchResult};
+ghost use Rattle.std.specs.Prelude.{◌≡◌, ◌++◌, List, IfErr, IfOk, IfSome, MatchResult, OnOk};
 ghost use Rattle.nd_history.specs.declared.entry.Entry.{Entry};
 ghost use Rattle.nd_history_text.specs.declared.history_error.HistoryError.{HistoryError};
 ghost use Rattle.nd_history_text.specs.Sound.{IsHistoryText, IsRefused};
-ghost use Rattle.nd_history_ahead.specs.Ahead.{IsReadFrom, IsReadTo, TakesLines};
+ghost use Rattle.nd_history_ahead.specs.Ahead.{IsMoved, IsReadFrom, IsReadTo, TakesLines};
 
 use crate::pieces::{cut_behind, read_lines};
 use nd_history::Entry;
@@ -26,14 +26,15 @@ const FIRST_LINE: usize = 23;
 enum Progress {
     /// To its end: these are its entries.
     Whole(Vec<Entry>),
-    /// To a piece that couldn't be read.
-    Refused,
+    /// To where it is refused so.
+    Refused(HistoryError),
     /// To where it was told to stop.
     Stopped,
 }
 
 /// What [`read_history`] answers about the text, or `None` where `stop` was set before the text was read to its end. It
-/// is looked at before each piece of 1 MiB.
+/// is looked at before each piece of 1 MiB behind the first 64 KiB. A path that stands in several pieces has its bytes
+/// once for each.
 pub fn read_ahead(
     alloc: Global,
     text: &[u8],
@@ -45,18 +46,19 @@ pub fn read_ahead(
 {
     match read_pieces(alloc, text, stop) {
         Progress::Whole(entries) => Some(Ok(entries)),
-        Progress::Refused => Some(read_history(alloc, text)),
+        Progress::Refused(fault) => Some(Err(fault)),
         Progress::Stopped => None,
     }
 }
 
 /// Reads the text piece by piece.
+#[tactic(auto, using(crate::proofs::Joined::read_from))]
 fn read_pieces(alloc: Global, text: &[u8], stop: &AtomicBool) -> Progress
     ensures { IsReadTo text.now result }
 {
     let (front, rest) = cut_behind(text, FIRST);
     if front.len() < FIRST_LINE {
-        return Progress::Refused;
+        return read_alone(alloc, text);
     }
     let (first, _) = front.split_at(FIRST_LINE);
     match read_history(alloc, front) {
@@ -65,7 +67,17 @@ fn read_pieces(alloc: Global, text: &[u8], stop: &AtomicBool) -> Progress
             make_room(&mut entries, front.len(), rest.len());
             read_on(alloc, first, rest, entries, stop)
         }
-        Err(_) => Progress::Refused,
+        Err(_) => read_alone(alloc, text),
+    }
+}
+
+/// Reads a text whose front is no history's at once, since it is refused within that.
+fn read_alone(alloc: Global, text: &[u8]) -> Progress
+    ensures { IsReadTo text.now result }
+{
+    match read_history(alloc, text) {
+        Ok(entries) => Progress::Whole(entries),
+        Err(fault) => Progress::Refused(fault),
     }
 }
 
@@ -96,24 +108,43 @@ fn read_on(
             return Progress::Stopped;
         }
         let (piece, behind) = cut_behind(rest, PIECE);
-        if !take_lines(alloc, first, piece, &mut entries) {
-            return Progress::Refused;
+        let before = entries.as_slice().len();
+        match take_lines(alloc, first, piece, &mut entries) {
+            Ok(()) => rest = behind,
+            Err(fault) => return refused_behind(fault, before),
         }
-        rest = behind;
     }
     Progress::Whole(entries)
 }
 
-/// Adds the entries of these lines, and says whether they could be read and added.
-fn take_lines(alloc: Global, first: &[u8], lines: &[u8], entries: &mut Vec<Entry>) -> bool
-    ensures { result ≡ true → TakesLines first.now lines.now entries.old.items entries.new.items }
+/// Adds the entries of these lines, which stand behind this first line in their version.
+///
+/// Refuses as `read_history` does their text, behind the first line alone. Then nothing is added.
+fn take_lines(
+    alloc: Global,
+    first: &[u8],
+    lines: &[u8],
+    entries: &mut Vec<Entry>,
+) -> Result<(), HistoryError>
+    ensures taken { OnOk result (TakesLines first.now lines.now entries.old.items entries.new.items) }
+    ensures refused { IfErr result (IsRefused (first.now ++ lines.now)) }
 {
-    let Ok(more) = read_lines(alloc, first, lines) else {
-        return false;
-    };
-    let mut more = more;
-    match entries.append(&mut more) {
-        Ok(()) => true,
-        Err(_) => false,
+    let mut more = read_lines(alloc, first, lines)?;
+    entries.append(&mut more)?;
+    Ok(())
+}
+
+/// The refusal of a text in which the lines of so many entries stand before a piece that is refused so.
+fn refused_behind(fault: HistoryError, entries: usize) -> Progress
+    ensures { IsMoved fault entries result }
+{
+    match fault {
+        HistoryError::Version => Progress::Refused(HistoryError::Version),
+        HistoryError::BadLine(line) => match line.checked_add(entries) {
+            Some(line) => Progress::Refused(HistoryError::BadLine(line)),
+            // For the proof: no text has so many lines.
+            None => Progress::Stopped,
+        },
+        HistoryError::Memory => Progress::Refused(HistoryError::Memory),
     }
 }
