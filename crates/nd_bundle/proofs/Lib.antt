@@ -12,5 +12,6 @@ pub mod Placed
 pub mod Pooled
 pub mod ReadAhead
 pub mod Taken
+pub mod Tasks
 pub mod Told
 pub mod Zipped

@@ -1,6 +1,6 @@
 -- What was read of a text that comes in parts, put together.
-use Rattle.std.proofs.Common.{◌≡◌, ℕ, ◌+◌, Bool, List, [], ◌∷◌, ◌++◌, length, map, Option, Some, None, Result, Ok, refl, sym, ap, ◌∙◌, subst, append_assoc}
-use Rattle.std.proofs.lemmas.List.{append-nil}
+use Rattle.std.proofs.Common.{◌≡◌, ℕ, zero, suc, ◌+◌, ◌-◌, ◌≤◌, Bool, List, [], ◌∷◌, ◌++◌, drop, drop_at, length, length-append, map, take, take-take, take_at, Option, Some, None, Result, Ok, refl, sym, ap, arith, ◌∙◌, subst, append_assoc}
+use Rattle.std.proofs.lemmas.List.{append-nil, drop-take}
 use Rattle.std.specs.List.{AllZip}
 use Rattle.std.specs.declared.alloc.AllocError.{AllocError}
 use Rattle.nd_graph.specs.Walks.{AreDistinct}
@@ -220,20 +220,40 @@ goes_within check text old new none same grown = record {
       ∙ ap (λ (xs : List ℕ). far.ls ++ lines xs) (sym (append_assoc old.rest.items text behind)) ∙ ap (λ (xs : List ℕ). far.ls ++ lines (xs ++ behind)) (sym grown));
 }
 
-pub read_behind : (check : Bool) (text : List ℕ) (old new : Progress) (front rest : List ℕ) → old.rest.items ≡ [] → text ≡ front ++ rest → HasWholeLines front → ReadsLines check front old.ahead new.ahead → new.rest.items ≡ old.rest.items ++ rest
-    → IsReadBehind check text old new
-read_behind check text old new front rest empty parts whole reads grown = record {
+at_most : (n : ℕ) (xs : List ℕ) → length (take n xs) ≤ n
+at_most zero xs = omega arith
+at_most (suc n) [] = omega arith
+at_most (suc n) (x ∷ xs) = let h = at_most n xs in omega (arith, h)
+
+-- what is behind a place of the first bytes of a room
+pub behind_in : (room : List ℕ) (from filled : ℕ) → from ≤ filled → drop from (take filled room) ≡ take (filled - from) (drop from room)
+behind_in room from filled order = ap (λ (n : ℕ). drop from (take n room)) (omega (arith, order)) ∙ drop-take from (filled - from) room
+
+-- the part of the room that has the whole lines
+whole_part : (room front rest : List ℕ) (from to filled : ℕ) → from ≤ filled → to ≡ from + length front → drop from (take filled room) ≡ front ++ rest → drop from (take to room) ≡ front
+whole_part room front rest from to filled order is parts =
+    let left : ℕ = filled - from in
+    let behind : List ℕ = drop from room in
+    let here : take left behind ≡ front ++ rest = sym (behind_in room from filled order) ∙ parts in
+    let fits : length front ≤ left = omega (arith, at_most left behind, ap (λ (xs : List ℕ). length xs) here, length-append front rest) in
+    ap (λ (n : ℕ). drop from (take n room)) is ∙ drop-take from (length front) room ∙ sym (take-take (length front) left behind fits) ∙ ap (λ (xs : List ℕ). take (length front) xs) here ∙ take_at front rest (length front) refl
+
+pub read_behind : (check : Bool) (room : List ℕ) (old new : Progress) (front rest : List ℕ) (from to filled : ℕ) → old.rest.items ≡ [] → from ≤ filled → to ≡ from + length front → drop from (take filled room) ≡ front ++ rest → HasWholeLines front
+    → ReadsLines check (drop from (take to room)) old.ahead new.ahead → new.rest.items ≡ old.rest.items ++ rest → IsReadBehind check (drop from (take filled room)) old new
+read_behind check room old new front rest from to filled empty order is parts whole reads grown = record {
   front = front;
   parts = parts ∙ ap (λ (xs : List ℕ). front ++ xs) (sym (grown ∙ ap (λ (xs : List ℕ). xs ++ rest) empty));
   whole = whole;
-  lines_on = reads;
+  lines_on = subst (λ (xs : List ℕ). ReadsLines check xs old.ahead new.ahead) (whole_part room front rest from to filled order is parts) reads;
 }
 
 -- the text has a newline
-pub goes_lines : (check : Bool) (text : List ℕ) (old mid new : Progress) (end behind : List ℕ) → old.ahead.found.refused ≡ None → text ≡ end ++ behind → IsLineEnd end → ReadsLines check (old.rest.items ++ end) old.ahead mid.ahead → IsReadBehind check behind mid new
-    → GoesOn check text old new
-goes_lines check text old mid new end behind none parts ended reads more = record {
+pub goes_lines : (check : Bool) (text : List ℕ) (old mid new : Progress) (end behind : List ℕ) (from : ℕ) → old.ahead.found.refused ≡ None → text ≡ end ++ behind → from ≡ length end → IsLineEnd end → ReadsLines check (old.rest.items ++ end) old.ahead mid.ahead
+    → IsReadBehind check (drop from text) mid new → GoesOn check text old new
+goes_lines check text old mid new end behind from none parts is ended reads far_on = record {
   goes = λ before so.
+      let at : drop from text ≡ behind = ap (λ (n : ℕ). drop n text) is ∙ ap (λ (xs : List ℕ). drop (length end) xs) parts ∙ drop_at end behind (length end) refl in
+      let more : IsReadBehind check behind mid new = subst (λ (xs : List ℕ). IsReadBehind check xs mid new) at far_on in
       let far = as_far check before old none so in
       let rest : List ℕ = old.rest.items in
       let left : List ℕ = new.rest.items in
@@ -274,6 +294,16 @@ fault_before check progress fault is = record {
 
 pub fault_of_memory : (check : Bool) (progress : Progress) (fault : GraphError) → fault ≡ bundle.Memory → IsFaultBy check progress fault
 fault_of_memory check progress fault is = record { first = λ text so. fault_for_memory check text fault is }
+
+-- ---- a whole text
+
+pub all_said : (check : Bool) (text : List ℕ) (pieces : List (Result Piece AllocError)) (nowhere found : Found) (numbered : Numbered) → IsFoundNowhere nowhere → ArePieces check text pieces → TakesAll nowhere pieces found → IsFoundNumbered found numbered → SayNumbered check (lines text) numbered
+all_said check text pieces nowhere found numbered none are takes by =
+    by.says check (lines text) (subst (λ (xs : List (List ℕ)). IsFoundIn check xs found) are.are (takes.taken check [] are.texts (none.nowhere check) are.read))
+
+pub first_refused : (check : Bool) (text : List ℕ) (pieces : List (Result Piece AllocError)) (nowhere found : Found) (fault : GraphError) → IsFoundNowhere nowhere → ArePieces check text pieces → TakesAll nowhere pieces found → IsFoundFault found fault → IsFirstFault check text fault
+first_refused check text pieces nowhere found fault none are takes by =
+    by.first check text (subst (λ (xs : List (List ℕ)). IsFoundIn check xs found) are.are (takes.taken check [] are.texts (none.nowhere check) are.read))
 
 -- ---- what the reader shows
 

@@ -14,6 +14,8 @@ use Rattle.nd_bundle.specs.declared.found.Numbered.{Numbered}
 use Rattle.nd_bundle.specs.declared.number.Numbers.{Numbers}
 use Rattle.nd_bundle.specs.declared.piece.Piece.{Piece}
 use Rattle.nd_bundle.specs.declared.progress.Progress.{Progress}
+use Rattle.nd_bundle.specs.declared.task.Task.{Task}
+use Rattle.nd_bundle.specs.declared.task.Task.TheVariants.{Done, Running}
 
 -- the first refusal of each text whose lines begin with these
 pub record IsFaultOf (check : Bool) (ls : List (List ℕ)) (fault : GraphError) : Type 0 where
@@ -54,13 +56,22 @@ pub record IsFoundNumbered (found : Found) (numbered : Numbered) : Type 0 where
 pub record IsFoundFault (found : Found) (fault : GraphError) : Type 0 where
   pub first : (check : Bool) (text : List ℕ) → IsFoundIn check (lines text) found → IsFirstFault check text fault
 
--- what was found in the first of these lines, and what was read of the others
+-- what is read of this text, or will be
+abbrev pub IsTask : Bool → List ℕ → Task → Type 0
+IsTask check text (Done read) = IsReadText check text read
+IsTask check text (Running handle) = (handle.promise.check ≡ check) × (handle.promise.text.value ≡ text)
+
+-- whatever text the task is the reading of, this was read of it
+pub record IsEndOf (task : Task) (read : Result Piece AllocError) : Type 0 where
+  pub ends : (check : Bool) (text : List ℕ) → IsTask check text task → IsReadText check text read
+
+-- what was found in the first of these lines, and what is read of the others
 pub record IsReadInParts (check : Bool) (ls : List (List ℕ)) (ahead : Ahead) : Type 0 where
   pub front : List (List ℕ)
   pub texts : List (List ℕ)
   pub parts : ls ≡ front ++ lines_in texts
   pub found : IsFoundIn check front ahead.found
-  pub read : AllZip (IsReadText check) texts ahead.pieces.items
+  pub read : AllZip (IsTask check) texts ahead.tasks.items
 
 -- .. or they have this refusal
 abbrev pub IsReadTo : Bool → List (List ℕ) → Ahead → Option GraphError → Type 0
@@ -82,6 +93,10 @@ pub record StaysRead (old new : Ahead) : Type 0 where
 -- the lines of this text were read behind those before
 pub record ReadsLines (check : Bool) (text : List ℕ) (old new : Ahead) : Type 0 where
   pub on : (ls : List (List ℕ)) → IsReadIn check ls old → IsReadIn check (ls ++ lines text) new
+
+-- the lines of this task's text are read behind those before
+pub record ReadsTask (task : Task) (old new : Ahead) : Type 0 where
+  pub on : (check : Bool) (text : List ℕ) → IsTask check text task → ReadsLines check text old new
 
 -- whatever lines were read, they say this
 pub record IsReadNumbered (ahead : Ahead) (numbered : Numbered) : Type 0 where

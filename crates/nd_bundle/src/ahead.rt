@@ -1,25 +1,28 @@
-//! What was found in the lines of a bundle, of which the last ones were read ahead.
+//! What was found in the lines of a bundle, of which the last ones are read ahead.
 
-ghost use Rattle.std.specs.Prelude.{◌≡◌, None, IfErr, IfOk, OnOk};
-ghost use Rattle.nd_bundle.specs.Bundles.{IsFirstFault};
-ghost use Rattle.nd_bundle.specs.Columned.{SayNumbered};
-ghost use Rattle.nd_bundle.specs.Lines.{lines};
-ghost use Rattle.nd_bundle.specs.Parts.{ArePieces, IsReadFault, IsReadNowhere, IsReadNumbered, ReadsLines, StaysRead, TakesAll};
+ghost use Rattle.std.specs.Prelude.{◌≡◌, ◌+◌, ◌<◌, [], None, IfErr, IfOk, OnOk};
+ghost use Rattle.std.specs.VecDeque.{deque_len};
+ghost use Rattle.nd_bundle.specs.Parts.{IsReadFault, IsReadNowhere, IsReadNumbered, ReadsLines, ReadsTask, StaysRead};
 
-use crate::collect::{is_short, read_piece, read_pieces};
+use crate::collect::{is_short, read_piece};
 use crate::fault::GraphError;
 use crate::found::{Found, Numbered};
-use crate::piece::Piece;
+use crate::part::Part;
+use crate::task::Task;
+use rayon::current_num_threads;
 use std::alloc::{AllocError, Global};
-use std::mem;
-use std::thread::{Threads, join};
+use std::collections::VecDeque;
+use std::thread::Threads;
 
-/// What was found in lines of a bundle, and what was read of pieces behind these, which isn't taken yet: one thread
-/// takes it while others read on.
+/// What was found in lines of a bundle, and the reading of pieces behind these, which aren't taken yet: threads read
+/// them while this one takes what others have read, and more of the input comes.
 #[derive(Drop)]
 pub(crate) struct Ahead {
     pub found: Found,
-    pub pieces: Vec<Result<Piece, AllocError>>,
+    pub tasks: VecDeque<Task>,
+    /// How many pieces may be left to be taken: for each processor one that a thread reads, and the line before it.
+    /// None until a thread was started.
+    pub most: usize,
 }
 
 impl Ahead {
@@ -30,14 +33,16 @@ impl Ahead {
     {
         Ahead {
             found: Found::new(alloc),
-            pieces: Vec::new(alloc),
+            tasks: VecDeque::new(alloc),
+            most: 0,
         }
     }
 
-    /// Reads a line, or few, by this thread. They aren't taken yet.
-    #[tactic(auto, using(crate::proofs::ReadAhead::reads_settled))]
+    /// Reads a line, or few, by this thread.
+    #[tactic(auto, using(crate::proofs::ReadAhead::reads_line))]
     pub(crate) fn read_line(
         &mut self,
+        rt: &impl Threads,
         alloc: Global,
         text: &[u8],
         check: bool,
@@ -45,172 +50,128 @@ impl Ahead {
         requires { self.old.found.refused ≡ None }
         ensures { OnOk result (ReadsLines check text.now self.old self.new) }
     {
-        self.add_piece(alloc, text, check)?;
-        self.settle(alloc)
-    }
-
-    /// Reads a piece, which isn't looked at yet.
-    #[tactic(auto, using(crate::proofs::ReadAhead::reads_piece))]
-    fn add_piece(&mut self, alloc: Global, text: &[u8], check: bool) -> Result<(), AllocError>
-        requires { self.old.found.refused ≡ None }
-        ensures { OnOk result (ReadsLines check text.now self.old self.new) }
-    {
-        self.pieces.push(read_piece(alloc, text, check))?;
+        self.add(rt, Task::Done(read_piece(alloc, text, check)))?;
         Ok(())
     }
 
-    /// Reads the lines of the text behind those before, unless one of these is refused: by this thread where the
-    /// text hasn't enough for two, and else by many threads. With `check` each line's path has to be the text path
-    /// of its derivation.
+    /// Reads lines behind those before, unless one of these is refused: by this thread where the bundle hasn't
+    /// enough for two, and else by a thread of their own. With `check` each line's path has to be the text path of its
+    /// derivation. Answers a room that isn't needed any more, if there is one.
     #[tactic(auto, using(crate::proofs::ReadAhead::reads_none))]
-    pub(crate) fn read_lines<R: Threads + Sync>(
+    pub(crate) fn read_part(
         &mut self,
-        rt: &R,
+        rt: &impl Threads,
         alloc: Global,
-        text: &[u8],
+        part: Part,
         check: bool,
-    ) -> Result<(), AllocError>
-        ensures { OnOk result (ReadsLines check text.now self.old self.new) }
+    ) -> Result<Option<Vec<u8>>, AllocError>
+        ensures { OnOk result (ReadsLines check part self.old self.new) }
     {
         match self.found.refused {
-            Some(_) => Ok(()),
+            Some(_) => Ok(Some(part.into_room())),
             None => {
-                if is_short(text) {
-                    return self.read_short(alloc, text, check);
+                if self.most == 0 && is_short(part.text()) {
+                    self.read_line(rt, alloc, part.text(), check)?;
+                    return Ok(Some(part.into_room()));
                 }
-                self.read_long(rt, alloc, text, check)
+                self.start(rt, alloc, part, check)
             }
         }
     }
 
-    /// Reads the lines of a short text by this thread, and takes all.
-    #[tactic(auto, using(crate::proofs::ReadAhead::reads_settled))]
-    fn read_short(&mut self, alloc: Global, text: &[u8], check: bool) -> Result<(), AllocError>
+    /// Has a thread read the lines.
+    fn start(
+        &mut self,
+        rt: &impl Threads,
+        alloc: Global,
+        part: Part,
+        check: bool,
+    ) -> Result<Option<Vec<u8>>, AllocError>
         requires { self.old.found.refused ≡ None }
-        ensures { OnOk result (ReadsLines check text.now self.old self.new) }
+        ensures { OnOk result (ReadsLines check part self.old self.new) }
     {
-        self.add_piece(alloc, text, check)?;
-        self.take_pieces(alloc)
+        self.count_threads(rt);
+        let task = Task::start(rt, alloc, part, check);
+        self.add(rt, task)
     }
 
-    /// Reads the lines of a long text by many threads. They aren't taken yet.
-    #[tactic(auto, using(crate::proofs::ReadAhead::reads_settled))]
-    fn read_long<R: Threads + Sync>(
-        &mut self,
-        rt: &R,
-        alloc: Global,
-        text: &[u8],
-        check: bool,
-    ) -> Result<(), AllocError>
-        requires { self.old.found.refused ≡ None }
-        ensures { OnOk result (ReadsLines check text.now self.old self.new) }
+    /// Lets as many pieces be read ahead as there are processors for.
+    fn count_threads(&mut self, rt: &impl Threads)
+        ensures found { self.new.found ≡ self.old.found }
+        ensures tasks { self.new.tasks ≡ self.old.tasks }
     {
-        self.read_beside(rt, alloc, text, check)?;
-        self.settle(alloc)
+        if self.most == 0 {
+            self.most = current_num_threads(rt).saturating_mul(2);
+        }
     }
 
-    /// Reads the lines of the text by many threads, while this thread takes what was read before.
-    #[tactic(auto, using(crate::proofs::ReadAhead::reads_pieces))]
-    fn read_beside<R: Threads + Sync>(
-        &mut self,
-        rt: &R,
-        alloc: Global,
-        text: &[u8],
-        check: bool,
-    ) -> Result<(), AllocError>
+    /// Adds a piece behind the others, and takes the first one where there are too many. Answers a room that isn't
+    /// needed any more, if there is one.
+    #[tactic(auto, using(crate::proofs::ReadAhead::adds_task))]
+    fn add(&mut self, rt: &impl Threads, task: Task) -> Result<Option<Vec<u8>>, AllocError>
         requires { self.old.found.refused ≡ None }
-        ensures { OnOk result (ReadsLines check text.now self.old self.new) }
+        ensures { OnOk result (ReadsTask task self.old self.new) }
     {
-        let found = mem::replace(&mut self.found, Found::new(alloc));
-        let pieces = mem::replace(&mut self.pieces, Vec::new(alloc));
-        let (read, taken) = join(
-            rt,
-            move || -> Result<Vec<Result<Piece, AllocError>>, AllocError>
-                ensures { IfOk result (λ pieces. ArePieces check text.entry.now pieces.items) }
-            { read_pieces(rt, alloc, text, check) },
-            move || -> Result<Found, AllocError>
-                ensures { IfOk result (TakesAll found pieces.items) }
-            { found.with(pieces) },
-        );
-        self.found = taken?;
-        self.pieces = read?;
+        self.tasks.push_back(task)?;
+        if self.tasks.len() <= self.most {
+            return Ok(None);
+        }
+        self.take_first(rt)
+    }
+
+    /// Takes the first piece once it is read, unless a line before it is refused. Answers the room that its text stood
+    /// in, if it had one.
+    #[tactic(auto, using(crate::proofs::ReadAhead::stays_same, crate::proofs::ReadAhead::passes_task))]
+    fn take_first(&mut self, rt: &impl Threads) -> Result<Option<Vec<u8>>, AllocError>
+        ensures stays { OnOk result (StaysRead self.old self.new) }
+        ensures fewer { 0 < deque_len self.old.tasks → OnOk result (deque_len self.new.tasks + 1 ≡ deque_len self.old.tasks) }
+    {
+        match self.tasks.pop_front() {
+            None => Ok(None),
+            Some(task) => {
+                let (read, room) = task.end(rt);
+                match self.found.refused {
+                    Some(_) => Ok(room),
+                    None => {
+                        self.found.take(read)?;
+                        Ok(room)
+                    }
+                }
+            }
+        }
+    }
+
+    /// Takes all pieces, each once it is read.
+    #[tactic(auto, using(crate::proofs::ReadAhead::stays_on))]
+    fn take_all(&mut self, rt: &impl Threads) -> Result<(), AllocError>
+        ensures stays { OnOk result (StaysRead self.old self.new) }
+        ensures all { OnOk result (self.new.tasks.items ≡ []) }
+    {
+        'taking: while !self.tasks.is_empty() {
+            self.take_first(rt)?;
+        }
         Ok(())
     }
 
-    /// Takes what was read ahead where some of it is refused, so that nothing is read behind that.
-    #[tactic(auto, using(crate::proofs::ReadAhead::stays_read))]
-    fn settle(&mut self, alloc: Global) -> Result<(), AllocError>
-        ensures { OnOk result (StaysRead self.old self.new) }
-    {
-        if are_clean(self.pieces.as_slice()) {
-            return Ok(());
-        }
-        self.take_pieces(alloc)
-    }
-
-    /// Takes what was read ahead, unless a line before it is refused.
-    #[tactic(auto, using(crate::proofs::ReadAhead::stays_read, crate::proofs::ReadAhead::takes_pieces))]
-    fn take_pieces(&mut self, alloc: Global) -> Result<(), AllocError>
-        ensures { OnOk result (StaysRead self.old self.new) }
-    {
-        match self.found.refused {
-            Some(_) => Ok(()),
-            None => {
-                let pieces = mem::replace(&mut self.pieces, Vec::new(alloc));
-                self.found.take_all(pieces)
-            }
+    /// Waits until no thread reads any more, and forgets what they read.
+    pub(crate) fn stop(self, rt: &impl Threads) {
+        for task in self.tasks {
+            drop(task.end(rt));
         }
     }
 
     /// What the lines say with their paths numbered, or the first refusal.
-    #[tactic(auto, using(crate::proofs::ReadAhead::refused_before, crate::proofs::ReadAhead::read_numbered, crate::proofs::ReadAhead::read_fault))]
-    pub(crate) fn into_numbered(self) -> Result<Numbered, GraphError>
+    #[tactic(auto, using(crate::proofs::ReadAhead::read_numbered, crate::proofs::ReadAhead::read_fault))]
+    pub(crate) fn into_numbered(self, rt: &impl Threads) -> Result<Numbered, GraphError>
         ensures ok { IfOk result (IsReadNumbered self) }
         ensures err { IfErr result (IsReadFault self) }
     {
-        let Ahead { found, pieces } = self;
-        match found.refused {
-            Some(fault) => Err(fault),
-            None => {
-                let found = found.with(pieces)?;
-                // For the proof: each clause of the answer is met where the answer is known.
-                match found.into_numbered() {
-                    Ok(numbered) => Ok(numbered),
-                    Err(fault) => Err(fault),
-                }
-            }
+        let mut ahead = self;
+        ahead.take_all(rt)?;
+        // For the proof: each clause of the answer is met where the answer is known.
+        match ahead.found.into_numbered() {
+            Ok(numbered) => Ok(numbered),
+            Err(fault) => Err(fault),
         }
     }
-}
-
-/// What the lines of the text say, in order, or the refusal of the first that has one, or of the first whose path an
-/// earlier one has; read as by [`Ahead::read_lines`].
-#[tactic(auto, using(crate::proofs::ReadAhead::all_said, crate::proofs::ReadAhead::first_refused, crate::proofs::Parted::fault_for_memory))]
-pub(crate) fn read_lines_side_by_side(
-    rt: &(impl Threads + Sync),
-    alloc: Global,
-    text: &[u8],
-    check: bool,
-) -> Result<Numbered, GraphError>
-    ensures ok { IfOk result (SayNumbered check (lines text.now)) }
-    ensures err { IfErr result (IsFirstFault check text.now) }
-{
-    let mut ahead = Ahead::new(alloc);
-    ahead.read_lines(rt, alloc, text, check)?;
-    ahead.into_numbered()
-}
-
-/// Whether all lines of the pieces were read, and none was refused.
-fn are_clean(pieces: &[Result<Piece, AllocError>]) -> bool {
-    for read in pieces {
-        match read {
-            Ok(piece) => {
-                if piece.refused.is_some() {
-                    return false;
-                }
-            }
-            Err(_) => return false,
-        }
-    }
-    true
 }

@@ -5,8 +5,8 @@ ghost use Rattle.nd_bundle.specs.declared.fault.GraphError.{GraphError};
 ghost use Rattle.nd_bundle.specs.Bundles.{IsBundle, IsFirstFault};
 ghost use Rattle.nd_graph.specs.Graphs.{Nodes};
 
-use crate::ahead::read_lines_side_by_side;
 use crate::fault::GraphError;
+use crate::found::read_lines_side_by_side;
 use crate::whole::graph_side_by_side;
 use nd_graph::Graph;
 use std::alloc::Global;

@@ -1,8 +1,12 @@
 //! What was found in the lines of a bundle.
 
 ghost use Rattle.std.specs.Prelude.{◌≡◌, Ok, None, IfErr, IfOk, OnOk};
+ghost use Rattle.nd_bundle.specs.Bundles.{IsFirstFault};
+ghost use Rattle.nd_bundle.specs.Columned.{SayNumbered};
+ghost use Rattle.nd_bundle.specs.Lines.{lines};
 ghost use Rattle.nd_bundle.specs.Parts.{IsFoundFault, IsFoundNowhere, IsFoundNumbered, Takes, TakesAll};
 
+use crate::collect::read_pieces;
 use crate::columns::Columns;
 use crate::details::Details;
 use crate::fault::GraphError;
@@ -11,6 +15,7 @@ use crate::piece::Piece;
 use indexmap::IndexSet;
 use nd_path::StorePath;
 use std::alloc::{AllocError, Global};
+use std::thread::Threads;
 
 /// What was found in lines of a bundle: what they say, or the first refusal. Behind a refusal nothing is taken
 /// any more, and the lists have what stands before it.
@@ -41,20 +46,8 @@ impl Found {
         }
     }
 
-    /// The same with what was read of pieces behind its lines.
-    pub(crate) fn with(self, pieces: Vec<Result<Piece, AllocError>>) -> Result<Found, AllocError>
-        ensures { IfOk result (TakesAll self pieces.items) }
-    {
-        let mut found = self;
-        found.take_all(pieces)?;
-        Ok(found)
-    }
-
     /// Takes what was read of pieces of a text, and makes room for it at once.
-    pub(crate) fn take_all(
-        &mut self,
-        pieces: Vec<Result<Piece, AllocError>>,
-    ) -> Result<(), AllocError>
+    fn take_all(&mut self, pieces: Vec<Result<Piece, AllocError>>) -> Result<(), AllocError>
         ensures { OnOk result (TakesAll self.old pieces.items self.new) }
     {
         self.details.reserve(count_nodes(pieces.as_slice()))?;
@@ -74,7 +67,7 @@ impl Found {
 
     /// Takes what was read of a piece, unless a line before it is refused.
     #[tactic(auto, using(crate::proofs::Parted::passes))]
-    fn take(&mut self, read: Result<Piece, AllocError>) -> Result<(), AllocError>
+    pub(crate) fn take(&mut self, read: Result<Piece, AllocError>) -> Result<(), AllocError>
         ensures { OnOk result (Takes self.old read self.new) }
     {
         match self.refused {
@@ -121,6 +114,24 @@ impl Found {
             },
         }
     }
+}
+
+/// What the lines of the text say, in order, or the refusal of the first that has one, or of the first whose path an
+/// earlier one has; read by many threads where the text has enough for two.
+#[tactic(auto, using(crate::proofs::Parted::all_said, crate::proofs::Parted::first_refused, crate::proofs::Parted::fault_for_memory))]
+pub(crate) fn read_lines_side_by_side(
+    rt: &(impl Threads + Sync),
+    alloc: Global,
+    text: &[u8],
+    check: bool,
+) -> Result<Numbered, GraphError>
+    ensures ok { IfOk result (SayNumbered check (lines text.now)) }
+    ensures err { IfErr result (IsFirstFault check text.now) }
+{
+    let pieces = read_pieces(rt, alloc, text, check)?;
+    let mut found = Found::new(alloc);
+    found.take_all(pieces)?;
+    found.into_numbered()
 }
 
 /// How many nodes the pieces have.

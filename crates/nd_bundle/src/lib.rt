@@ -17,6 +17,7 @@ mod missing;
 mod name;
 mod names;
 mod number;
+mod part;
 mod path_bytes;
 mod piece;
 pub mod plain;
@@ -26,6 +27,7 @@ mod reader;
 mod register;
 mod resolve;
 mod so_far;
+mod task;
 mod want;
 mod whole;
 

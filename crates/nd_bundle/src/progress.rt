@@ -1,12 +1,13 @@
 //! How far a bundle's text that comes in parts was read.
 
-ghost use Rattle.std.specs.Prelude.{◌≡◌, ◌++◌, [], None, IfErr, IfOk, OnOk};
+ghost use Rattle.std.specs.Prelude.{◌≡◌, ◌++◌, ◌≤◌, [], None, IfErr, IfOk, OnOk, drop, length, take};
 ghost use Rattle.nd_bundle.specs.Parts.{GoesOn, IsFaultBy, IsReadBehind, IsSpent, IsToldBy, IsUnread, ReadsLines};
 
 use crate::ahead::Ahead;
 use crate::cutting::{cut_line, whole_lines};
 use crate::fault::GraphError;
 use crate::found::Numbered;
+use crate::part::Part;
 use std::alloc::{AllocError, Global};
 use std::thread::Threads;
 
@@ -30,19 +31,22 @@ impl Progress {
         }
     }
 
-    /// Reads on. Where memory is refused nothing is read any more.
+    /// Reads on: the first bytes of the room, so many of them. Where memory is refused nothing is read any more. Answers
+    /// a room that isn't needed any more, if there is one.
     #[tactic(auto, using(crate::proofs::Parted::goes_spent))]
     pub(crate) fn read_on(
         &mut self,
-        rt: &(impl Threads + Sync),
+        rt: &impl Threads,
         alloc: Global,
-        text: &[u8],
+        room: Vec<u8>,
+        filled: usize,
         check: bool,
-    ) -> Result<(), AllocError>
-        ensures { GoesOn check text.now self.old self.new }
+    ) -> Result<Option<Vec<u8>>, AllocError>
+        requires { filled ≤ length room.items }
+        ensures { GoesOn check (take filled room.items) self.old self.new }
     {
-        match self.read_part(rt, alloc, text, check) {
-            Ok(()) => Ok(()),
+        match self.read_room(rt, alloc, room, filled, check) {
+            Ok(room) => Ok(room),
             Err(refused) => {
                 self.end();
                 Err(refused)
@@ -59,18 +63,20 @@ impl Progress {
     }
 
     /// Reads on, unless a line was refused.
-    fn read_part(
+    fn read_room(
         &mut self,
-        rt: &(impl Threads + Sync),
+        rt: &impl Threads,
         alloc: Global,
-        text: &[u8],
+        room: Vec<u8>,
+        filled: usize,
         check: bool,
-    ) -> Result<(), AllocError>
-        ensures { OnOk result (GoesOn check text.now self.old self.new) }
+    ) -> Result<Option<Vec<u8>>, AllocError>
+        requires { filled ≤ length room.items }
+        ensures { OnOk result (GoesOn check (take filled room.items) self.old self.new) }
     {
         match self.ahead.found.refused {
-            Some(_) => Ok(()),
-            None => self.read_text(rt, alloc, text, check),
+            Some(_) => Ok(Some(room)),
+            None => self.read_text(rt, alloc, room, filled, check),
         }
     }
 
@@ -78,70 +84,95 @@ impl Progress {
     #[tactic(auto, using(crate::proofs::Parted::goes_within, crate::proofs::Parted::goes_lines))]
     fn read_text(
         &mut self,
-        rt: &(impl Threads + Sync),
+        rt: &impl Threads,
         alloc: Global,
-        text: &[u8],
+        room: Vec<u8>,
+        filled: usize,
         check: bool,
-    ) -> Result<(), AllocError>
-        requires { self.old.ahead.found.refused ≡ None }
-        ensures { OnOk result (GoesOn check text.now self.old self.new) }
+    ) -> Result<Option<Vec<u8>>, AllocError>
+        requires filled { filled ≤ length room.items }
+        requires none { self.old.ahead.found.refused ≡ None }
+        ensures { OnOk result (GoesOn check (take filled room.items) self.old self.new) }
     {
+        let text = &room[..filled];
         match cut_line(text) {
             None => {
                 self.rest.extend_from_slice(text)?;
-                Ok(())
+                Ok(Some(room))
             }
-            Some((end, behind)) => {
-                self.end_line(alloc, end, check)?;
-                self.read_behind(rt, alloc, behind, check)
+            Some((end, _)) => {
+                let from = end.len();
+                self.end_line(rt, alloc, end, check)?;
+                self.read_behind(rt, alloc, room, from, filled, check)
             }
         }
     }
 
     /// Reads the line that hasn't ended, which ends so.
-    fn end_line(&mut self, alloc: Global, end: &[u8], check: bool) -> Result<(), AllocError>
+    fn end_line(
+        &mut self,
+        rt: &impl Threads,
+        alloc: Global,
+        end: &[u8],
+        check: bool,
+    ) -> Result<(), AllocError>
         requires { self.old.ahead.found.refused ≡ None }
         ensures lines { OnOk result (ReadsLines check (self.old.rest.items ++ end.now) self.old.ahead self.new.ahead) }
         ensures rest { OnOk result (self.new.rest.items ≡ []) }
     {
         self.rest.extend_from_slice(end)?;
-        self.ahead.read_line(alloc, self.rest.as_slice(), check)?;
+        self.ahead
+            .read_line(rt, alloc, self.rest.as_slice(), check)?;
         self.rest.clear();
         Ok(())
     }
 
-    /// Reads the whole lines of the text, where none has begun before it. What stands behind them is kept.
+    /// Reads the whole lines in the room from this place on, where none has begun before it. What stands behind them is
+    /// kept.
     #[tactic(auto, using(crate::proofs::Parted::read_behind))]
     fn read_behind(
         &mut self,
-        rt: &(impl Threads + Sync),
+        rt: &impl Threads,
         alloc: Global,
-        text: &[u8],
+        room: Vec<u8>,
+        from: usize,
+        filled: usize,
         check: bool,
-    ) -> Result<(), AllocError>
-        requires { self.old.rest.items ≡ [] }
-        ensures { OnOk result (IsReadBehind check text.now self.old self.new) }
+    ) -> Result<Option<Vec<u8>>, AllocError>
+        requires rest { self.old.rest.items ≡ [] }
+        requires order { from ≤ filled }
+        requires filled { filled ≤ length room.items }
+        ensures { OnOk result (IsReadBehind check (drop from (take filled room.items)) self.old self.new) }
     {
-        let (front, rest) = whole_lines(text);
-        self.ahead.read_lines(rt, alloc, front, check)?;
+        let (front, rest) = whole_lines(&room[from..filled]);
+        let to = from + front.len();
         self.rest.extend_from_slice(rest)?;
-        Ok(())
+        let part = Part::new(room, from, to);
+        self.ahead.read_part(rt, alloc, part, check)
     }
 
     /// What the lines of the text that was read say, the last line being the rest where there is one; or the
-    /// first refusal.
+    /// first refusal. No thread reads any more then.
     #[tactic(auto, using(crate::proofs::Parted::told_by, crate::proofs::Parted::fault_by, crate::proofs::Parted::fault_before, crate::proofs::Parted::fault_of_memory))]
-    pub(crate) fn into_numbered(self, alloc: Global, check: bool) -> Result<Numbered, GraphError>
+    pub(crate) fn into_numbered(
+        self,
+        rt: &impl Threads,
+        alloc: Global,
+        check: bool,
+    ) -> Result<Numbered, GraphError>
         ensures ok { IfOk result (IsToldBy check self) }
         ensures err { IfErr result (IsFaultBy check self) }
     {
         let Progress { ahead, rest } = self;
         match ahead.found.refused {
-            Some(fault) => Err(fault),
+            Some(fault) => {
+                ahead.stop(rt);
+                Err(fault)
+            }
             None => {
                 let mut ahead = ahead;
-                ahead.read_line(alloc, rest.as_slice(), check)?;
-                ahead.into_numbered()
+                ahead.read_line(rt, alloc, rest.as_slice(), check)?;
+                ahead.into_numbered(rt)
             }
         }
     }

@@ -1,6 +1,6 @@
 //! The reader of a bundle whose text comes in parts.
 
-ghost use Rattle.std.specs.Prelude.{◌≡◌, ◌++◌, [], IfOk, IfErr, MatchResult, OnOk};
+ghost use Rattle.std.specs.Prelude.{◌≡◌, ◌++◌, ◌≤◌, [], IfOk, IfErr, MatchResult, OnOk, length, take};
 ghost use Rattle.nd_bundle.specs.declared.fault.GraphError.{GraphError};
 ghost use Rattle.nd_bundle.specs.Bundles.{IsBundle, IsFirstFault};
 ghost use Rattle.nd_graph.specs.Graphs.{Nodes};
@@ -15,7 +15,7 @@ use std::marker::Model;
 use std::thread::Threads;
 
 /// A reader of a bundle whose text comes in parts, which may be cut anywhere. No part is kept once it was read,
-/// but for a line that hasn't ended. Its answer is that of `read_bundle` for the whole text, unless one of the
+/// but for a line that hasn't ended. Where it is dropped before its end, its threads end by themselves. Its answer is that of `read_bundle` for the whole text, unless one of the
 /// two wants memory (`laws::one_bundle`). Contracts see whether paths are checked, and the text so far.
 #[derive(Drop)]
 pub struct BundleReader {
@@ -52,17 +52,28 @@ impl BundleReader {
         }
     }
 
-    /// Reads on: `text` stands behind what was read. The lines that end in it are read by many threads where
-    /// they have 128 KiB or more. Behind the first line that is refused nothing is read any more: `finish`
-    /// tells of it.
+    /// Reads on: the first bytes of the room, `filled` of them, stand behind what was read. Once 128 KiB came at once
+    /// the whole lines in each room are read by a thread of their own, from where they stand, and up to as many such
+    /// threads as there are processors read at a time: meanwhile more of the input can come. Answers a room that
+    /// isn't needed any more, if there is one, to be filled anew: it is this one or one that came before.
     ///
-    /// Refuses where an allocation is refused. Nothing is read any more then, and `finish` answers `Memory`.
-    pub fn feed(&mut self, rt: &(impl Threads + Sync), text: &[u8]) -> Result<(), AllocError>
+    /// Behind the first line that is refused nothing is read any more: `finish` tells of it. Refuses where an
+    /// allocation is refused. Nothing is read any more then, and `finish` answers `Memory`.
+    pub fn feed(
+        &mut self,
+        rt: &impl Threads,
+        room: Vec<u8>,
+        filled: usize,
+    ) -> Result<Option<Vec<u8>>, AllocError>
+        requires { filled ≤ length room.items }
         ensures check { self.new.check ≡ self.old.check }
-        ensures text { OnOk result (self.new.text ≡ self.old.text ++ text.now) }
+        ensures text { OnOk result (self.new.text ≡ self.old.text ++ take filled room.items) }
     {
-        let read = self.progress.read_on(rt, self.alloc, text, self.check);
-        self.so_far = self.so_far.with(text);
+        let so_far = self.so_far.with(&room[..filled]);
+        let read = self
+            .progress
+            .read_on(rt, self.alloc, room, filled, self.check);
+        self.so_far = so_far;
         read
     }
 
@@ -84,7 +95,7 @@ impl BundleReader {
             progress,
             ..
         } = self;
-        let numbered = progress.into_numbered(alloc, check)?;
+        let numbered = progress.into_numbered(rt, alloc, check)?;
         graph_side_by_side(rt, alloc, numbered)
     }
 }

@@ -16,14 +16,17 @@ use nd_devices::{Fault, Told};
 use nd_graph::Graph;
 use std::alloc::{AllocError, Global};
 use std::io::Read;
-use std::thread::{Threads, join_mut};
+use std::thread::Threads;
 
-/// For how many bytes of a bundle there is room at first, since most are short.
-const FIRST: usize = 262_144;
+/// For how many bytes of a bundle a room has place at first: enough for a thread of its own to read its lines, so that a
+/// short bundle has several.
+const FIRST: usize = 163_840;
 
-/// How many bytes of a bundle are read at once at most: lines enough for many threads, which start and end once for
-/// each block.
-const BLOCK: usize = 8_388_608;
+/// For how many bytes a room has place once the bundle is long. A thread starts and ends for each.
+const BLOCK: usize = 524_288;
+
+/// How many bytes were read of a bundle that is long.
+const LONG: usize = 1_310_720;
 
 /// The graph of the bundle on the input, which is read to its end, or to one byte past [`LIMIT`].
 ///
@@ -88,14 +91,15 @@ fn feed_input<R: Read>(
     let mut room = new_room(alloc, FIRST)?;
     let mut count = 0;
     'feeding: while count <= LIMIT {
-        let most = room.len().min(LIMIT + 1 - count);
+        let size = room.len();
+        let most = size.min(LIMIT + 1 - count);
         let filled = fill(&mut room, most, input)?;
         count += filled;
-        if filled < room.len() {
-            reader.feed(rt, &room[..filled])?;
+        let spare = reader.feed(rt, room, filled)?;
+        if filled < size {
             return Ok(count);
         }
-        room = feed_room(rt, alloc, room, reader)?;
+        room = next_room(alloc, spare, count)?;
     }
     Ok(count)
 }
@@ -108,32 +112,16 @@ fn new_room(alloc: Global, size: usize) -> Result<Vec<u8>, AllocError>
     vec![in alloc; 0; size]
 }
 
-/// Feeds the reader the block that fills the room, and answers room for the next one. That is this room where it is
-/// as large as a block may be, and else one eight times as large, which another thread makes meanwhile.
-fn feed_room(
-    rt: &(impl Threads + Sync),
-    alloc: Global,
-    room: Vec<u8>,
-    reader: &mut BundleReader,
-) -> Result<Vec<u8>, AllocError>
-    requires { 0 < length room.items }
-    ensures check { reader.new.check ≡ reader.old.check }
-    ensures read { OnOk result (reader.new.text ≡ reader.old.text ++ room.items) }
-    ensures room { IfOk result (λ next. 0 < length next.items) }
+/// Room for more of a bundle, of which so many bytes were read: the one that isn't needed any more, where it has that
+/// size, and else a new one.
+fn next_room(alloc: Global, spare: Option<Vec<u8>>, count: usize) -> Result<Vec<u8>, AllocError>
+    ensures { IfOk result (λ room. 0 < length room.items) }
 {
-    let block = room.as_slice();
-    if block.len() >= BLOCK {
-        reader.feed(rt, block)?;
-        return Ok(room);
+    let size = if count < LONG { FIRST } else { BLOCK };
+    match spare {
+        Some(room) if room.len() == size => Ok(room),
+        _ => new_room(alloc, size),
     }
-    let size = block.len().saturating_mul(8).min(BLOCK);
-    let (next, fed) = join_mut(
-        rt,
-        &mut || new_room(alloc, size),
-        &mut || reader.feed(rt, block),
-    );
-    fed?;
-    next
 }
 
 /// Reads on in the input, from the front of the room, until so many bytes stand there or the input ends; and answers how

@@ -1,5 +1,0 @@
-use Rattle.nd_bundle.proofs.Parted.{goes_refused}
-use Rattle.nd_bundle.proofs.progress.Progress.read_part.Goals as goal
-
-pub returns-in-Some : goal.returns-in-Some
-returns-in-Some g c = goes_refused c.args.check c.args.text.now c.args.self.now c.in-Some.field-0 c.in-Some.is
