@@ -20,7 +20,7 @@ use std::alloc::{AllocError, Global};
 use std::thread::Threads;
 
 /// The least length of a piece for a thread: one thread has read a shorter one before another has started.
-const LONG: usize = 65_536;
+pub(crate) const LONG: usize = 65_536;
 
 /// Whether the text hasn't enough for two threads.
 pub(crate) fn is_short(text: &[u8]) -> bool {

@@ -4,11 +4,13 @@ ghost use Rattle.std.specs.Prelude.{◌≡◌, ◌++◌, ◌≤◌, [], None, If
 ghost use Rattle.nd_bundle.specs.Parts.{GoesOn, IsFaultBy, IsReadBehind, IsSpent, IsToldBy, IsUnread, ReadsLines};
 
 use crate::ahead::Ahead;
+use crate::collect::LONG;
 use crate::cutting::{cut_line, whole_lines};
 use crate::fault::GraphError;
 use crate::found::Numbered;
 use crate::part::Part;
 use std::alloc::{AllocError, Global};
+use std::mem;
 use std::thread::Threads;
 
 /// How far a bundle's text that comes in parts was read: what was read of its whole lines, and the rest, which
@@ -108,7 +110,8 @@ impl Progress {
         }
     }
 
-    /// Reads the line that hasn't ended, which ends so.
+    /// Reads the line that hasn't ended, which ends so: by this thread, or by one of its own where it is as long as a piece
+    /// for a thread.
     fn end_line(
         &mut self,
         rt: &impl Threads,
@@ -121,9 +124,16 @@ impl Progress {
         ensures rest { OnOk result (self.new.rest.items ≡ []) }
     {
         self.rest.extend_from_slice(end)?;
+        if self.rest.len() < LONG {
+            self.ahead
+                .read_line(rt, alloc, self.rest.as_slice(), check)?;
+            self.rest.clear();
+            return Ok(());
+        }
+        let line = mem::replace(&mut self.rest, Vec::new(alloc));
+        let len = line.len();
         self.ahead
-            .read_line(rt, alloc, self.rest.as_slice(), check)?;
-        self.rest.clear();
+            .read_part(rt, alloc, Part::new(line, 0, len), check)?;
         Ok(())
     }
 
