@@ -5,7 +5,7 @@ ghost use Rattle.std.specs.Prelude.{◌≤◌, length, IfOk};
 
 use crate::tests::long_bundles::{UNKNOWN, many};
 use crate::tests::reading::size_of;
-use crate::tests::shapes::{Shape, text_of};
+use crate::tests::shapes::{Shape, push_line, text_of};
 use nd_bundle::{BundleReader, GraphError, read_bundle};
 use nd_graph::Graph;
 use std::alloc::{AllocError, Global};
@@ -219,6 +219,32 @@ fn refused_long_bundle_cut_at_lines(rt: HostRuntime) {
     let odd = [(650, UNKNOWN), (1299, b"\n".as_slice())];
     let want = Seen::Refused(GraphError::UnknownOutput(651));
     assert!(rt; are_long_read(&rt, rt.alloc(), &odd, want));
+}
+
+/// A thousand plain lines, and ten that need all those before them, each of which has more than 64 KiB.
+fn long_lines(alloc: Global) -> Result<Vec<u8>, AllocError> {
+    let mut text = many(alloc, 1000, &[])?;
+    for node in 1000..1010 {
+        push_line(&mut text, node, 0, node)?;
+    }
+    Ok(text)
+}
+
+/// Whether these are read in rooms that are shorter than such a line, and in longer ones. Want of memory is a no.
+fn are_long_lines_read<R: Threads + Sync>(rt: &R, alloc: Global) -> bool {
+    match long_lines(alloc) {
+        Ok(text) => {
+            text.len() > 800_000
+                && size_of(read_rooms(rt, alloc, text.as_slice(), 30_000)) == Some(1010)
+                && size_of(read_rooms(rt, alloc, text.as_slice(), 140_000)) == Some(1010)
+        }
+        Err(_) => false,
+    }
+}
+
+#[test]
+fn long_lines_in_short_rooms(rt: HostRuntime) {
+    assert!(rt; are_long_lines_read(&rt, rt.alloc()));
 }
 
 /// Whether the text has this answer as a whole, and where it comes in three parts of the same length.
