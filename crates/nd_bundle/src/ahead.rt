@@ -20,7 +20,7 @@ use std::thread::Threads;
 pub(crate) struct Ahead {
     pub found: Found,
     pub tasks: VecDeque<Task>,
-    /// How many pieces may be left to be taken: for each processor one that a thread reads, and the line before it.
+    /// How many pieces may be left to be taken: for each processor two that threads read, and the line before each.
     /// None until a thread was started.
     pub most: usize,
 }
@@ -95,13 +95,14 @@ impl Ahead {
         self.add(rt, task)
     }
 
-    /// Lets as many pieces be read ahead as there are processors for.
+    /// Lets pieces be read ahead: twice as many as there are processors, so that these have something to read while
+    /// this thread takes what others have read.
     fn count_threads(&mut self, rt: &impl Threads)
         ensures found { self.new.found ≡ self.old.found }
         ensures tasks { self.new.tasks ≡ self.old.tasks }
     {
         if self.most == 0 {
-            self.most = current_num_threads(rt).saturating_mul(2);
+            self.most = current_num_threads(rt).saturating_mul(4);
         }
     }
 

@@ -57,7 +57,7 @@ pub(crate) fn read_piece(alloc: Global, text: &[u8], check: bool) -> Result<Piec
     grow_heap(alloc, text.len().saturating_add(text.len() / 4));
     let lines = cut_lines(alloc, text)?;
     let mut columns = Columns::with_capacity(alloc, lines.len())?;
-    let mut pool = Pool::new(alloc);
+    let mut pool = Pool::new(alloc, lines.len());
     for line in &lines {
         match read_line(alloc, line, check) {
             Ok(node) => columns.push(alloc, &mut pool, node)?,

@@ -48,6 +48,7 @@ impl Columns {
         } = node;
         let wants = pool.wants(alloc, inputs.as_slice())?;
         let names = pool.names(alloc, output_names.as_slice())?;
+        pool.keep(alloc, &path)?;
         self.paths.push(path)?;
         self.details.needs.push(need)?;
         self.details.wants.push(wants)?;

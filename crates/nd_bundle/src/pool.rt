@@ -21,10 +21,12 @@ const PLACES: usize = 4096;
 /// Where the second character of a path's digest stands.
 const DIGEST: usize = 12;
 
-/// The paths of inputs and the first names of outputs that were read so far. One that is read again shares
-/// the bytes of the one that is here, unless another path has taken its place since.
+/// The paths and the first names of outputs that were read so far: of inputs, and from the first of these on of lines
+/// too. One that is read again shares the bytes of the one that is here, unless another path has taken its place since.
 #[derive(Drop)]
 pub(crate) struct Pool {
+    /// Whether there are lines that may share a path.
+    shares: bool,
     paths: Vec<StorePath>,
     /// The number of the path that was read last of those with these characters; nothing before the first path.
     latest: Vec<usize>,
@@ -43,9 +45,10 @@ fn no_numbers(alloc: Global) -> Result<Vec<usize>, AllocError> {
 }
 
 impl Pool {
-    /// No path and no name. It takes no memory.
-    pub(crate) fn new(alloc: Global) -> Pool {
+    /// No path and no name, for so many lines. It takes no memory.
+    pub(crate) fn new(alloc: Global, lines: usize) -> Pool {
         Pool {
+            shares: lines > 1,
             paths: Vec::new(alloc),
             latest: Vec::new(alloc),
             names: Vec::new(alloc),
@@ -86,8 +89,19 @@ impl Pool {
             return path.try_clone();
         }
         let path = input.store_path(alloc)?;
-        self.note(alloc, place, path.try_clone()?)?;
+        if self.shares {
+            self.note(alloc, place, path.try_clone()?)?;
+        }
         Ok(path)
+    }
+
+    /// The path of a line, which may be an input of later ones. It isn't kept before the first input, since there may be
+    /// none.
+    pub(crate) fn keep(&mut self, alloc: Global, path: &StorePath) -> Result<(), AllocError> {
+        if self.latest.is_empty() {
+            return Ok(());
+        }
+        self.note(alloc, place_of(path.bytes()), path.try_clone()?)
     }
 
     /// The path with these bytes, where it has this place.
