@@ -20,8 +20,8 @@ use std::thread::Threads;
 pub(crate) struct Ahead {
     pub found: Found,
     pub tasks: VecDeque<Task>,
-    /// How many pieces may be left to be taken: for each processor two that threads read, and the line before each.
-    /// None until a thread was started.
+    /// How many pieces may be left to be taken: three for each processor, of which every second is a room that a thread
+    /// reads, and the others are the lines before these. None until a thread was started.
     pub most: usize,
 }
 
@@ -95,14 +95,14 @@ impl Ahead {
         self.add(rt, task)
     }
 
-    /// Lets pieces be read ahead: twice as many as there are processors, so that these have something to read while
-    /// this thread takes what others have read.
+    /// Lets pieces be read ahead: by half as many threads again as there are processors, so that these have something to
+    /// read while this thread takes what others have read.
     fn count_threads(&mut self, rt: &impl Threads)
         ensures found { self.new.found ≡ self.old.found }
         ensures tasks { self.new.tasks ≡ self.old.tasks }
     {
         if self.most == 0 {
-            self.most = current_num_threads(rt).saturating_mul(4);
+            self.most = current_num_threads(rt).saturating_mul(3);
         }
     }
 

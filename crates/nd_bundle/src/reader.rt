@@ -53,9 +53,9 @@ impl BundleReader {
     }
 
     /// Reads on: the first bytes of the room, `filled` of them, stand behind what was read. Once 128 KiB came at once
-    /// the whole lines in each room are read by a thread of their own, from where they stand, and up to as many such
-    /// threads as there are processors read at a time: meanwhile more of the input can come. Answers a room that
-    /// isn't needed any more, if there is one, to be filled anew: it is this one or one that came before.
+    /// the whole lines in each room are read by a thread of their own, from where they stand, and up to half as many
+    /// such threads again as there are processors read at a time: meanwhile more of the input can come. Answers a room
+    /// that isn't needed any more, if there is one, to be filled anew: it is this one or one that came before.
     ///
     /// Behind the first line that is refused nothing is read any more: `finish` tells of it. Refuses where an
     /// allocation is refused. Nothing is read any more then, and `finish` answers `Memory`.
