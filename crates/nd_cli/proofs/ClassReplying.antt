@@ -1,12 +1,12 @@
 -- On an idle park needs with the same platform and the same required features have the same reply.
-use Rattle.std.proofs.Common.{◌≡◌, ℕ, ◌+◌, ◌<◌, ◌≤◌, zero, suc, Bool, true, List, [], ◌∷◌, ◌++◌, length, take, replicate, get_or, Option, None, Some, slice_get, subst, sym, refl, inl, inr, arith}
+use Rattle.std.proofs.Common.{◌≡◌, ℕ, ◌<◌, ◌≤◌, Bool, true, List, [], ◌∷◌, ◌++◌, length, replicate, get_or, Option, None, Some, slice_get, subst, sym, inl, inr, arith}
 use Rattle.std.specs.Prelude.{IsSomeAnd}
 use Rattle.std.specs.Borrow.{Bor}
 use Rattle.std.specs.List.{All, AllZip}
 use Rattle.std.specs.Option.{option_map_or}
 use Rattle.std.proofs.lemmas.Bool.{cases_lt}
-use Rattle.std.proofs.lemmas.List.{get_or-replicate, get_or_default, get_or_past, length-replicate}
-use Rattle.std.proofs.lemmas.Option.{slice_get_read, slice_get_within, get_or_from_slice_get}
+use Rattle.std.proofs.lemmas.List.{get_or-replicate, get_or_past, length-replicate}
+use Rattle.std.proofs.lemmas.Option.{slice_get_within, get_or_from_slice_get}
 use Rattle.std.proofs.lemmas.Slice.Zip.{AllZip-long}
 use Rattle.nd_machines.specs.Builders.{Builder}
 use Rattle.nd_eligible.specs.Settings.{Settings}
@@ -19,10 +19,10 @@ use Rattle.nd_hook.specs.Idle.{idle, all_up, IsIdleReply}
 use Rattle.nd_hook.specs.Replies.{IsReply}
 use Rattle.nd_cli.proofs.Accepted.{same_reply}
 use Rattle.nd_cli.proofs.LocalTest.{free_here}
-use Rattle.nd_cli.proofs.Replying.{AllZip-at, zip_more}
+use Rattle.nd_cli.proofs.Replying.{AllZip-at}
+use Rattle.nd_cli.proofs.SameClass.{below}
 use Rattle.nd_cli.specs.ClassReplies.{IsClassReply}
-use Rattle.nd_cli.specs.Shares.{IsMade}
-use Rattle.nd_cli.specs.SharedClasses.{IsOfClass}
+use Rattle.nd_cli.specs.SharedClasses.{IsMade, IsOfClass}
 
 -- ---- an eligible machine is free on an idle park
 
@@ -102,27 +102,7 @@ all_replies machines local firsts made (need ∷ needs) (class ∷ members) (rep
     (one_reply machines local firsts made need class reply each of.0 are.0, all_replies machines local firsts made needs members replies each of.1 are.1)
 
 -- a reply was made about each class
-made_about : (machines : List Builder) (local : Settings) (firsts : List (Bor Need)) (made : List Reply) (needs : List Need) (members : List ℕ) → AllZip (IsClassReply machines local) firsts made → AllZip (IsOfClass firsts) needs members
-    → (k d : ℕ) → k < length members → get_or members k d < length made
-made_about machines local firsts made needs [] each of k d within = absurd (omega arith)
-made_about machines local firsts made [] (class ∷ members) each of k d within = absurd of
-made_about machines local firsts made (need ∷ needs) (class ∷ members) each of zero d within =
-    let long = AllZip-long (IsClassReply machines local) firsts made each in
-    let first = of.0 in
-    let there = slice_get_within firsts class first.first first.listed in
-    omega (arith, long, there)
-made_about machines local firsts made (need ∷ needs) (class ∷ members) each of (suc k) d within = made_about machines local firsts made needs members each of.1 k d (omega (arith, within))
-
 pub are_made : (machines : List Builder) (local : Settings) (firsts : List (Bor Need)) (made : List Reply) (needs : List Need) (members : List ℕ) → AllZip (IsClassReply machines local) firsts made → AllZip (IsOfClass firsts) needs members
     → All (λ class. class < length made) members
-are_made machines local firsts made needs members each of = λ k d within. made_about machines local firsts made needs members each of k d within
-
--- the reply about one derivation more
-pub one_made : (made : List Reply) (members : List ℕ) (replies new : List Reply) (n d : ℕ) (other : Reply) → n < length members → All (λ class. class < length made) members → AllZip (IsMade made) (take n members) replies
-    → new ≡ replies ++ get_or made (get_or members n d) other ∷ [] → AllZip (IsMade made) (take (n + 1) members) new
-one_made made members replies new n d other here there each grown =
-    let class = get_or members n d in
-    let reply = get_or made class other in
-    let within : class < length made = there n d here in
-    let is = get_or_default made class other reply within in
-    zip_more (IsMade made) members replies new n class reply here (get_or_default members n d class here) each (record { is = slice_get_read made (length made) class reply refl within is }) grown
+are_made machines local firsts made needs members each of =
+    let long = AllZip-long (IsClassReply machines local) firsts made each in λ k d within. below firsts (length made) needs members (sym long) of k d within

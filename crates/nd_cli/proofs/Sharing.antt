@@ -1,4 +1,4 @@
--- The replies about some classes, one share behind another.
+-- What threads made of the pieces of a list, one piece behind another.
 use Rattle.std.proofs.Common.{◌≡◌, ℕ, ◌+◌, ◌*◌, ◌/◌, ◌%◌, ◌<◌, ◌≤◌, min, List, [], ◌∷◌, ◌++◌, length, get_or, take, Ok, IfOk, refl, sym, ap, subst, ◌∙◌, inl, inr, arith}
 use Rattle.std.specs.Prelude.{Vec}
 use Rattle.std.specs.Borrow.{Bor}
@@ -22,27 +22,21 @@ AllZip-append R [] (y ∷ ys) vs ws front back = absurd front
 AllZip-append R (x ∷ xs) [] vs ws front back = absurd front
 AllZip-append R (x ∷ xs) (y ∷ ys) vs ws front back = (front.0, AllZip-append R xs ys vs ws front.1 back)
 
--- the replies of the first shares
-abbrev pub AreFirst : List Builder → Settings → ℕ → List (Bor Need) → ℕ → List Reply → Type 0
-AreFirst machines local size firsts count replies = AllZip (IsClassReply machines local) (take (count * size) firsts) replies
+-- the piece that is next
+pub next_piece : {X : Type 0} (all front rest : List X) (next : X) → all ≡ front ++ next ∷ rest → (length front < length all) × (get_or all (length front) next ≡ next)
+next_piece {X} all front rest next parts =
+    (omega (arith, ap (λ (xs : List X). length xs) parts, length-append front (next ∷ rest)), ap (λ (xs : List X). get_or xs (length front) next) parts ∙ get_or_at front next rest next (length front) refl)
 
--- one share more
-module _ {A : Type 0} (machines : List Builder) (local : Settings) (size : ℕ) (firsts : List (Bor Need)) where
-  pub first_more : (shares front rest : List (Share A)) (made : Share A) (share : Vec Reply A) (replies new : List Reply) → AreShares machines local size firsts shares → shares ≡ front ++ made ∷ rest → made ≡ Ok share → new ≡ replies ++ share.items
-      → AreFirst machines local size firsts (length front) replies → AreFirst machines local size firsts (length (front ++ made ∷ [])) new
-  first_more shares front rest made share replies new are parts is grown so =
-      let R : Bor Need → Reply → Type 0 = IsClassReply machines local in
-      let n : ℕ = length front in
-      let here : n < length shares = omega (arith, ap (λ (xs : List (Share A)). length xs) parts, length-append front (made ∷ rest)) in
-      let at : get_or shares n made ≡ Ok share = ap (λ (xs : List (Share A)). get_or xs n made) parts ∙ get_or_at front made rest made n refl ∙ is in
-      let chunk : AllZip R (slice_chunk firsts size n) share.items = subst (λ (s : Share A). IfOk s (λ some. AllZip R (slice_chunk firsts size n) some.items)) at (are.each n made here) in
-      let joined : AllZip R (take (n * size + size) firsts) new =
-      subst (λ (rs : List Reply). AllZip R (take (n * size + size) firsts) rs) (sym grown)
-      (subst (λ (fs : List (Bor Need)). AllZip R fs (replies ++ share.items)) (sym (take-add (n * size) size firsts)) (AllZip-append R (take (n * size) firsts) replies (slice_chunk firsts size n) share.items so chunk)) in
-      subst (λ (k : ℕ). AllZip R (take k firsts) new) (sym (ap (λ (k : ℕ). k * size) (length_push front made) ∙ add-mul n 1 size ∙ ap (λ (k : ℕ). n * size + k) (one-mul size))) joined
+-- one piece more
+pub piece_more : {A B : Type 0} (R : A → B → Type 0) (size n : ℕ) (xs : List A) (ys zs new : List B) → AllZip R (take (n * size) xs) ys → AllZip R (slice_chunk xs size n) zs → new ≡ ys ++ zs → AllZip R (take ((n + 1) * size) xs) new
+piece_more {A} {B} R size n xs ys zs new front back grown =
+    let longer : (n + 1) * size ≡ n * size + size = add-mul n 1 size ∙ ap (λ (k : ℕ). n * size + k) (one-mul size) in
+    subst (λ (k : ℕ). AllZip R (take k xs) new) (sym longer)
+    (subst (λ (bs : List B). AllZip R (take (n * size + size) xs) bs) (sym grown)
+    (subst (λ (vs : List A). AllZip R vs (ys ++ zs)) (sym (take-add (n * size) size xs)) (AllZip-append R (take (n * size) xs) ys (slice_chunk xs size n) zs front back)))
 
--- so many shares hold all
-spans : (count len size : ℕ) → 0 < size → count ≡ len / size + min 1 (len % size) → len ≤ count * size
+-- so many pieces hold all
+pub spans : (count len size : ℕ) → 0 < size → count ≡ len / size + min 1 (len % size) → len ≤ count * size
 spans count len size some is =
     let q = len / size in
     let r = len % size in
@@ -57,6 +51,23 @@ spans count len size some is =
           let same : count ≡ q = omega arith in
           let wide = ap (λ (n : ℕ). n * size) same in omega arith
     ]
+
+-- ---- the replies about some classes
+
+-- the replies of the first shares
+abbrev pub AreFirst : List Builder → Settings → ℕ → List (Bor Need) → ℕ → List Reply → Type 0
+AreFirst machines local size firsts count replies = AllZip (IsClassReply machines local) (take (count * size) firsts) replies
+
+-- one share more
+module _ {A : Type 0} (machines : List Builder) (local : Settings) (size : ℕ) (firsts : List (Bor Need)) where
+  pub first_more : (shares front rest : List (Share A)) (made : Share A) (share : Vec Reply A) (replies new : List Reply) → AreShares machines local size firsts shares → shares ≡ front ++ made ∷ rest → made ≡ Ok share → new ≡ replies ++ share.items
+      → AreFirst machines local size firsts (length front) replies → AreFirst machines local size firsts (length (front ++ made ∷ [])) new
+  first_more shares front rest made share replies new are parts is grown so =
+      let R : Bor Need → Reply → Type 0 = IsClassReply machines local in
+      let n : ℕ = length front in
+      let next = next_piece shares front rest made parts in
+      let chunk = subst (λ (s : Share A). IfOk s (λ some. AllZip R (slice_chunk firsts size n) some.items)) (next.1 ∙ is) (are.each n made next.0) in
+      subst (λ (k : ℕ). AllZip R (take (k * size) firsts) new) (sym (length_push front made)) (piece_more R size n firsts replies share.items new so chunk grown)
 
 -- all shares
 pub all_first : {A : Type 0} (machines : List Builder) (local : Settings) (size : ℕ) (firsts : List (Bor Need)) (shares : List (Share A)) (replies : List Reply) → AreShares machines local size firsts shares → AreFirst machines local size firsts (length shares) replies

@@ -1,5 +1,5 @@
 -- The replies about many classes, of which many threads make a share each. They serve private clauses.
-use Rattle.std.specs.Prelude.{◌≡◌, ℕ, ◌+◌, ◌/◌, ◌%◌, ◌<◌, min, List, Some, length, slice_get, Result, IfOk, Vec}
+use Rattle.std.specs.Prelude.{◌≡◌, ℕ, ◌+◌, ◌/◌, ◌%◌, ◌<◌, min, List, length, Result, IfOk, Vec}
 use Rattle.std.specs.Borrow.{Bor}
 use Rattle.std.specs.Fork.{slice_chunk}
 use Rattle.std.specs.List.{AllZip, slice_index_or}
@@ -19,7 +19,3 @@ pub record AreShares {A : Type 0} (machines : List Builder) (local : Settings) (
   pub some : 0 < size
   pub count : length shares ≡ length firsts / size + min 1 (length firsts % size)
   pub each : (n : ℕ) (d : Share A) → n < length shares → IfOk (slice_index_or shares n d) (λ replies. AllZip (IsClassReply machines local) (slice_chunk firsts size n) replies.items)
-
--- the reply about a derivation of this class is the one that was made about the class
-pub record IsMade (made : List Reply) (class : ℕ) (reply : Reply) : Type 0 where
-  pub is : slice_get made class ≡ Some reply

@@ -1,8 +1,8 @@
 //! The classes of derivations.
 
 ghost use Rattle.std.specs.Prelude.{◌≡◌, ◌<◌, length, IfOk, IsTrue};
-ghost use Rattle.std.specs.List.{AllZip};
-ghost use Rattle.nd_cli.specs.SharedClasses.{IsOfClass, IsSameClass, MeetsClass};
+ghost use Rattle.std.specs.List.{All, AllZip};
+ghost use Rattle.nd_cli.specs.SharedClasses.{AreClassShares, IsMade, IsOfClass, IsSameClass, MeetsClass, MeetsNeed, MeetsNeeds};
 
 use crate::class_marks::ClassMarks;
 use nd_bytes::ByteString;
@@ -21,6 +21,8 @@ type Class<'a> = (&'a ByteString, &'a FeatureSet);
 pub(crate) struct Classes<'a> {
     /// Of each class the need of its first derivation.
     firsts: Vec<&'a Need>,
+    /// Of each class its mark.
+    marks: Vec<u64>,
     /// Of each derivation its class.
     members: Vec<usize>,
 }
@@ -36,8 +38,47 @@ impl<'a> Classes<'a> {
             let class = known.meet(needs, drv)?;
             members.push(class)?;
         }
-        let Known { firsts, .. } = known;
-        Ok(Classes { firsts, members })
+        let Known {
+            firsts,
+            first_marks: marks,
+            ..
+        } = known;
+        Ok(Classes {
+            firsts,
+            marks,
+            members,
+        })
+    }
+
+    /// The classes of derivations with these needs, of which these are the classes in shares of so many. A class of
+    /// several shares is one among all.
+    pub(crate) fn join(
+        alloc: Global,
+        needs: &[Need],
+        size: usize,
+        shares: Vec<Result<Classes<'a>, AllocError>>,
+    ) -> Result<Classes<'a>, AllocError>
+        requires { AreClassShares size needs.now shares.items }
+        ensures { IfOk result (λ classes. AllZip (IsOfClass classes.firsts.items) needs.now classes.members.items) }
+    {
+        let mut known = Known::new(alloc);
+        let mut members = Vec::with_capacity(alloc, needs.len())?;
+        for share in shares {
+            let share = share?;
+            let numbers = known.meet_each(alloc, share.firsts(), share.marks.as_slice())?;
+            let mut more = by_class(alloc, &numbers, share.members())?;
+            members.append(&mut more)?;
+        }
+        let Known {
+            firsts,
+            first_marks: marks,
+            ..
+        } = known;
+        Ok(Classes {
+            firsts,
+            marks,
+            members,
+        })
     }
 
     /// Of each class the need of its first derivation.
@@ -55,11 +96,30 @@ impl<'a> Classes<'a> {
     }
 }
 
+/// For each derivation what was made of its class.
+pub(crate) fn by_class<T: Copy>(
+    alloc: Global,
+    made: &[T],
+    members: &[usize],
+) -> Result<Vec<T>, AllocError>
+    requires made { All (λ class. class < length made.now) members.now }
+    ensures { IfOk result (λ all. AllZip (IsMade made.now) members.now all.items) }
+{
+    let mut all = Vec::with_capacity(alloc, members.len())?;
+    for number in 0..members.len() {
+        let class = members[number];
+        all.push(made[class])?;
+    }
+    Ok(all)
+}
+
 /// The classes that were met.
 #[derive(Drop)]
 struct Known<'a> {
     /// Of each class the need of its first derivation.
     firsts: Vec<&'a Need>,
+    /// Of each class its mark.
+    first_marks: Vec<u64>,
     /// The class that was met last, or zero. Most derivations are of the class of the one before, and no mark is
     /// made for these.
     latest: usize,
@@ -77,6 +137,7 @@ impl<'a> Known<'a> {
     {
         Known {
             firsts: Vec::new(alloc),
+            first_marks: Vec::new(alloc),
             latest: 0,
             marks: ClassMarks::new(),
             marked: BTreeMap::new(alloc),
@@ -87,7 +148,7 @@ impl<'a> Known<'a> {
     /// The class of derivation `drv`, which is known from now on.
     ///
     /// For the proof: what the maps answer is compared once more, so that nothing has to be said of them.
-    #[tactic(auto, using(crate::proofs::SameClass::meets_known))]
+    #[tactic(auto, using(crate::proofs::SameClass::meets_known, crate::proofs::SameClass::meets_at))]
     fn meet(&mut self, needs: &'a [Need], drv: usize) -> Result<usize, AllocError>
         requires { drv < length needs.now }
         ensures { IfOk result (MeetsClass needs.now drv self.old.firsts.items self.new.firsts.items) }
@@ -96,36 +157,52 @@ impl<'a> Known<'a> {
         if is_of_class(self.firsts.as_slice(), latest, &needs[drv]) {
             return Ok(latest);
         }
-        let class = self.meet_marked(needs, drv)?;
+        let mark = self.marks.mark(needs, drv);
+        let class = self.meet_marked(&needs[drv], mark)?;
         self.latest = class;
         Ok(class)
     }
 
-    /// As `meet`, where another class was met last.
-    #[tactic(auto, using(crate::proofs::SameClass::meets_known))]
-    fn meet_marked(&mut self, needs: &'a [Need], drv: usize) -> Result<usize, AllocError>
-        requires { drv < length needs.now }
-        ensures { IfOk result (MeetsClass needs.now drv self.old.firsts.items self.new.firsts.items) }
+    /// The classes of derivations with these needs and marks, each with its own, which are known from now on. No two
+    /// of them are of one class, so each is looked up. A mark that is missing may make a look-up slower.
+    fn meet_each(
+        &mut self,
+        alloc: Global,
+        needs: &[&'a Need],
+        marks: &[u64],
+    ) -> Result<Vec<usize>, AllocError>
+        ensures { IfOk result (λ numbers. MeetsNeeds needs.now self.old.firsts.items self.new.firsts.items numbers.items) }
     {
-        let mark = self.marks.mark(needs, drv);
+        let mut numbers = Vec::with_capacity(alloc, needs.len())?;
+        for place in 0..needs.len() {
+            let mark = marks.get(place).copied().unwrap_or(0);
+            let number = self.meet_marked(needs[place], mark)?;
+            numbers.push(number)?;
+        }
+        Ok(numbers)
+    }
+
+    /// The class of a derivation with this need, of which this is the mark.
+    #[tactic(auto, using(crate::proofs::SameClass::meets_known))]
+    fn meet_marked(&mut self, need: &'a Need, mark: u64) -> Result<usize, AllocError>
+        ensures { IfOk result (MeetsNeed need.now self.old.firsts.items self.new.firsts.items) }
+    {
         let Some(marked) = self.marked.get(&mark) else {
             self.marked.insert(mark, self.firsts.len())?;
-            return self.begin(needs, drv);
+            return self.begin(need, mark);
         };
         let marked = *marked;
-        if is_of_class(self.firsts.as_slice(), marked, &needs[drv]) {
+        if is_of_class(self.firsts.as_slice(), marked, need) {
             return Ok(marked);
         }
-        self.meet_other(needs, drv)
+        self.meet_other(need, mark)
     }
 
     /// As `meet_marked`, where another class has the mark of this one.
     #[tactic(auto, using(crate::proofs::SameClass::meets_known))]
-    fn meet_other(&mut self, needs: &'a [Need], drv: usize) -> Result<usize, AllocError>
-        requires { drv < length needs.now }
-        ensures { IfOk result (MeetsClass needs.now drv self.old.firsts.items self.new.firsts.items) }
+    fn meet_other(&mut self, need: &'a Need, mark: u64) -> Result<usize, AllocError>
+        ensures { IfOk result (MeetsNeed need.now self.old.firsts.items self.new.firsts.items) }
     {
-        let need = &needs[drv];
         let class = (&need.system, &need.features);
         if let Some(other) = self.others.get(&class) {
             let other = *other;
@@ -134,16 +211,16 @@ impl<'a> Known<'a> {
             }
         }
         self.others.insert(class, self.firsts.len())?;
-        self.begin(needs, drv)
+        self.begin(need, mark)
     }
 
-    /// A class of which derivation `drv` is the first.
-    fn begin(&mut self, needs: &'a [Need], drv: usize) -> Result<usize, AllocError>
-        requires { drv < length needs.now }
-        ensures { IfOk result (MeetsClass needs.now drv self.old.firsts.items self.new.firsts.items) }
+    /// A class of which the derivation with this need and this mark is the first.
+    fn begin(&mut self, need: &'a Need, mark: u64) -> Result<usize, AllocError>
+        ensures { IfOk result (MeetsNeed need.now self.old.firsts.items self.new.firsts.items) }
     {
         let class = self.firsts.len();
-        self.firsts.push(&needs[drv])?;
+        self.first_marks.push(mark)?;
+        self.firsts.push(need)?;
         Ok(class)
     }
 }

@@ -1,15 +1,16 @@
 //! The replies about many derivations: one for each class of them, of which many threads make a share each.
 
-ghost use Rattle.std.specs.Prelude.{◌<◌, ℕ, List, length, IfOk};
-ghost use Rattle.std.specs.List.{All, AllZip};
+ghost use Rattle.std.specs.Prelude.{◌<◌, ℕ, List, IfOk};
+ghost use Rattle.std.specs.List.{AllZip};
 ghost use Rattle.nd_machines.specs.Builders.{Builder};
 ghost use Rattle.nd_eligible.specs.Settings.{Settings};
 ghost use Rattle.nd_hook.specs.Idle.{IsIdleReply};
 ghost use Rattle.nd_cli.specs.ClassReplies.{IsClassReply};
-ghost use Rattle.nd_cli.specs.Shares.{AreShares, IsMade};
+ghost use Rattle.nd_cli.specs.Shares.{AreShares};
 
 use crate::asks::replies_about;
-use crate::classes::Classes;
+use crate::class_shares::classes_side_by_side;
+use crate::classes::by_class;
 use nd_eligible::{Local, Need};
 use nd_hook::Reply;
 use nd_machines::Machine;
@@ -31,9 +32,9 @@ pub(crate) fn replies_side_by_side<R: Threads + Sync>(
 ) -> Result<Vec<Reply>, AllocError>
     ensures { IfOk result (λ replies. AllZip (IsIdleReply machines.now local.now) needs.now replies.items) }
 {
-    let classes = Classes::of(alloc, needs)?;
+    let classes = classes_side_by_side(rt, alloc, needs)?;
     let made = class_replies(rt, alloc, machines, local, classes.firsts())?;
-    replies_by_class(alloc, &made, classes.members())
+    by_class(alloc, &made, classes.members())
 }
 
 /// The replies about some classes, in order. Those about more classes than [`SHARE`] are made by as many threads as
@@ -92,23 +93,6 @@ fn join_shares(
     for share in shares {
         let mut share = share?;
         replies.append(&mut share)?;
-    }
-    Ok(replies)
-}
-
-/// For each derivation the reply that was made about its class.
-fn replies_by_class(
-    alloc: Global,
-    made: &[Reply],
-    members: &[usize],
-) -> Result<Vec<Reply>, AllocError>
-    requires made { All (λ class. class < length made.now) members.now }
-    ensures { IfOk result (λ replies. AllZip (IsMade made.now) members.now replies.items) }
-{
-    let mut replies = Vec::with_capacity(alloc, members.len())?;
-    for number in 0..members.len() {
-        let class = members[number];
-        replies.push(made[class])?;
     }
     Ok(replies)
 }
