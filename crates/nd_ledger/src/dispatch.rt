@@ -18,7 +18,7 @@ ghost use Rattle.nd_provision.specs.Stored.{IsMissing, is_quiet};
 ghost use Rattle.nd_ledger.specs.Worlds.{GoesOnFrom};
 ghost use Rattle.nd_ledger.specs.Refusals.{IsLive, IsFailRefused, IsDownRefused, IsStopRefused};
 
-use crate::fresh::learn_jobs;
+use crate::fresh::{begin, make_halves};
 use crate::job::{Job, copy_paths};
 use crate::moving::{is_live, prepare_end, prepare_start};
 use crate::refusal::{Refusal, Refused};
@@ -37,6 +37,11 @@ use nd_provision::Stores;
 use nd_pump::{Turns, next_step};
 use std::alloc::{AllocError, Global};
 use std::marker::Model;
+use std::thread::Threads;
+
+/// Over a graph of fewer derivations a dispatch is made by one thread, which takes less time than a second one takes to
+/// start.
+const LARGE: usize = 4_096;
 
 /// Leases and their history: it only ever holds a legal one. Contracts see the five inputs, which
 /// never change, and the entries, oldest first.
@@ -92,18 +97,45 @@ impl Dispatch {
         let Ok(state) = State::new(alloc, &parts.graph, machines, &parts.local, keep_going) else {
             return Err(parts);
         };
-        learn_jobs(machines, &parts.local);
-        Ok(Dispatch {
-            inputs: Inputs {
-                graph: parts.graph,
-                machines: Items::new(parts.machines),
-                local: parts.local,
-                info: parts.info,
-                keep_going,
-            },
-            state,
-            stores,
-        })
+        Ok(begin(parts, stores, state))
+    }
+
+    /// The same as [`Dispatch::new`], by two threads where the graph is large: one makes what is kept of references and
+    /// holdings, the other one the empty history with its board and its turns.
+    ///
+    /// Where memory is refused the five inputs come back.
+    pub fn new_side_by_side(
+        rt: &(impl Threads + Sync),
+        alloc: Global,
+        graph: Graph,
+        machines: Vec<Machine>,
+        local: Local,
+        info: RefTable,
+        keep_going: bool,
+    ) -> Result<Dispatch, Parts>
+        requires { length machines.items ≤ 1024 }
+        ensures inputs { IfOk result (λ d. d.inputs ≡ premises graph machines.items local info.entries keep_going) }
+        ensures empty { IfOk result (λ d. d.history ≡ []) }
+        ensures back { IfErr result (λ p. p ≡ record { graph = graph; machines = machines; local = local; info = info; keep_going = keep_going }) }
+    {
+        if graph.len() < LARGE {
+            return Dispatch::new(alloc, graph, machines, local, info, keep_going);
+        }
+        let parts = Parts {
+            graph,
+            machines,
+            local,
+            info,
+            keep_going,
+        };
+        let (stores, state) = make_halves(rt, alloc, &parts);
+        let Ok(stores) = stores else {
+            return Err(parts);
+        };
+        let Ok(state) = state else {
+            return Err(parts);
+        };
+        Ok(begin(parts, stores, state))
     }
 
     /// Again and again the first derivation, in the order of the bundle, that is ready and whose
