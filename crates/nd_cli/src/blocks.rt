@@ -26,7 +26,7 @@ const FIRST: usize = 163_840;
 const BLOCK: usize = 524_288;
 
 /// How many bytes were read of a bundle that is long.
-const LONG: usize = 1_310_720;
+const LONG: usize = 3_932_160;
 
 /// The graph of the bundle on the input, which is read to its end, or to one byte past [`LIMIT`].
 ///
