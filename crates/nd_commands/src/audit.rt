@@ -55,7 +55,14 @@ pub fn audit_engine<R: Read, W: Write>(
     ensures partly { IfErr result (LeavesAudit options.now history.now R.remaining input.old input.new W.contents output.old output.new) }
 {
     let given = read_audit_inputs(rt, alloc, options, history, input)?;
-    match write_verdict(alloc, given.park, options.keep_going, given.entries, output) {
+    match write_verdict(
+        rt,
+        alloc,
+        given.park,
+        options.keep_going,
+        given.entries,
+        output,
+    ) {
         Ok(status) => Ok(status),
         Err(fault) => Err(fault),
     }
@@ -63,6 +70,7 @@ pub fn audit_engine<R: Read, W: Write>(
 
 /// Writes whether these entries are a legal history, and answers the status.
 fn write_verdict<W: Write>(
+    rt: &(impl Threads + Sync),
     alloc: Global,
     park: Park,
     keep_going: bool,
@@ -77,7 +85,7 @@ fn write_verdict<W: Write>(
     ensures untouched { IfErr result (λ e. is_write_fault e ≡ false → output.new ≡ output.old) }
 {
     let count = entries.len();
-    match judge(alloc, park, keep_going, entries) {
+    match judge(rt, alloc, park, keep_going, entries) {
         Ok(()) => say_legal(count, output),
         Err(AuditError::Illegal { index, rule }) => say_illegal(index, rule, output),
         Err(AuditError::Memory) => Err(CliFault::Memory),
@@ -86,12 +94,19 @@ fn write_verdict<W: Write>(
 
 /// Whether these entries are a legal history of the park, as `audit` of `nd_report` says it. The dispatch
 /// that says so is left to the system, since the command ends with it.
-fn judge(alloc: Global, park: Park, keep_going: bool, entries: Vec<Entry>) -> Result<(), AuditError>
+fn judge(
+    rt: &(impl Threads + Sync),
+    alloc: Global,
+    park: Park,
+    keep_going: bool,
+    entries: Vec<Entry>,
+) -> Result<(), AuditError>
     requires few { length park.machines.items ≤ 1024 }
     ensures legal { OnOk result (IsLegal (park_inputs park keep_going) (reverse entries.items)) }
     ensures refused { IfErr result (IsAuditRefused (park_inputs park keep_going) entries.items) }
 {
-    let mut dispatch = match Dispatch::new(
+    let mut dispatch = match Dispatch::new_side_by_side(
+        rt,
         alloc,
         park.graph,
         park.machines,

@@ -32,7 +32,7 @@ pub fn open_dispatch(
     ensures exactly { (inputs : Premises) → HasInputs options.now text.now inputs → OkUnlessMemory result (λ dispatch. dispatch.inputs ≡ inputs) }
 {
     let park = read_park(rt, alloc, options, text)?;
-    dispatch_over(alloc, options, park)
+    dispatch_over(rt, alloc, options, park)
 }
 
 /// A dispatch over the bundle on the input and the park of the options, with the empty history, as
@@ -55,16 +55,22 @@ pub fn take_dispatch<R: Read>(
     ensures exactly { AnswersKnownInputs options.now (R.remaining input.old.device) result }
 {
     let park = take_park(rt, alloc, options, input)?;
-    dispatch_over(alloc, options, park)
+    dispatch_over(rt, alloc, options, park)
 }
 
 /// A dispatch over this park, with the empty history. `Memory` alone is refused.
-fn dispatch_over(alloc: Global, options: &ParkOptions, park: Park) -> Result<Dispatch, CliFault>
+fn dispatch_over(
+    rt: &(impl Threads + Sync),
+    alloc: Global,
+    options: &ParkOptions,
+    park: Park,
+) -> Result<Dispatch, CliFault>
     requires few { length park.machines.items ≤ 1024 }
     ensures made { IfOk result (IsMadeOf options.now park) }
     ensures memory { IfErr result (λ e. e ≡ Memory) }
 {
-    match Dispatch::new(
+    match Dispatch::new_side_by_side(
+        rt,
         alloc,
         park.graph,
         park.machines,
