@@ -1,12 +1,12 @@
 -- What resolved inputs give of a graph.
-use Rattle.std.proofs.Common.{◌≡◌, ℕ, zero, suc, ◌<◌, ◌≤◌, List, [], ◌∷◌, length, get_or, map, Contains, refl, sym, ap, ◌∙◌, subst, inl, inr, arith}
+use Rattle.std.proofs.Common.{◌≡◌, ℕ, zero, suc, ◌<◌, ◌≤◌, Bool, true, List, [], ◌∷◌, length, get_or, map, Contains, refl, sym, ap, ◌∙◌, subst, inl, inr, arith}
 use Rattle.std.proofs.lemmas.Bool.{cases_lt}
 use Rattle.std.proofs.lemmas.List.{get_or_default, get_or_past, get_or-map, length-map}
 use Rattle.nd_eligible.specs.declared.need.Need.{Need}
 use Rattle.nd_bundle.specs.Columned.{HasDetails}
 use Rattle.nd_graph.specs.Graphs.{nodes_of, nodes_with, needed, node_limit, IsOrderFault, IsSound, NamesOutputs, IsAt}
 use Rattle.nd_bundle.specs.Numbered.{of_order}
-use Rattle.nd_bundle.specs.Settled.{AreFit, AreSized, IsFit, IsResolved, ArePaired, AllNamesRise, NamesRise}
+use Rattle.nd_bundle.specs.Settled.{AreFit, AreLinksSized, AreSized, IsFit, IsResolved, ArePaired, AllNamesRise, NamesRise}
 use Rattle.nd_graph.specs.Walks.{AreDistinct, AreInRange, IsAcyclic}
 use Rattle.nd_bundle.specs.Whole.{AllNumbered, AreNumbered, IsNumbered, IsTooMany, IsWholeFault}
 use Rattle.nd_bundle.specs.declared.details.Details.{Details}
@@ -80,7 +80,7 @@ is_sound paths needs rows sources names outputs wants needs_long wants_long sour
 }
 
 -- the parts of nodes have one item per node
-pub rows_sized : (nodes : List LineNode) (keys : List (List ℕ)) (details : Details) → keys ≡ map (λ (n : LineNode). n.path) nodes → HasDetails nodes details → AreSized keys details
+pub rows_sized : (nodes : List LineNode) (keys : List (List ℕ)) (details : Details) → keys ≡ map (λ (n : LineNode). n.path) nodes → HasDetails true nodes details → AreSized keys details
 rows_sized nodes keys details are has =
     let paths : length keys ≡ length nodes = ap (λ (xs : List (List ℕ)). length xs) are ∙ length-map nodes (λ (n : LineNode). n.path) in
     record {
@@ -91,18 +91,43 @@ rows_sized nodes keys details are has =
       outputs = ap (λ (xs : List (List (List ℕ))). length xs) has.outputs ∙ length-map nodes (λ (n : LineNode). n.outputs) ∙ sym paths;
     }
 
+-- .. what they say of their links and needs
+pub links_sized : (whole : Bool) (nodes : List LineNode) (keys : List (List ℕ)) (details : Details) → keys ≡ map (λ (n : LineNode). n.path) nodes → HasDetails whole nodes details → AreLinksSized keys details
+links_sized whole nodes keys details are has =
+    let paths : length keys ≡ length nodes = ap (λ (xs : List (List ℕ)). length xs) are ∙ length-map nodes (λ (n : LineNode). n.path) in
+    record {
+      wants = ap (λ (xs : List (List NamedInput)). length xs) has.wants ∙ length-map nodes (λ (n : LineNode). n.inputs) ∙ sym paths;
+      names = ap (λ (xs : List (List (List ℕ))). length xs) has.names ∙ length-map nodes (λ (n : LineNode). n.output_names) ∙ sym paths;
+    }
+
 -- and as many names as paths of outputs
 paired_at : (nodes : List LineNode) (d : ℕ) → ((node : LineNode) → Contains nodes node → IsFit node) → length (get_or (map (λ (n : LineNode). n.output_names) nodes) d []) ≡ length (get_or (map (λ (n : LineNode). n.outputs) nodes) d [])
 paired_at [] d pairs = refl
 paired_at (n ∷ nodes) zero pairs = (pairs n (0, omega arith, refl)).paired
 paired_at (n ∷ nodes) (suc d) pairs = paired_at nodes d (λ node on. pairs node (suc on.0, omega (arith, on.1), on.2))
 
-pub rows_paired : (nodes : List LineNode) (details : Details) → HasDetails nodes details → AreFit nodes → ArePaired details.names.items details.outputs.items
+pub rows_paired : (nodes : List LineNode) (details : Details) → HasDetails true nodes details → AreFit nodes → ArePaired details.names.items details.outputs.items
 rows_paired nodes details has pairs = record {
   sized = ap (λ (xs : List (List (List ℕ))). length xs) has.names ∙ length-map nodes (λ (n : LineNode). n.output_names) ∙ sym (ap (λ (xs : List (List (List ℕ))). length xs) has.outputs ∙ length-map nodes (λ (n : LineNode). n.outputs));
   paired = λ d.
       ap (λ (xs : List (List (List ℕ))). length (get_or xs d [])) has.names ∙ paired_at nodes d pairs.fit ∙ sym (ap (λ (xs : List (List (List ℕ))). length (get_or xs d [])) has.outputs);
 }
+
+nodes_paired : (nodes : List LineNode) → AreFit nodes → ArePaired (map (λ (n : LineNode). n.output_names) nodes) (map (λ (n : LineNode). n.outputs) nodes)
+nodes_paired nodes pairs = record {
+  sized = length-map nodes (λ (n : LineNode). n.output_names) ∙ sym (length-map nodes (λ (n : LineNode). n.outputs));
+  paired = λ d. paired_at nodes d pairs.fit;
+}
+
+-- the parts of nodes are those of a graph, with their inputs by number
+pub nodes_sound : (nodes : List LineNode) (rows : List (List Input)) → length (map (λ (n : LineNode). n.path) nodes) ≤ node_limit → AreDistinct (map (λ (n : LineNode). n.path) nodes)
+    → AllNumbered (map (λ (n : LineNode). n.path) nodes) (map (λ (n : LineNode). n.output_names) nodes) (map (λ (n : LineNode). n.inputs) nodes) rows → AreFit nodes
+    → IsSound (nodes_with (map (λ (n : LineNode). n.path) nodes) (map (λ (n : LineNode). n.need) nodes) rows (map (λ (n : LineNode). n.sources) nodes) (map (λ (n : LineNode). n.outputs) nodes))
+nodes_sound nodes rows few distinct so fit =
+    let paths : length (map (λ (n : LineNode). n.path) nodes) ≡ length nodes = length-map nodes (λ (n : LineNode). n.path) in
+    is_sound (map (λ (n : LineNode). n.path) nodes) (map (λ (n : LineNode). n.need) nodes) rows (map (λ (n : LineNode). n.sources) nodes) (map (λ (n : LineNode). n.output_names) nodes) (map (λ (n : LineNode). n.outputs) nodes) (map (λ (n : LineNode). n.inputs) nodes)
+    (length-map nodes (λ (n : LineNode). n.need) ∙ sym paths) (length-map nodes (λ (n : LineNode). n.inputs) ∙ sym paths) (length-map nodes (λ (n : LineNode). n.sources) ∙ sym paths) (length-map nodes (λ (n : LineNode). n.outputs) ∙ sym paths)
+    few distinct so (nodes_paired nodes fit)
 
 -- and the names of each rise
 rising_at : (nodes : List LineNode) (d : ℕ) → ((node : LineNode) → Contains nodes node → IsFit node) → d < length nodes → NamesRise (get_or (map (λ (n : LineNode). n.output_names) nodes) d [])
@@ -110,8 +135,8 @@ rising_at [] d fit lt = absurd (omega (arith, lt))
 rising_at (n ∷ nodes) zero fit lt = (fit n (0, omega arith, refl)).rising
 rising_at (n ∷ nodes) (suc d) fit lt = rising_at nodes d (λ node on. fit node (suc on.0, omega (arith, on.1), on.2)) (omega (arith, lt))
 
-pub rows_rising : (nodes : List LineNode) (details : Details) → HasDetails nodes details → AreFit nodes → AllNamesRise details.names.items
-rows_rising nodes details has fit = record {
+pub rows_rising : (whole : Bool) (nodes : List LineNode) (details : Details) → HasDetails whole nodes details → AreFit nodes → AllNamesRise details.names.items
+rows_rising whole nodes details has fit = record {
   rise = λ d lt.
       let long : length details.names.items ≡ length nodes = ap (λ (xs : List (List (List ℕ))). length xs) has.names ∙ length-map nodes (λ (n : LineNode). n.output_names) in
       subst (λ (xs : List (List (List ℕ))). NamesRise (get_or xs d [])) (sym has.names) (rising_at nodes d fit.fit (omega arith));

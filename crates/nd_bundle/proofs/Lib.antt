@@ -9,6 +9,7 @@ pub mod OneDrvPath
 pub mod Parted
 pub mod Pieced
 pub mod Placed
+pub mod Placing
 pub mod Pooled
 pub mod ReadAhead
 pub mod Taken

@@ -6,6 +6,8 @@ use Rattle.std.specs.List.{AllZip}
 use Rattle.std.specs.List.Sorted.{IsStrictlySortedBy}
 use Rattle.nd_bytes.specs.Compared.{bytes_cmp}
 use Rattle.nd_bundle.specs.Bundles.{IsBundle, IsBundleRefused, IsFirstFault, IsLineRefused, IsWholeRefused}
+use Rattle.nd_bundle.specs.Needed.{HasNeeds}
+use Rattle.nd_bundle.specs.Placing.{ArePlaced, Placed}
 use Rattle.nd_graph.specs.Graphs.{Nodes, node_limit, IsAt}
 use Rattle.nd_bundle.specs.Lines.{lines}
 use Rattle.nd_bundle.specs.Numbered.{fault_at}
@@ -222,3 +224,8 @@ one_bundle check text (Err f) (Err g) bad_f bad_g =
 pub read_exactly : (check : Bool) (text : List ℕ) (result : Result Nodes GraphError) → IfOk result (λ g. IsBundle check text g) → IfErr result (λ f. IsFirstFault check text f) → (graph : Nodes) → IsBundle check text graph → MatchResult result (λ g. g ≡ graph) (λ f. f ≡ bundle.Memory)
 read_exactly check text (Ok g) is_ok is_err graph is = one_graph check text g graph is_ok is
 read_exactly check text (Err f) is_ok is_err graph is = refused_alone check text graph f is is_err
+
+-- .. and the needs of its derivations
+pub needs_exactly : (check : Bool) (text : List ℕ) (result : Result Placed GraphError) → IfOk result (λ needs. HasNeeds check text needs) → IfErr result (λ f. IsFirstFault check text f) → (graph : Nodes) → IsBundle check text graph → MatchResult result (λ needs. ArePlaced needs.table needs.places graph.needs) (λ f. f ≡ bundle.Memory)
+needs_exactly check text (Ok needs) is_ok is_err graph is = subst (λ (g : Nodes). ArePlaced needs.table needs.places g.needs) (one_graph check text is_ok.graph graph is_ok.bundle is) is_ok.placed
+needs_exactly check text (Err f) is_ok is_err graph is = refused_alone check text graph f is is_err

@@ -13,7 +13,7 @@ use Rattle.nd_bundle.specs.Numbered.{fault_at}
 use Rattle.nd_bundle.specs.Numbering.{AddsPaths, AreNoNumbers, HasNumbers, LacksNumbers}
 use Rattle.nd_bundle.specs.Parts.{ArePieces, GoesOn, HasWholeLines, IsFaultBy, IsFaultOf, IsFoundFault, IsFoundIn, IsFoundNowhere, IsFoundNumbered, IsFoundTo, IsLineEnd, IsReadAsFar, IsReadBehind, IsReadFault, IsReadIn, IsReading, IsReadNowhere, IsReadNumbered, IsReadTo, IsReadUntil, IsRefusedAsFar, IsSpent, IsToldBy, IsUnread, ReadsLines, Takes, TakesAll}
 use Rattle.nd_bundle.specs.Pieces.{HasSameNodes, IsAppended, IsReadText}
-use Rattle.nd_bundle.specs.Reading.{Reading}
+use Rattle.nd_bundle.specs.ReadingLines.{ReadingLines}
 use Rattle.nd_bundle.specs.declared.ahead.Ahead.{Ahead}
 use Rattle.nd_bundle.specs.declared.columns.Columns.{Columns}
 use Rattle.nd_bundle.specs.declared.details.Details.{Details}
@@ -21,6 +21,7 @@ use Rattle.nd_bundle.specs.declared.fault.GraphError.{GraphError}
 use Rattle.nd_bundle.specs.declared.fault.GraphError.TheVariants as bundle
 use Rattle.nd_bundle.specs.declared.found.Found.{Found}
 use Rattle.nd_bundle.specs.declared.found.Numbered.{Numbered}
+use Rattle.nd_bundle.specs.declared.manner.Manner.{Manner}
 use Rattle.nd_bundle.specs.declared.number.Numbers.{Numbers}
 use Rattle.nd_bundle.specs.declared.piece.Piece.{Piece}
 use Rattle.nd_bundle.specs.declared.progress.Progress.{Progress}
@@ -31,49 +32,49 @@ use Rattle.nd_bundle.proofs.Told.{twice_fault}
 
 -- ---- one piece
 
-pub found_none : (found : Found) → found.refused ≡ None → AreNoNumbers found.numbers → HasDetails [] found.details → IsFoundNowhere found
+pub found_none : (found : Found) → found.refused ≡ None → AreNoNumbers found.numbers → ((whole : Bool) → HasDetails whole [] found.details) → IsFoundNowhere found
 found_none found none empty has = record {
-  nowhere = λ check. subst (λ (r : Option GraphError). IsFoundTo check [] found.numbers found.details r) (sym none) (record { nodes = []; says = tt; numbers_are = empty.none; has = has });
+  nowhere = λ manner. subst (λ (r : Option GraphError). IsFoundTo manner [] found.numbers found.details r) (sym none) (record { nodes = []; says = tt; numbers_are = empty.none; has = has manner.whole });
 }
 
 -- what was found with no refusal
-said : (check : Bool) (ls : List (List ℕ)) (found : Found) → found.refused ≡ None → IsFoundIn check ls found → SayNumbers check ls found.numbers found.details
-said check ls found none so = subst (λ (r : Option GraphError). IsFoundTo check ls found.numbers found.details r) none so
+said : (manner : Manner) (ls : List (List ℕ)) (found : Found) → found.refused ≡ None → IsFoundIn manner ls found → SayNumbers manner ls found.numbers found.details
+said manner ls found none so = subst (λ (r : Option GraphError). IsFoundTo manner ls found.numbers found.details r) none so
 
 -- .. and with one
-refusal : (check : Bool) (ls : List (List ℕ)) (found : Found) (fault : GraphError) → found.refused ≡ Some fault → IsFoundIn check ls found → IsFaultOf check ls fault
-refusal check ls found fault is so = subst (λ (r : Option GraphError). IsFoundTo check ls found.numbers found.details r) is so
+refusal : (manner : Manner) (ls : List (List ℕ)) (found : Found) (fault : GraphError) → found.refused ≡ Some fault → IsFoundIn manner ls found → IsFaultOf manner ls fault
+refusal manner ls found fault is so = subst (λ (r : Option GraphError). IsFoundTo manner ls found.numbers found.details r) is so
 
 -- a refusal stays the first one, whatever is behind
-pub fault_still : (check : Bool) (ls more : List (List ℕ)) (fault : GraphError) → IsFaultOf check ls fault → IsFaultOf check (ls ++ more) fault
-fault_still check ls more fault of = record { first = λ text behind parts. of.first text (more ++ behind) (parts ∙ append_assoc ls more behind) }
+pub fault_still : (manner : Manner) (ls more : List (List ℕ)) (fault : GraphError) → IsFaultOf manner ls fault → IsFaultOf manner (ls ++ more) fault
+fault_still manner ls more fault of = record { first = λ text behind parts. of.first text (more ++ behind) (parts ∙ append_assoc ls more behind) }
 
-refused_still : (check : Bool) (ls more : List (List ℕ)) (found : Found) (fault : GraphError) → found.refused ≡ Some fault → IsFoundIn check ls found → IsFoundIn check (ls ++ more) found
-refused_still check ls more found fault is so = subst (λ (r : Option GraphError). IsFoundTo check (ls ++ more) found.numbers found.details r) (sym is) (fault_still check ls more fault (refusal check ls found fault is so))
+refused_still : (manner : Manner) (ls more : List (List ℕ)) (found : Found) (fault : GraphError) → found.refused ≡ Some fault → IsFoundIn manner ls found → IsFoundIn manner (ls ++ more) found
+refused_still manner ls more found fault is so = subst (λ (r : Option GraphError). IsFoundTo manner (ls ++ more) found.numbers found.details r) (sym is) (fault_still manner ls more fault (refusal manner ls found fault is so))
 
 pub passes : (old : Found) (read : Result Piece AllocError) (fault : GraphError) → old.refused ≡ Some fault → Takes old read old
-passes old read fault is = record { taken = λ check ls more so also. refused_still check ls more old fault is so }
+passes old read fault is = record { taken = λ manner ls more so also. refused_still manner ls more old fault is so }
 
 pub takes_said : (old new : Found) (columns : Columns) → old.refused ≡ None → new.refused ≡ None → AddsPaths old.numbers columns.paths.items new.numbers → IsAppended old.details columns.details new.details → Takes old (Ok (record { columns = columns; refused = None })) new
 takes_said old new columns none still adds joined = record {
-  taken = λ check ls more so also.
-      subst (λ (r : Option GraphError). IsFoundTo check (ls ++ more) new.numbers new.details r) (sym still)
-      (says_more check ls more old.numbers new.numbers old.details new.details columns (said check ls old none so) also adds joined);
+  taken = λ manner ls more so also.
+      subst (λ (r : Option GraphError). IsFoundTo manner (ls ++ more) new.numbers new.details r) (sym still)
+      (says_more manner ls more old.numbers new.numbers old.details new.details columns (said manner ls old none so) also adds joined);
 }
 
-pub takes_refused : (old new : Found) (columns : Columns) (fault : LineError) (error : GraphError) → old.refused ≡ None → new.refused ≡ Some error → error ≡ fault_at fault (length new.details.needs.items + 1) → AddsPaths old.numbers columns.paths.items new.numbers
+pub takes_refused : (old new : Found) (columns : Columns) (fault : LineError) (error : GraphError) → old.refused ≡ None → new.refused ≡ Some error → error ≡ fault_at fault (length new.details.names.items + 1) → AddsPaths old.numbers columns.paths.items new.numbers
     → IsAppended old.details columns.details new.details → Takes old (Ok (record { columns = columns; refused = Some fault })) new
 takes_refused old new columns fault error none is number adds joined = record {
-  taken = λ check ls more so up.
-      subst (λ (r : Option GraphError). IsFoundTo check (ls ++ more) new.numbers new.details r) (sym is) (record {
+  taken = λ manner ls more so up.
+      subst (λ (r : Option GraphError). IsFoundTo manner (ls ++ more) new.numbers new.details r) (sym is) (record {
         first = λ text behind parts.
             let front : List (List ℕ) = ls ++ up.before in
             let rest : List (List ℕ) = up.behind ++ behind in
             let cut : more ++ behind ≡ up.before ++ up.line ∷ rest = ap (λ (xs : List (List ℕ)). xs ++ behind) up.parts ∙ append_assoc up.before (up.line ∷ up.behind) behind in
             let whole : lines text ≡ front ++ up.line ∷ rest = parts ∙ append_assoc ls more behind ∙ ap (λ (xs : List (List ℕ)). ls ++ xs) cut ∙ sym (append_assoc ls up.before (up.line ∷ rest)) in
-            let says : SayNumbers check front new.numbers new.details = says_more check ls up.before old.numbers new.numbers old.details new.details columns (said check ls old none so) up.says adds joined in
-            subst (λ (e : GraphError). IsFirstFault check text e) (sym number)
-            (fault_here check text front up.line rest says.nodes (length new.details.needs.items) fault whole says.says (many_numbered check front new.numbers new.details says) up.refused);
+            let says : SayNumbers manner front new.numbers new.details = says_more manner ls up.before old.numbers new.numbers old.details new.details columns (said manner ls old none so) up.says adds joined in
+            subst (λ (e : GraphError). IsFirstFault manner.check text e) (sym number)
+            (fault_here manner text front up.line rest says.nodes (length new.details.names.items) fault whole says.says (many_numbered manner front new.numbers new.details says) up.refused);
       });
 }
 
@@ -105,48 +106,48 @@ none_behind R (a ∷ front) x behind [] y before zip = absurd before
 none_behind R (a ∷ front) x behind (b ∷ ys) y before zip = none_behind R front x behind ys y before.1 zip.1
 
 pub takes_none : (found : Found) → TakesAll found [] found
-takes_none found = record { taken = λ check ls texts so zip. takes_nothing check ls texts so zip }
+takes_none found = record { taken = λ manner ls texts so zip. takes_nothing manner ls texts so zip }
   where
-    takes_nothing : (check : Bool) (ls texts : List (List ℕ)) → IsFoundIn check ls found → AllZip (IsReadText check) texts [] → IsFoundIn check (ls ++ lines_in texts) found
-    takes_nothing check ls [] so zip = subst (λ (xs : List (List ℕ)). IsFoundIn check xs found) (sym (append-nil ls)) so
-    takes_nothing check ls (t ∷ texts) so zip = absurd zip
+    takes_nothing : (manner : Manner) (ls texts : List (List ℕ)) → IsFoundIn manner ls found → AllZip (IsReadText manner) texts [] → IsFoundIn manner (ls ++ lines_in texts) found
+    takes_nothing manner ls [] so zip = subst (λ (xs : List (List ℕ)). IsFoundIn manner xs found) (sym (append-nil ls)) so
+    takes_nothing manner ls (t ∷ texts) so zip = absurd zip
 
 pub takes_more : (first old new : Found) (pieces : List (Result Piece AllocError)) (piece : Result Piece AllocError) → TakesAll first pieces old → Takes old piece new → TakesAll first (pieces ++ piece ∷ []) new
 takes_more first old new pieces piece so one = record {
-  taken = λ check ls texts before zip.
-      let R : List ℕ → Result Piece AllocError → Type 0 = IsReadText check in
+  taken = λ manner ls texts before zip.
+      let R : List ℕ → Result Piece AllocError → Type 0 = IsReadText manner in
       let at = between R texts pieces piece [] zip in
       let last : at.behind ≡ [] = none_behind R at.front at.x at.behind pieces piece at.before (subst (λ (ts : List (List ℕ)). AllZip R ts (pieces ++ piece ∷ [])) at.parts zip) in
       let are : lines_in texts ≡ lines_in at.front ++ lines at.x =
       ap (λ (ts : List (List ℕ)). lines_in ts) (at.parts ∙ ap (λ (ts : List (List ℕ)). at.front ++ at.x ∷ ts) last) ∙ lines_in-append at.front (at.x ∷ []) ∙ ap (λ (xs : List (List ℕ)). lines_in at.front ++ xs) (append-nil (lines at.x)) in
-      subst (λ (xs : List (List ℕ)). IsFoundIn check xs new) (append_assoc ls (lines_in at.front) (lines at.x) ∙ ap (λ (xs : List (List ℕ)). ls ++ xs) (sym are))
-      (one.taken check (ls ++ lines_in at.front) (lines at.x) (so.taken check ls at.front before at.before) at.here);
+      subst (λ (xs : List (List ℕ)). IsFoundIn manner xs new) (append_assoc ls (lines_in at.front) (lines at.x) ∙ ap (λ (xs : List (List ℕ)). ls ++ xs) (sym are))
+      (one.taken manner (ls ++ lines_in at.front) (lines at.x) (so.taken manner ls at.front before at.before) at.here);
 }
 
 -- what was found is found still where there is room for more
-found_still : (check : Bool) (ls : List (List ℕ)) (numbers : Numbers) (old new : Details) (refused : Option GraphError) → HasSameNodes old new → IsFoundTo check ls numbers old refused → IsFoundTo check ls numbers new refused
-found_still check ls numbers old new None same so = record { nodes = so.nodes; says = so.says; numbers_are = so.numbers_are; has = same.has so.nodes so.has }
-found_still check ls numbers old new (Some fault) same so = record { first = so.first }
+found_still : (manner : Manner) (ls : List (List ℕ)) (numbers : Numbers) (old new : Details) (refused : Option GraphError) → HasSameNodes old new → IsFoundTo manner ls numbers old refused → IsFoundTo manner ls numbers new refused
+found_still manner ls numbers old new None same so = record { nodes = so.nodes; says = so.says; numbers_are = so.numbers_are; has = same.has manner.whole so.nodes so.has }
+found_still manner ls numbers old new (Some fault) same so = record { first = so.first }
 
 pub takes_reserved : (old new : Found) (details : Details) (pieces : List (Result Piece AllocError)) → HasSameNodes old.details details → TakesAll (record { numbers = old.numbers; details = details; refused = old.refused }) pieces new → TakesAll old pieces new
-takes_reserved old new details pieces same takes = record { taken = λ check ls texts so zip. takes.taken check ls texts (found_still check ls old.numbers old.details details old.refused same so) zip }
+takes_reserved old new details pieces same takes = record { taken = λ manner ls texts so zip. takes.taken manner ls texts (found_still manner ls old.numbers old.details details old.refused same so) zip }
 
-pub are_pieces : (check : Bool) (text : List ℕ) (texts : List (List ℕ)) (pieces : List (Result Piece AllocError)) → lines_in texts ≡ lines text → AllZip (IsReadText check) texts pieces → ArePieces check text pieces
-are_pieces check text texts pieces are read = record { texts = texts; are = are; read = read }
+pub are_pieces : (manner : Manner) (text : List ℕ) (texts : List (List ℕ)) (pieces : List (Result Piece AllocError)) → lines_in texts ≡ lines text → AllZip (IsReadText manner) texts pieces → ArePieces manner text pieces
+are_pieces manner text texts pieces are read = record { texts = texts; are = are; read = read }
 
 -- ---- what was found, at the end
 
 pub found_numbered : (found : Found) (numbered : Numbered) → found.refused ≡ None → HasNumbers found.numbers numbered.paths.keys → numbered.details ≡ found.details → IsFoundNumbered found numbered
 found_numbered found numbered none has same = record {
-  says = λ check ls so.
-      let says : SayNumbers check ls found.numbers found.details = said check ls found none so in
+  says = λ manner ls so.
+      let says : SayNumbers manner ls found.numbers found.details = said manner ls found none so in
       let keys = has.has (map (λ (n : LineNode). n.path) says.nodes) says.numbers_are in
       record {
         rows = record {
           nodes = says.nodes;
           says = says.says;
           paths_are = keys.same;
-          has = subst (λ (d : Details). HasDetails says.nodes d) (sym same) says.has;
+          has = subst (λ (d : Details). HasDetails manner.whole says.nodes d) (sym same) says.has;
         };
         distinct = subst (λ (ks : List (List ℕ)). AreDistinct ks) (sym keys.same) keys.distinct;
       };
@@ -154,16 +155,16 @@ found_numbered found numbered none has same = record {
 
 pub found_twice : (found : Found) (fault : GraphError) → found.refused ≡ None → LacksNumbers found.numbers fault → IsFoundFault found fault
 found_twice found fault none lacks = record {
-  first = λ check text so.
-      let says : SayNumbers check (lines text) found.numbers found.details = said check (lines text) found none so in
-      twice_fault check text says.nodes fault says.says (lacks.lacks (map (λ (n : LineNode). n.path) says.nodes) says.numbers_are);
+  first = λ manner text so.
+      let says : SayNumbers manner (lines text) found.numbers found.details = said manner (lines text) found none so in
+      twice_fault manner.check text says.nodes fault says.says (lacks.lacks (map (λ (n : LineNode). n.path) says.nodes) says.numbers_are);
 }
 
-pub fault_in : (check : Bool) (text : List ℕ) (fault : GraphError) → IsFaultOf check (lines text) fault → IsFirstFault check text fault
-fault_in check text fault of = of.first text [] (sym (append-nil (lines text)))
+pub fault_in : (manner : Manner) (text : List ℕ) (fault : GraphError) → IsFaultOf manner (lines text) fault → IsFirstFault manner.check text fault
+fault_in manner text fault of = of.first text [] (sym (append-nil (lines text)))
 
 pub found_fault : (found : Found) (fault : GraphError) → found.refused ≡ Some fault → IsFoundFault found fault
-found_fault found fault is = record { first = λ check text so. fault_in check text fault (refusal check (lines text) found fault is so) }
+found_fault found fault is = record { first = λ manner text so. fault_in manner text fault (refusal manner (lines text) found fault is so) }
 
 pub fault_for_memory : (check : Bool) (text : List ℕ) (fault : GraphError) → fault ≡ bundle.Memory → IsFirstFault check text fault
 fault_for_memory check text fault is = subst (λ (e : GraphError). IsFirstFault check text e) (sym is) tt
@@ -171,51 +172,51 @@ fault_for_memory check text fault is = subst (λ (e : GraphError). IsFirstFault 
 -- ---- parts of a text
 
 -- what was read of lines, behind which the rest stands
-settled : (check : Bool) (text : List ℕ) (ahead : Ahead) (rest : List ℕ) (refused : Option GraphError) (ls : List (List ℕ)) → IsReadTo check ls ahead refused → ((behind : List ℕ) → lines (text ++ behind) ≡ ls ++ lines (rest ++ behind)) → IsReadUntil check text ahead rest refused
-settled check text ahead rest None ls so cut = record { ls = ls; says = so; cut = cut }
-settled check text ahead rest (Some fault) ls so cut = record { first = λ behind. so.first (text ++ behind) (lines (rest ++ behind)) (cut behind) }
+settled : (manner : Manner) (text : List ℕ) (ahead : Ahead) (rest : List ℕ) (refused : Option GraphError) (ls : List (List ℕ)) → IsReadTo manner ls ahead refused → ((behind : List ℕ) → lines (text ++ behind) ≡ ls ++ lines (rest ++ behind)) → IsReadUntil manner text ahead rest refused
+settled manner text ahead rest None ls so cut = record { ls = ls; says = so; cut = cut }
+settled manner text ahead rest (Some fault) ls so cut = record { first = λ behind. so.first (text ++ behind) (lines (rest ++ behind)) (cut behind) }
 
 pub is_unread : (progress : Progress) → IsReadNowhere progress.ahead → progress.rest.items ≡ [] → IsUnread progress
 is_unread progress none empty = record {
-  nothing = λ check.
-      settled check [] progress.ahead progress.rest.items progress.ahead.found.refused [] (none.nowhere check) (λ behind. ap (λ (xs : List ℕ). lines (xs ++ behind)) (sym empty));
+  nothing = λ manner.
+      settled manner [] progress.ahead progress.rest.items progress.ahead.found.refused [] (none.nowhere manner) (λ behind. ap (λ (xs : List ℕ). lines (xs ++ behind)) (sym empty));
 }
 
 pub is_spent : (progress : Progress) → progress.ahead.found.refused ≡ Some bundle.Memory → IsSpent progress
 is_spent progress is = record {
-  whatever = λ check text. subst (λ (r : Option GraphError). IsReadUntil check text progress.ahead progress.rest.items r) (sym is) (record { first = λ behind. tt });
+  whatever = λ manner text. subst (λ (r : Option GraphError). IsReadUntil manner text progress.ahead progress.rest.items r) (sym is) (record { first = λ behind. tt });
 }
 
-pub goes_spent : (check : Bool) (text : List ℕ) (old new : Progress) → IsSpent new → GoesOn check text old new
-goes_spent check text old new spent = record { goes = λ before so. spent.whatever check (before ++ text) }
+pub goes_spent : (manner : Manner) (text : List ℕ) (old new : Progress) → IsSpent new → GoesOn manner text old new
+goes_spent manner text old new spent = record { goes = λ before so. spent.whatever manner (before ++ text) }
 
 -- what was read with no refusal
-as_far : (check : Bool) (text : List ℕ) (progress : Progress) → progress.ahead.found.refused ≡ None → IsReading check text progress → IsReadAsFar check text progress.ahead progress.rest.items
-as_far check text progress none so = subst (λ (r : Option GraphError). IsReadUntil check text progress.ahead progress.rest.items r) none so
+as_far : (manner : Manner) (text : List ℕ) (progress : Progress) → progress.ahead.found.refused ≡ None → IsReading manner text progress → IsReadAsFar manner text progress.ahead progress.rest.items
+as_far manner text progress none so = subst (λ (r : Option GraphError). IsReadUntil manner text progress.ahead progress.rest.items r) none so
 
 -- .. up to a refusal
-refused_as_far : (check : Bool) (text : List ℕ) (progress : Progress) (fault : GraphError) → progress.ahead.found.refused ≡ Some fault → IsReading check text progress → IsRefusedAsFar check text fault
-refused_as_far check text progress fault is so = subst (λ (r : Option GraphError). IsReadUntil check text progress.ahead progress.rest.items r) is so
+refused_as_far : (manner : Manner) (text : List ℕ) (progress : Progress) (fault : GraphError) → progress.ahead.found.refused ≡ Some fault → IsReading manner text progress → IsRefusedAsFar manner text fault
+refused_as_far manner text progress fault is so = subst (λ (r : Option GraphError). IsReadUntil manner text progress.ahead progress.rest.items r) is so
 
 -- .. is what was found in the lines
-found_as_far : (check : Bool) (text : List ℕ) (progress : Progress) → progress.ahead.found.refused ≡ None → (far : IsReadAsFar check text progress.ahead progress.rest.items) → IsReadIn check far.ls progress.ahead
-found_as_far check text progress none far = subst (λ (r : Option GraphError). IsReadTo check far.ls progress.ahead r) (sym none) far.says
+found_as_far : (manner : Manner) (text : List ℕ) (progress : Progress) → progress.ahead.found.refused ≡ None → (far : IsReadAsFar manner text progress.ahead progress.rest.items) → IsReadIn manner far.ls progress.ahead
+found_as_far manner text progress none far = subst (λ (r : Option GraphError). IsReadTo manner far.ls progress.ahead r) (sym none) far.says
 
-pub goes_refused : (check : Bool) (text : List ℕ) (old : Progress) (fault : GraphError) → old.ahead.found.refused ≡ Some fault → GoesOn check text old old
-goes_refused check text old fault is = record {
+pub goes_refused : (manner : Manner) (text : List ℕ) (old : Progress) (fault : GraphError) → old.ahead.found.refused ≡ Some fault → GoesOn manner text old old
+goes_refused manner text old fault is = record {
   goes = λ before so.
-      let of : IsRefusedAsFar check before fault = refused_as_far check before old fault is so in
-      subst (λ (r : Option GraphError). IsReadUntil check (before ++ text) old.ahead old.rest.items r) (sym is)
-      (record { first = λ behind. subst (λ (xs : List ℕ). IsFirstFault check xs fault) (sym (append_assoc before text behind)) (of.first (text ++ behind)) });
+      let of : IsRefusedAsFar manner before fault = refused_as_far manner before old fault is so in
+      subst (λ (r : Option GraphError). IsReadUntil manner (before ++ text) old.ahead old.rest.items r) (sym is)
+      (record { first = λ behind. subst (λ (xs : List ℕ). IsFirstFault manner.check xs fault) (sym (append_assoc before text behind)) (of.first (text ++ behind)) });
 }
 
 -- the text has no newline
-pub goes_within : (check : Bool) (text : List ℕ) (old new : Progress) → old.ahead.found.refused ≡ None → new.ahead ≡ old.ahead → new.rest.items ≡ old.rest.items ++ text → GoesOn check text old new
-goes_within check text old new none same grown = record {
+pub goes_within : (manner : Manner) (text : List ℕ) (old new : Progress) → old.ahead.found.refused ≡ None → new.ahead ≡ old.ahead → new.rest.items ≡ old.rest.items ++ text → GoesOn manner text old new
+goes_within manner text old new none same grown = record {
   goes = λ before so.
-      let far = as_far check before old none so in
-      settled check (before ++ text) new.ahead new.rest.items new.ahead.found.refused far.ls
-      (subst (λ (f : Ahead). IsReadIn check far.ls f) (sym same) (found_as_far check before old none far))
+      let far = as_far manner before old none so in
+      settled manner (before ++ text) new.ahead new.rest.items new.ahead.found.refused far.ls
+      (subst (λ (f : Ahead). IsReadIn manner far.ls f) (sym same) (found_as_far manner before old none far))
       (λ behind. ap (λ (xs : List ℕ). lines xs) (append_assoc before text behind) ∙ far.cut (text ++ behind)
       ∙ ap (λ (xs : List ℕ). far.ls ++ lines xs) (sym (append_assoc old.rest.items text behind)) ∙ ap (λ (xs : List ℕ). far.ls ++ lines (xs ++ behind)) (sym grown));
 }
@@ -238,28 +239,28 @@ whole_part room front rest from to filled order is parts =
     let fits : length front ≤ left = omega (arith, at_most left behind, ap (λ (xs : List ℕ). length xs) here, length-append front rest) in
     ap (λ (n : ℕ). drop from (take n room)) is ∙ drop-take from (length front) room ∙ sym (take-take (length front) left behind fits) ∙ ap (λ (xs : List ℕ). take (length front) xs) here ∙ take_at front rest (length front) refl
 
-pub read_behind : (check : Bool) (room : List ℕ) (old new : Progress) (front rest : List ℕ) (from to filled : ℕ) → old.rest.items ≡ [] → from ≤ filled → to ≡ from + length front → drop from (take filled room) ≡ front ++ rest → HasWholeLines front
-    → ReadsLines check (drop from (take to room)) old.ahead new.ahead → new.rest.items ≡ old.rest.items ++ rest → IsReadBehind check (drop from (take filled room)) old new
-read_behind check room old new front rest from to filled empty order is parts whole reads grown = record {
+pub read_behind : (manner : Manner) (room : List ℕ) (old new : Progress) (front rest : List ℕ) (from to filled : ℕ) → old.rest.items ≡ [] → from ≤ filled → to ≡ from + length front → drop from (take filled room) ≡ front ++ rest → HasWholeLines front
+    → ReadsLines manner (drop from (take to room)) old.ahead new.ahead → new.rest.items ≡ old.rest.items ++ rest → IsReadBehind manner (drop from (take filled room)) old new
+read_behind manner room old new front rest from to filled empty order is parts whole reads grown = record {
   front = front;
   parts = parts ∙ ap (λ (xs : List ℕ). front ++ xs) (sym (grown ∙ ap (λ (xs : List ℕ). xs ++ rest) empty));
   whole = whole;
-  lines_on = subst (λ (xs : List ℕ). ReadsLines check xs old.ahead new.ahead) (whole_part room front rest from to filled order is parts) reads;
+  lines_on = subst (λ (xs : List ℕ). ReadsLines manner xs old.ahead new.ahead) (whole_part room front rest from to filled order is parts) reads;
 }
 
 -- the text has a newline
-pub goes_lines : (check : Bool) (text : List ℕ) (old mid new : Progress) (end behind : List ℕ) (from : ℕ) → old.ahead.found.refused ≡ None → text ≡ end ++ behind → from ≡ length end → IsLineEnd end → ReadsLines check (old.rest.items ++ end) old.ahead mid.ahead
-    → IsReadBehind check (drop from text) mid new → GoesOn check text old new
-goes_lines check text old mid new end behind from none parts is ended reads far_on = record {
+pub goes_lines : (manner : Manner) (text : List ℕ) (old mid new : Progress) (end behind : List ℕ) (from : ℕ) → old.ahead.found.refused ≡ None → text ≡ end ++ behind → from ≡ length end → IsLineEnd end → ReadsLines manner (old.rest.items ++ end) old.ahead mid.ahead
+    → IsReadBehind manner (drop from text) mid new → GoesOn manner text old new
+goes_lines manner text old mid new end behind from none parts is ended reads far_on = record {
   goes = λ before so.
       let at : drop from text ≡ behind = ap (λ (n : ℕ). drop n text) is ∙ ap (λ (xs : List ℕ). drop (length end) xs) parts ∙ drop_at end behind (length end) refl in
-      let more : IsReadBehind check behind mid new = subst (λ (xs : List ℕ). IsReadBehind check xs mid new) at far_on in
-      let far = as_far check before old none so in
+      let more : IsReadBehind manner behind mid new = subst (λ (xs : List ℕ). IsReadBehind manner xs mid new) at far_on in
+      let far = as_far manner before old none so in
       let rest : List ℕ = old.rest.items in
       let left : List ℕ = new.rest.items in
       let one : List (List ℕ) = lines (rest ++ end) in
       let two : List (List ℕ) = lines more.front in
-      settled check (before ++ text) new.ahead left new.ahead.found.refused ((far.ls ++ one) ++ two) (more.lines_on.on (far.ls ++ one) (reads.on far.ls (found_as_far check before old none far))) (λ tail.
+      settled manner (before ++ text) new.ahead left new.ahead.found.refused ((far.ls ++ one) ++ two) (more.lines_on.on (far.ls ++ one) (reads.on far.ls (found_as_far manner before old none far))) (λ tail.
       let whole : rest ++ (text ++ tail) ≡ (rest ++ end) ++ (more.front ++ (left ++ tail)) =
       ap (λ (xs : List ℕ). rest ++ (xs ++ tail)) (parts ∙ ap (λ (xs : List ℕ). end ++ xs) more.parts)
       ∙ ap (λ (xs : List ℕ). rest ++ xs) (append_assoc end (more.front ++ left) tail ∙ ap (λ (xs : List ℕ). end ++ xs) (append_assoc more.front left tail)) ∙ sym (append_assoc rest end (more.front ++ (left ++ tail))) in
@@ -272,43 +273,47 @@ goes_lines check text old mid new end behind from none parts is ended reads far_
 -- ---- the end
 
 -- the lines of the text are those that were read, and the rest's
-all_lines : (check : Bool) (text : List ℕ) (ahead : Ahead) (rest : List ℕ) (far : IsReadAsFar check text ahead rest) → lines text ≡ far.ls ++ lines rest
-all_lines check text ahead rest far = ap (λ (xs : List ℕ). lines xs) (sym (append-nil text)) ∙ far.cut [] ∙ ap (λ (xs : List ℕ). far.ls ++ lines xs) (append-nil rest)
+all_lines : (manner : Manner) (text : List ℕ) (ahead : Ahead) (rest : List ℕ) (far : IsReadAsFar manner text ahead rest) → lines text ≡ far.ls ++ lines rest
+all_lines manner text ahead rest far = ap (λ (xs : List ℕ). lines xs) (sym (append-nil text)) ∙ far.cut [] ∙ ap (λ (xs : List ℕ). far.ls ++ lines xs) (append-nil rest)
 
 -- all lines were read
-read_all : (check : Bool) (text : List ℕ) (progress : Progress) (ahead : Ahead) → progress.ahead.found.refused ≡ None → ReadsLines check progress.rest.items progress.ahead ahead → IsReading check text progress → IsReadIn check (lines text) ahead
-read_all check text progress ahead none reads so =
-    let far = as_far check text progress none so in
-    subst (λ (ls : List (List ℕ)). IsReadIn check ls ahead) (sym (all_lines check text progress.ahead progress.rest.items far)) (reads.on far.ls (found_as_far check text progress none far))
+read_all : (manner : Manner) (text : List ℕ) (progress : Progress) (ahead : Ahead) → progress.ahead.found.refused ≡ None → ReadsLines manner progress.rest.items progress.ahead ahead → IsReading manner text progress → IsReadIn manner (lines text) ahead
+read_all manner text progress ahead none reads so =
+    let far = as_far manner text progress none so in
+    subst (λ (ls : List (List ℕ)). IsReadIn manner ls ahead) (sym (all_lines manner text progress.ahead progress.rest.items far)) (reads.on far.ls (found_as_far manner text progress none far))
 
-pub told_by : (check : Bool) (progress : Progress) (ahead : Ahead) (numbered : Numbered) → progress.ahead.found.refused ≡ None → ReadsLines check progress.rest.items progress.ahead ahead → IsReadNumbered ahead numbered → IsToldBy check progress numbered
-told_by check progress ahead numbered none reads by = record { says = λ text so. by.says check (lines text) (read_all check text progress ahead none reads so) }
+pub told_by : (manner : Manner) (progress : Progress) (ahead : Ahead) (numbered : Numbered) → progress.ahead.found.refused ≡ None → ReadsLines manner progress.rest.items progress.ahead ahead → IsReadNumbered ahead numbered → IsToldBy manner progress numbered
+told_by manner progress ahead numbered none reads by = record { says = λ text so. by.says manner (lines text) (read_all manner text progress ahead none reads so) }
 
-pub fault_by : (check : Bool) (progress : Progress) (ahead : Ahead) (fault : GraphError) → progress.ahead.found.refused ≡ None → ReadsLines check progress.rest.items progress.ahead ahead → IsReadFault ahead fault → IsFaultBy check progress fault
-fault_by check progress ahead fault none reads by = record { first = λ text so. by.first check text (read_all check text progress ahead none reads so) }
+pub fault_by : (manner : Manner) (progress : Progress) (ahead : Ahead) (fault : GraphError) → progress.ahead.found.refused ≡ None → ReadsLines manner progress.rest.items progress.ahead ahead → IsReadFault ahead fault → IsFaultBy manner progress fault
+fault_by manner progress ahead fault none reads by = record { first = λ text so. by.first manner text (read_all manner text progress ahead none reads so) }
 
-pub fault_before : (check : Bool) (progress : Progress) (fault : GraphError) → progress.ahead.found.refused ≡ Some fault → IsFaultBy check progress fault
-fault_before check progress fault is = record {
-  first = λ text so. subst (λ (xs : List ℕ). IsFirstFault check xs fault) (append-nil text) ((refused_as_far check text progress fault is so).first []);
+pub fault_before : (manner : Manner) (progress : Progress) (fault : GraphError) → progress.ahead.found.refused ≡ Some fault → IsFaultBy manner progress fault
+fault_before manner progress fault is = record {
+  first = λ text so. subst (λ (xs : List ℕ). IsFirstFault manner.check xs fault) (append-nil text) ((refused_as_far manner text progress fault is so).first []);
 }
 
-pub fault_of_memory : (check : Bool) (progress : Progress) (fault : GraphError) → fault ≡ bundle.Memory → IsFaultBy check progress fault
-fault_of_memory check progress fault is = record { first = λ text so. fault_for_memory check text fault is }
+pub fault_of_memory : (manner : Manner) (progress : Progress) (fault : GraphError) → fault ≡ bundle.Memory → IsFaultBy manner progress fault
+fault_of_memory manner progress fault is = record { first = λ text so. fault_for_memory manner.check text fault is }
 
 -- ---- a whole text
 
-pub all_said : (check : Bool) (text : List ℕ) (pieces : List (Result Piece AllocError)) (nowhere found : Found) (numbered : Numbered) → IsFoundNowhere nowhere → ArePieces check text pieces → TakesAll nowhere pieces found → IsFoundNumbered found numbered → SayNumbered check (lines text) numbered
-all_said check text pieces nowhere found numbered none are takes by =
-    by.says check (lines text) (subst (λ (xs : List (List ℕ)). IsFoundIn check xs found) are.are (takes.taken check [] are.texts (none.nowhere check) are.read))
+pub all_said : (manner : Manner) (text : List ℕ) (pieces : List (Result Piece AllocError)) (nowhere found : Found) (numbered : Numbered) → IsFoundNowhere nowhere → ArePieces manner text pieces → TakesAll nowhere pieces found → IsFoundNumbered found numbered → SayNumbered manner (lines text) numbered
+all_said manner text pieces nowhere found numbered none are takes by =
+    by.says manner (lines text) (subst (λ (xs : List (List ℕ)). IsFoundIn manner xs found) are.are (takes.taken manner [] are.texts (none.nowhere manner) are.read))
 
-pub first_refused : (check : Bool) (text : List ℕ) (pieces : List (Result Piece AllocError)) (nowhere found : Found) (fault : GraphError) → IsFoundNowhere nowhere → ArePieces check text pieces → TakesAll nowhere pieces found → IsFoundFault found fault → IsFirstFault check text fault
-first_refused check text pieces nowhere found fault none are takes by =
-    by.first check text (subst (λ (xs : List (List ℕ)). IsFoundIn check xs found) are.are (takes.taken check [] are.texts (none.nowhere check) are.read))
+pub first_refused : (manner : Manner) (text : List ℕ) (pieces : List (Result Piece AllocError)) (nowhere found : Found) (fault : GraphError) → IsFoundNowhere nowhere → ArePieces manner text pieces → TakesAll nowhere pieces found → IsFoundFault found fault → IsFirstFault manner.check text fault
+first_refused manner text pieces nowhere found fault none are takes by =
+    by.first manner text (subst (λ (xs : List (List ℕ)). IsFoundIn manner xs found) are.are (takes.taken manner [] are.texts (none.nowhere manner) are.read))
 
 -- ---- what the reader shows
 
-pub says_of : (reading : Reading) (text : List ℕ) (progress : Progress) (numbered : Numbered) (check : Bool) → record { check = check; text = text } ≡ reading → IsReading check text progress → IsToldBy check progress numbered → SayNumbered reading.check (lines reading.text) numbered
-says_of reading text progress numbered check shown so told = subst (λ (r : Reading). SayNumbered r.check (lines r.text) numbered) shown (told.says text so)
+-- the reading of a reader that reads in this manner
+abbrev pub shown_as : Manner → List ℕ → ReadingLines
+shown_as manner text = record { manner = manner; text = text }
 
-pub fault_of : (reading : Reading) (text : List ℕ) (progress : Progress) (fault : GraphError) (check : Bool) → record { check = check; text = text } ≡ reading → IsReading check text progress → IsFaultBy check progress fault → IsFirstFault reading.check reading.text fault
-fault_of reading text progress fault check shown so by = subst (λ (r : Reading). IsFirstFault r.check r.text fault) shown (by.first text so)
+pub says_so_far : (reading : ReadingLines) (text : List ℕ) (progress : Progress) (numbered : Numbered) (manner : Manner) → shown_as manner text ≡ reading → IsReading manner text progress → IsToldBy manner progress numbered → SayNumbered reading.manner (lines reading.text) numbered
+says_so_far reading text progress numbered manner shown so told = subst (λ (r : ReadingLines). SayNumbered r.manner (lines r.text) numbered) shown (told.says text so)
+
+pub fault_so_far : (reading : ReadingLines) (text : List ℕ) (progress : Progress) (fault : GraphError) (manner : Manner) → shown_as manner text ≡ reading → IsReading manner text progress → IsFaultBy manner progress fault → IsFirstFault reading.manner.check reading.text fault
+fault_so_far reading text progress fault manner shown so by = subst (λ (r : ReadingLines). IsFirstFault r.manner.check r.text fault) shown (by.first text so)

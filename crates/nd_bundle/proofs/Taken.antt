@@ -1,10 +1,14 @@
 -- The nodes of lines, put in lists with one item each.
-use Rattle.std.proofs.Common.{◌≡◌, ℕ, Bool, List, [], ◌∷◌, ◌++◌, length, map, sym, ap, subst, ◌∙◌}
+use Rattle.std.proofs.Common.{◌≡◌, ℕ, Bool, true, false, List, [], ◌∷◌, ◌++◌, length, map, sym, ap, subst, ◌∙◌}
 use Rattle.std.proofs.lemmas.List.{length-map, map-append}
-use Rattle.nd_bundle.specs.Columned.{HasColumns, HasDetails, SayColumns, SayNumbers}
+use Rattle.std.specs.List.{AllZip}
+use Rattle.nd_bundle.specs.Columned.{AreKept, AreNeeds, HasColumns, HasDetails, SayColumns, SayNumbers}
 use Rattle.nd_bundle.specs.Numbering.{AddsPaths, AreNumbersOf}
+use Rattle.nd_bundle.specs.Placing.{AddsNeed, ArePlaced, IsPlaced, JoinsNeeds}
+use Rattle.nd_bundle.specs.declared.shared_needs.SharedNeeds.{SharedNeeds}
 use Rattle.nd_eligible.specs.declared.need.Need.{Need}
 use Rattle.nd_bundle.specs.declared.details.Details.{Details}
+use Rattle.nd_bundle.specs.declared.manner.Manner.{Manner}
 use Rattle.nd_bundle.specs.declared.number.Numbers.{Numbers}
 use Rattle.nd_bundle.specs.Pieces.{HasSameNodes, IsAppended}
 use Rattle.nd_line.specs.Reads.{IsLine}
@@ -17,29 +21,104 @@ use Rattle.rayon.proofs.ListFacts.{AllZip-append}
 more_of : {A : Type 0} (part : LineNode → A) (old new : List A) (nodes : List LineNode) (node : LineNode) → new ≡ old ++ part node ∷ [] → old ≡ map part nodes → new ≡ map part (nodes ++ node ∷ [])
 more_of part old new nodes node grown so = grown ∙ ap (λ xs. xs ++ part node ∷ []) so ∙ sym (map-append part nodes (node ∷ []))
 
-pub pushed : (old new : Columns) (nodes : List LineNode) (node : LineNode) → new.paths.items ≡ old.paths.items ++ node.path ∷ [] → new.details.needs.items ≡ old.details.needs.items ++ node.need ∷ [] → new.details.wants.items ≡ old.details.wants.items ++ node.inputs ∷ []
+-- what is kept of paths, where the one list is the other
+kept_same : (whole : Bool) (kept same said : List (List (List ℕ))) → same ≡ kept → AreKept whole kept said → AreKept whole same said
+kept_same true kept same said is so = is ∙ so
+kept_same false kept same said is so = tt
+
+-- .. and all of it
+kept_all : (whole : Bool) (kept said : List (List (List ℕ))) → kept ≡ said → AreKept whole kept said
+kept_all true kept said is = is
+kept_all false kept said is = tt
+
+-- .. or nothing
+kept_none : (whole : Bool) (kept said : List (List (List ℕ))) → whole ≡ false → AreKept whole kept said
+kept_none whole kept said none = subst (λ (w : Bool). AreKept w kept said) (sym none) tt
+
+-- .. where all is kept
+kept_whole : (whole : Bool) (kept said : List (List (List ℕ))) → whole ≡ true → AreKept whole kept said → kept ≡ said
+kept_whole whole kept said all so = let P : Bool → Type 0 = λ w. AreKept w kept said in subst P all so
+
+-- the needs of no node
+no_needs : (whole : Bool) (details : Details) → details.needs.items ≡ [] → details.shared.table.items ≡ [] → details.shared.places.items ≡ [] → AreNeeds whole details []
+no_needs true details needs table places = needs
+no_needs false details needs table places = record { each = subst (λ (ps : List ℕ). AllZip (IsPlaced details.shared.table.items) [] ps) (sym places) tt }
+
+-- .. where all is kept
+needs_whole : (whole : Bool) (details : Details) (said : List Need) → whole ≡ true → AreNeeds whole details said → details.needs.items ≡ said
+needs_whole whole details said all so = let P : Bool → Type 0 = λ w. AreNeeds w details said in subst P all so
+
+are_needs_whole : (whole : Bool) (details : Details) (said : List Need) → whole ≡ true → details.needs.items ≡ said → AreNeeds whole details said
+are_needs_whole whole details said all so = let P : Bool → Type 0 = λ w. AreNeeds w details said in subst P (sym all) so
+
+-- .. and where they are shared
+needs_shared : (whole : Bool) (details : Details) (said : List Need) → whole ≡ false → AreNeeds whole details said → ArePlaced details.shared.table.items details.shared.places.items said
+needs_shared whole details said none so = let P : Bool → Type 0 = λ w. AreNeeds w details said in subst P none so
+
+are_needs_shared : (whole : Bool) (details : Details) (said : List Need) → whole ≡ false → ArePlaced details.shared.table.items details.shared.places.items said → AreNeeds whole details said
+are_needs_shared whole details said none so = let P : Bool → Type 0 = λ w. AreNeeds w details said in subst P (sym none) so
+
+-- .. are the same in the same lists
+needs_same : (whole : Bool) (old new : Details) (said : List Need) → new.needs.items ≡ old.needs.items → new.shared ≡ old.shared → AreNeeds whole old said → AreNeeds whole new said
+needs_same true old new said needs shared so = needs ∙ so
+needs_same false old new said needs shared so = subst (λ (s : SharedNeeds). ArePlaced s.table.items s.places.items said) (sym shared) so
+
+-- the details of no node
+pub no_details : (whole : Bool) (details : Details) → details.needs.items ≡ [] → details.shared.table.items ≡ [] → details.shared.places.items ≡ [] → details.wants.items ≡ [] → details.sources.items ≡ [] → details.names.items ≡ [] → details.outputs.items ≡ [] → HasDetails whole [] details
+no_details whole details needs table places wants sources names outputs = record {
+  needs = no_needs whole details needs table places;
+  wants = wants;
+  sources = kept_all whole details.sources.items [] sources;
+  names = names;
+  outputs = kept_all whole details.outputs.items [] outputs;
+}
+
+pub pushed : (whole : Bool) (old new : Columns) (nodes : List LineNode) (node : LineNode) → whole ≡ true → new.paths.items ≡ old.paths.items ++ node.path ∷ [] → new.details.needs.items ≡ old.details.needs.items ++ node.need ∷ [] → new.details.wants.items ≡ old.details.wants.items ++ node.inputs ∷ []
     → new.details.sources.items ≡ old.details.sources.items ++ node.sources ∷ [] → new.details.names.items ≡ old.details.names.items ++ node.output_names ∷ [] → new.details.outputs.items ≡ old.details.outputs.items ++ node.outputs ∷ []
-    → HasColumns nodes old → HasColumns (nodes ++ node ∷ []) new
-pushed old new nodes node paths needs wants sources names outputs has = record {
+    → HasColumns whole nodes old → HasColumns whole (nodes ++ node ∷ []) new
+pushed whole old new nodes node all paths needs wants sources names outputs has = record {
   paths = more_of (λ (n : LineNode). n.path) old.paths.items new.paths.items nodes node paths has.paths;
   details = record {
-    needs = more_of (λ (n : LineNode). n.need) old.details.needs.items new.details.needs.items nodes node needs has.details.needs;
+    needs =
+        are_needs_whole whole new.details (map (λ (n : LineNode). n.need) (nodes ++ node ∷ [])) all
+        (more_of (λ (n : LineNode). n.need) old.details.needs.items new.details.needs.items nodes node needs (needs_whole whole old.details (map (λ (n : LineNode). n.need) nodes) all has.details.needs));
     wants = more_of (λ (n : LineNode). n.inputs) old.details.wants.items new.details.wants.items nodes node wants has.details.wants;
-    sources = more_of (λ (n : LineNode). n.sources) old.details.sources.items new.details.sources.items nodes node sources has.details.sources;
+    sources =
+        kept_all whole new.details.sources.items (map (λ (n : LineNode). n.sources) (nodes ++ node ∷ []))
+        (more_of (λ (n : LineNode). n.sources) old.details.sources.items new.details.sources.items nodes node sources (kept_whole whole old.details.sources.items (map (λ (n : LineNode). n.sources) nodes) all has.details.sources));
     names = more_of (λ (n : LineNode). n.output_names) old.details.names.items new.details.names.items nodes node names has.details.names;
-    outputs = more_of (λ (n : LineNode). n.outputs) old.details.outputs.items new.details.outputs.items nodes node outputs has.details.outputs;
+    outputs =
+        kept_all whole new.details.outputs.items (map (λ (n : LineNode). n.outputs) (nodes ++ node ∷ []))
+        (more_of (λ (n : LineNode). n.outputs) old.details.outputs.items new.details.outputs.items nodes node outputs (kept_whole whole old.details.outputs.items (map (λ (n : LineNode). n.outputs) nodes) all has.details.outputs));
+  };
+}
+
+-- .. but for the paths of sources and outputs
+pub pushed_links : (whole : Bool) (old new : Columns) (nodes : List LineNode) (node : LineNode) → whole ≡ false → new.paths.items ≡ old.paths.items ++ node.path ∷ [] → AddsNeed node.need old.details.shared new.details.shared → new.details.wants.items ≡ old.details.wants.items ++ node.inputs ∷ []
+    → new.details.names.items ≡ old.details.names.items ++ node.output_names ∷ [] → HasColumns whole nodes old → HasColumns whole (nodes ++ node ∷ []) new
+pushed_links whole old new nodes node none paths needs wants names has = record {
+  paths = more_of (λ (n : LineNode). n.path) old.paths.items new.paths.items nodes node paths has.paths;
+  details = record {
+    needs =
+        are_needs_shared whole new.details (map (λ (n : LineNode). n.need) (nodes ++ node ∷ [])) none
+        (subst (λ (ns : List Need). ArePlaced new.details.shared.table.items new.details.shared.places.items ns) (sym (map-append (λ (n : LineNode). n.need) nodes (node ∷ [])))
+        (needs.adds (map (λ (n : LineNode). n.need) nodes) (needs_shared whole old.details (map (λ (n : LineNode). n.need) nodes) none has.details.needs)));
+    wants = more_of (λ (n : LineNode). n.inputs) old.details.wants.items new.details.wants.items nodes node wants has.details.wants;
+    sources = kept_none whole new.details.sources.items (map (λ (n : LineNode). n.sources) (nodes ++ node ∷ [])) none;
+    names = more_of (λ (n : LineNode). n.output_names) old.details.names.items new.details.names.items nodes node names has.details.names;
+    outputs = kept_none whole new.details.outputs.items (map (λ (n : LineNode). n.outputs) (nodes ++ node ∷ [])) none;
   };
 }
 
 -- room for more nodes
-pub reserved : (old new : Details) → new.needs.items ≡ old.needs.items → new.wants.items ≡ old.wants.items → new.sources.items ≡ old.sources.items → new.names.items ≡ old.names.items → new.outputs.items ≡ old.outputs.items → HasSameNodes old new
-reserved old new needs wants sources names outputs = record {
-  has = λ nodes has. record {
-    needs = needs ∙ has.needs;
+pub reserved : (old new : Details) → new.needs.items ≡ old.needs.items → new.shared ≡ old.shared → new.wants.items ≡ old.wants.items → new.sources.items ≡ old.sources.items → new.names.items ≡ old.names.items → new.outputs.items ≡ old.outputs.items → HasSameNodes old new
+reserved old new needs shared wants sources names outputs = record {
+  has = λ whole nodes has. record {
+    needs = needs_same whole old new (map (λ (n : LineNode). n.need) nodes) needs shared has.needs;
     wants = wants ∙ has.wants;
-    sources = sources ∙ has.sources;
+    sources = kept_same whole old.sources.items new.sources.items (map (λ (n : LineNode). n.sources) nodes) sources has.sources;
     names = names ∙ has.names;
-    outputs = outputs ∙ has.outputs;
+    outputs = kept_same whole old.outputs.items new.outputs.items (map (λ (n : LineNode). n.outputs) nodes) outputs has.outputs;
   };
 }
 
@@ -47,58 +126,70 @@ reserved old new needs wants sources names outputs = record {
 joined_of : {A : Type 0} (part : LineNode → A) (old others new : List A) (some more : List LineNode) → new ≡ old ++ others → old ≡ map part some → others ≡ map part more → new ≡ map part (some ++ more)
 joined_of part old others new some more grown so also = grown ∙ ap (λ xs. xs ++ others) so ∙ ap (λ xs. map part some ++ xs) also ∙ sym (map-append part some more)
 
-pub appended : (old others new : Details) → new.needs.items ≡ old.needs.items ++ others.needs.items → new.wants.items ≡ old.wants.items ++ others.wants.items → new.sources.items ≡ old.sources.items ++ others.sources.items
+-- .. where they are kept
+kept_joined : (part : LineNode → List (List ℕ)) (whole : Bool) (old others new : List (List (List ℕ))) (some more : List LineNode) → new ≡ old ++ others → AreKept whole old (map part some) → AreKept whole others (map part more) → AreKept whole new (map part (some ++ more))
+kept_joined part true old others new some more grown so also = joined_of part old others new some more grown so also
+kept_joined part false old others new some more grown so also = tt
+
+needs_joined : (whole : Bool) (old others new : Details) (some more : List LineNode) → new.needs.items ≡ old.needs.items ++ others.needs.items → JoinsNeeds old.shared others.shared new.shared → AreNeeds whole old (map (λ (n : LineNode). n.need) some) → AreNeeds whole others (map (λ (n : LineNode). n.need) more)
+    → AreNeeds whole new (map (λ (n : LineNode). n.need) (some ++ more))
+needs_joined true old others new some more grown joins so also = joined_of (λ (n : LineNode). n.need) old.needs.items others.needs.items new.needs.items some more grown so also
+needs_joined false old others new some more grown joins so also =
+    subst (λ (ns : List Need). ArePlaced new.shared.table.items new.shared.places.items ns) (sym (map-append (λ (n : LineNode). n.need) some more))
+    (joins.joins (map (λ (n : LineNode). n.need) some) (map (λ (n : LineNode). n.need) more) so also)
+
+pub appended : (old others new : Details) → new.needs.items ≡ old.needs.items ++ others.needs.items → JoinsNeeds old.shared others.shared new.shared → new.wants.items ≡ old.wants.items ++ others.wants.items → new.sources.items ≡ old.sources.items ++ others.sources.items
     → new.names.items ≡ old.names.items ++ others.names.items → new.outputs.items ≡ old.outputs.items ++ others.outputs.items → IsAppended old others new
-appended old others new needs wants sources names outputs = record {
-  has = λ some more has also. record {
-    needs = joined_of (λ (n : LineNode). n.need) old.needs.items others.needs.items new.needs.items some more needs has.needs also.needs;
+appended old others new needs shared wants sources names outputs = record {
+  has = λ whole some more has also. record {
+    needs = needs_joined whole old others new some more needs shared has.needs also.needs;
     wants = joined_of (λ (n : LineNode). n.inputs) old.wants.items others.wants.items new.wants.items some more wants has.wants also.wants;
-    sources = joined_of (λ (n : LineNode). n.sources) old.sources.items others.sources.items new.sources.items some more sources has.sources also.sources;
+    sources = kept_joined (λ (n : LineNode). n.sources) whole old.sources.items others.sources.items new.sources.items some more sources has.sources also.sources;
     names = joined_of (λ (n : LineNode). n.output_names) old.names.items others.names.items new.names.items some more names has.names also.names;
-    outputs = joined_of (λ (n : LineNode). n.outputs) old.outputs.items others.outputs.items new.outputs.items some more outputs has.outputs also.outputs;
+    outputs = kept_joined (λ (n : LineNode). n.outputs) whole old.outputs.items others.outputs.items new.outputs.items some more outputs has.outputs also.outputs;
   };
 }
 
 -- as many details as nodes
-pub many : (nodes : List LineNode) (details : Details) → HasDetails nodes details → length details.needs.items ≡ length nodes
-many nodes details has = ap (λ (xs : List Need). length xs) has.needs ∙ length-map nodes (λ (n : LineNode). n.need)
+pub many : (whole : Bool) (nodes : List LineNode) (details : Details) → HasDetails whole nodes details → length details.names.items ≡ length nodes
+many whole nodes details has = ap (λ (xs : List (List (List ℕ))). length xs) has.names ∙ length-map nodes (λ (n : LineNode). n.output_names)
 
 -- ---- what lines say
 
 -- no line says no node
-pub says_none : (check : Bool) (columns : Columns) → HasColumns [] columns → SayColumns check [] columns
-says_none check columns has = record { rows = record { nodes = []; says = tt; paths_are = has.paths; has = has.details } }
+pub says_none : (manner : Manner) (columns : Columns) → HasColumns manner.whole [] columns → SayColumns manner [] columns
+says_none manner columns has = record { rows = record { nodes = []; says = tt; paths_are = has.paths; has = has.details } }
 
 -- .. and one more line
-pub says_push : (check : Bool) (ls : List (List ℕ)) (line : List ℕ) (old new : Columns) (node : LineNode) → SayColumns check ls old → IsLine check line node → ((nodes : List LineNode) → HasColumns nodes old → HasColumns (nodes ++ node ∷ []) new) → SayColumns check (ls ++ line ∷ []) new
-says_push check ls line old new node so is grown =
-    let now : HasColumns (so.rows.nodes ++ node ∷ []) new = grown so.rows.nodes (record { paths = so.rows.paths_are; details = so.rows.has }) in
+pub says_push : (manner : Manner) (ls : List (List ℕ)) (line : List ℕ) (old new : Columns) (node : LineNode) → SayColumns manner ls old → IsLine manner.check line node → ((nodes : List LineNode) → HasColumns manner.whole nodes old → HasColumns manner.whole (nodes ++ node ∷ []) new) → SayColumns manner (ls ++ line ∷ []) new
+says_push manner ls line old new node so is grown =
+    let now : HasColumns manner.whole (so.rows.nodes ++ node ∷ []) new = grown so.rows.nodes (record { paths = so.rows.paths_are; details = so.rows.has }) in
     record {
       rows = record {
         nodes = so.rows.nodes ++ node ∷ [];
-        says = AllZip-append (IsLine check) ls (line ∷ []) so.rows.nodes (node ∷ []) so.rows.says (is, tt);
+        says = AllZip-append (IsLine manner.check) ls (line ∷ []) so.rows.nodes (node ∷ []) so.rows.says (is, tt);
         paths_are = now.paths;
         has = now.details;
       };
     }
 
 -- .. and other lines, whose paths are numbered behind those before
-pub says_more : (check : Bool) (ls more : List (List ℕ)) (old_numbers numbers : Numbers) (old details : Details) (columns : Columns) → SayNumbers check ls old_numbers old → SayColumns check more columns → AddsPaths old_numbers columns.paths.items numbers → IsAppended old columns.details details
-    → SayNumbers check (ls ++ more) numbers details
-says_more check ls more old_numbers numbers old details columns so also adds joined = record {
+pub says_more : (manner : Manner) (ls more : List (List ℕ)) (old_numbers numbers : Numbers) (old details : Details) (columns : Columns) → SayNumbers manner ls old_numbers old → SayColumns manner more columns → AddsPaths old_numbers columns.paths.items numbers → IsAppended old columns.details details
+    → SayNumbers manner (ls ++ more) numbers details
+says_more manner ls more old_numbers numbers old details columns so also adds joined = record {
   nodes = so.nodes ++ also.rows.nodes;
-  says = AllZip-append (IsLine check) ls more so.nodes also.rows.nodes so.says also.rows.says;
+  says = AllZip-append (IsLine manner.check) ls more so.nodes also.rows.nodes so.says also.rows.says;
   numbers_are =
       subst (λ (ps : List (List ℕ)). AreNumbersOf ps numbers)
       (ap (λ (ps : List (List ℕ)). map (λ (n : LineNode). n.path) so.nodes ++ ps) also.rows.paths_are ∙ sym (map-append (λ (n : LineNode). n.path) so.nodes also.rows.nodes))
       (adds.adds (map (λ (n : LineNode). n.path) so.nodes) so.numbers_are);
-  has = joined.has so.nodes also.rows.nodes so.has also.rows.has;
+  has = joined.has manner.whole so.nodes also.rows.nodes so.has also.rows.has;
 }
 
 -- as many details as lines
-pub many_lines : (check : Bool) (ls : List (List ℕ)) (columns : Columns) → SayColumns check ls columns → length columns.details.needs.items ≡ length ls
-many_lines check ls columns so = many so.rows.nodes columns.details so.rows.has ∙ sym (zip_length (IsLine check) ls so.rows.nodes so.rows.says)
+pub many_lines : (manner : Manner) (ls : List (List ℕ)) (columns : Columns) → SayColumns manner ls columns → length columns.details.names.items ≡ length ls
+many_lines manner ls columns so = many manner.whole so.rows.nodes columns.details so.rows.has ∙ sym (zip_length (IsLine manner.check) ls so.rows.nodes so.rows.says)
 
 -- .. whose paths are numbered
-pub many_numbered : (check : Bool) (ls : List (List ℕ)) (numbers : Numbers) (details : Details) → SayNumbers check ls numbers details → length details.needs.items ≡ length ls
-many_numbered check ls numbers details so = many so.nodes details so.has ∙ sym (zip_length (IsLine check) ls so.nodes so.says)
+pub many_numbered : (manner : Manner) (ls : List (List ℕ)) (numbers : Numbers) (details : Details) → SayNumbers manner ls numbers details → length details.names.items ≡ length ls
+many_numbered manner ls numbers details so = many manner.whole so.nodes details so.has ∙ sym (zip_length (IsLine manner.check) ls so.nodes so.says)

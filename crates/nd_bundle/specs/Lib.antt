@@ -5,11 +5,15 @@ pub mod Lines
 pub mod Linking
 pub mod Names
 pub mod Naming
+pub mod Needed
 pub mod Numbered
 pub mod Numbering
 pub mod OneBundle
 pub mod Parts
 pub mod Pieces
+pub mod Placing
 pub mod Reading
+pub mod ReadingLines
 pub mod Settled
+pub mod Told
 pub mod Whole

@@ -8,35 +8,36 @@ use Rattle.nd_bundle.specs.Columned.{HasDetails, SayColumns}
 use Rattle.nd_bundle.specs.Lines.{lines}
 use Rattle.nd_bundle.specs.declared.columns.Columns.{Columns}
 use Rattle.nd_bundle.specs.declared.details.Details.{Details}
+use Rattle.nd_bundle.specs.declared.manner.Manner.{Manner}
 use Rattle.nd_bundle.specs.declared.piece.Piece.{Piece}
 
 -- the columns have the nodes that these lines say, up to one that is refused so
-pub record IsReadUpTo (check : Bool) (ls : List (List ℕ)) (columns : Columns) (fault : LineError) : Type 0 where
+pub record IsReadUpTo (manner : Manner) (ls : List (List ℕ)) (columns : Columns) (fault : LineError) : Type 0 where
   pub before : List (List ℕ)
   pub line : List ℕ
   pub behind : List (List ℕ)
   pub parts : ls ≡ before ++ line ∷ behind
-  pub says : SayColumns check before columns
-  pub refused : IsFaulty check line fault
+  pub says : SayColumns manner before columns
+  pub refused : IsFaulty manner.check line fault
 
 -- .. or of all of the lines, where none is refused
-abbrev pub IsReadTo : Bool → List (List ℕ) → Columns → Option LineError → Type 0
-IsReadTo check ls columns None = SayColumns check ls columns
-IsReadTo check ls columns (Some fault) = IsReadUpTo check ls columns fault
+abbrev pub IsReadTo : Manner → List (List ℕ) → Columns → Option LineError → Type 0
+IsReadTo manner ls columns None = SayColumns manner ls columns
+IsReadTo manner ls columns (Some fault) = IsReadUpTo manner ls columns fault
 
 -- what reading a piece with these lines answers
-abbrev pub IsReadPiece : Bool → List (List ℕ) → Result Piece AllocError → Type 0
-IsReadPiece check ls (Ok piece) = IsReadTo check ls piece.columns piece.refused
-IsReadPiece check ls (Err refused) = Unit {0}
+abbrev pub IsReadPiece : Manner → List (List ℕ) → Result Piece AllocError → Type 0
+IsReadPiece manner ls (Ok piece) = IsReadTo manner ls piece.columns piece.refused
+IsReadPiece manner ls (Err refused) = Unit {0}
 
 -- .. with this text
-abbrev pub IsReadText : Bool → List ℕ → Result Piece AllocError → Type 0
-IsReadText check text piece = IsReadPiece check (lines text) piece
+abbrev pub IsReadText : Manner → List ℕ → Result Piece AllocError → Type 0
+IsReadText manner text piece = IsReadPiece manner (lines text) piece
 
 -- the nodes are as they were
 pub record HasSameNodes (old new : Details) : Type 0 where
-  pub has : (nodes : List LineNode) → HasDetails nodes old → HasDetails nodes new
+  pub has : (whole : Bool) (nodes : List LineNode) → HasDetails whole nodes old → HasDetails whole nodes new
 
 -- the nodes of the others stand behind the old ones
 pub record IsAppended (old others new : Details) : Type 0 where
-  pub has : (some more : List LineNode) → HasDetails some old → HasDetails more others → HasDetails (some ++ more) new
+  pub has : (whole : Bool) (some more : List LineNode) → HasDetails whole some old → HasDetails whole more others → HasDetails whole (some ++ more) new

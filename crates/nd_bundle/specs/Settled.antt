@@ -1,8 +1,9 @@
 -- What was read of the lines, put together. Serves proofs alone.
-use Rattle.std.specs.Prelude.{◌≡◌, ℕ, ◌<◌, List, [], length, Contains}
+use Rattle.std.specs.Prelude.{◌≡◌, ℕ, ◌<◌, ◌≤◌, List, [], length, Contains}
 use Rattle.std.specs.List.{slice_index_or}
 use Rattle.std.specs.List.Sorted.{IsStrictlySortedBy}
 use Rattle.nd_bytes.specs.Compared.{bytes_cmp}
+use Rattle.nd_bundle.specs.Placing.{Placed}
 use Rattle.nd_line.specs.declared.line.LineNode.{LineNode}
 use Rattle.nd_line.specs.declared.line.NamedInput.{NamedInput}
 use Rattle.nd_bundle.specs.declared.fault.GraphError.{GraphError}
@@ -43,6 +44,20 @@ pub record AreSized (paths : List (List ℕ)) (details : Details) : Type 0 where
   pub sources : length details.sources.items ≡ length paths
   pub names : length details.names.items ≡ length paths
   pub outputs : length details.outputs.items ≡ length paths
+
+-- .. the lists of what lines say of links
+pub record AreLinksSized (paths : List (List ℕ)) (details : Details) : Type 0 where
+  pub wants : length details.wants.items ≡ length paths
+  pub names : length details.names.items ≡ length paths
+
+-- the needs of nodes with these paths and these details, of which there is a graph
+pub record AreNeedsOfRows (paths : List (List ℕ)) (details : Details) (needs : Placed) : Type 0 where
+  pub table : needs.table ≡ details.shared.table.items
+  pub places : needs.places ≡ details.shared.places.items
+  pub inputs : List (List Input)
+  pub numbered : AllNumbered paths details.names.items details.wants.items inputs
+  pub acyclic : IsAcyclic (needed inputs)
+  pub few : length paths ≤ node_limit
 
 -- the graph of nodes with these paths and these details
 pub record IsGraphOfRows (paths : List (List ℕ)) (details : Details) (graph : Nodes) : Type 0 where

@@ -7,6 +7,7 @@ ghost use Rattle.nd_bundle.specs.Parts.{IsReadFault, IsReadNowhere, IsReadNumber
 use crate::collect::{is_short, read_piece};
 use crate::fault::GraphError;
 use crate::found::{Found, Numbered};
+use crate::manner::Manner;
 use crate::part::Part;
 use crate::task::Task;
 use rayon::current_num_threads;
@@ -45,17 +46,17 @@ impl Ahead {
         rt: &impl Threads,
         alloc: Global,
         text: &[u8],
-        check: bool,
+        manner: Manner,
     ) -> Result<(), AllocError>
         requires { self.old.found.refused ≡ None }
-        ensures { OnOk result (ReadsLines check text.now self.old self.new) }
+        ensures { OnOk result (ReadsLines manner text.now self.old self.new) }
     {
-        self.add(rt, Task::Done(read_piece(alloc, text, check)))?;
+        self.add(rt, Task::Done(read_piece(alloc, text, manner)))?;
         Ok(())
     }
 
     /// Reads lines behind those before, unless one of these is refused: by this thread where the bundle hasn't
-    /// enough for two, and else by a thread of their own. With `check` each line's path has to be the text path of its
+    /// enough for two, and else by a thread of their own. With `manner.check` each line's path has to be the text path of its
     /// derivation. Answers a room that isn't needed any more, if there is one.
     #[tactic(auto, using(crate::proofs::ReadAhead::reads_none))]
     pub(crate) fn read_part(
@@ -63,18 +64,18 @@ impl Ahead {
         rt: &impl Threads,
         alloc: Global,
         part: Part,
-        check: bool,
+        manner: Manner,
     ) -> Result<Option<Vec<u8>>, AllocError>
-        ensures { OnOk result (ReadsLines check part self.old self.new) }
+        ensures { OnOk result (ReadsLines manner part self.old self.new) }
     {
         match self.found.refused {
             Some(_) => Ok(Some(part.into_room())),
             None => {
                 if self.most == 0 && is_short(part.text()) {
-                    self.read_line(rt, alloc, part.text(), check)?;
+                    self.read_line(rt, alloc, part.text(), manner)?;
                     return Ok(Some(part.into_room()));
                 }
-                self.start(rt, alloc, part, check)
+                self.start(rt, alloc, part, manner)
             }
         }
     }
@@ -85,13 +86,13 @@ impl Ahead {
         rt: &impl Threads,
         alloc: Global,
         part: Part,
-        check: bool,
+        manner: Manner,
     ) -> Result<Option<Vec<u8>>, AllocError>
         requires { self.old.found.refused ≡ None }
-        ensures { OnOk result (ReadsLines check part self.old self.new) }
+        ensures { OnOk result (ReadsLines manner part self.old self.new) }
     {
         self.count_threads(rt);
-        let task = Task::start(rt, alloc, part, check);
+        let task = Task::start(rt, alloc, part, manner);
         self.add(rt, task)
     }
 

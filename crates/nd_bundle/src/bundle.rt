@@ -7,6 +7,7 @@ ghost use Rattle.nd_graph.specs.Graphs.{Nodes};
 
 use crate::fault::GraphError;
 use crate::found::read_lines_side_by_side;
+use crate::manner::Manner;
 use crate::whole::graph_side_by_side;
 use nd_graph::Graph;
 use std::alloc::Global;
@@ -31,6 +32,10 @@ pub fn read_bundle(
     ensures exactly { (graph : Nodes) → IsBundle check_paths text.now graph
         → MatchResult result (λ g. g ≡ graph) (λ e. e ≡ GraphError.Memory) }
 {
-    let numbered = read_lines_side_by_side(rt, alloc, text, check_paths)?;
+    let manner = Manner {
+        check: check_paths,
+        whole: true,
+    };
+    let numbered = read_lines_side_by_side(rt, alloc, text, manner)?;
     graph_side_by_side(rt, alloc, numbered)
 }

@@ -11,6 +11,7 @@ ghost use Rattle.nd_bundle.specs.Pieces.{IsReadText, IsReadTo};
 use crate::columns::Columns;
 use crate::cutting::{cut_lines, cut_pieces};
 use crate::fault::GraphError;
+use crate::manner::Manner;
 use crate::piece::Piece;
 use crate::pool::Pool;
 use nd_line::read_line;
@@ -28,13 +29,13 @@ pub(crate) fn is_short(text: &[u8]) -> bool {
 }
 
 /// What the lines of the text say, in order, or the refusal of the first that has one; all read by this thread.
-/// With `check` each line's path has to be the text path of its derivation.
+/// With `manner.check` each line's path has to be the text path of its derivation.
 #[tactic(auto, using(crate::proofs::Pieced::says_fault))]
-pub(crate) fn read_lines(alloc: Global, text: &[u8], check: bool) -> Result<Columns, GraphError>
-    ensures ok { IfOk result (SayColumns check (lines text.now)) }
-    ensures err { IfErr result (IsFirstFault check text.now) }
+pub(crate) fn read_lines(alloc: Global, text: &[u8], manner: Manner) -> Result<Columns, GraphError>
+    ensures ok { IfOk result (SayColumns manner (lines text.now)) }
+    ensures err { IfErr result (IsFirstFault manner.check text.now) }
 {
-    let Piece { columns, refused } = read_piece(alloc, text, check)?;
+    let Piece { columns, refused } = read_piece(alloc, text, manner)?;
     match refused {
         None => Ok(columns),
         Some(fault) => Err(GraphError::of_line(fault, columns.details.next_line())),
@@ -51,16 +52,16 @@ fn grow_heap(alloc: Global, size: usize) {
 
 /// What the lines of a piece of a text say, up to the first that is refused.
 #[tactic(auto, using(crate::proofs::Taken::says_none, crate::proofs::Pieced::said_all))]
-pub(crate) fn read_piece(alloc: Global, text: &[u8], check: bool) -> Result<Piece, AllocError>
-    ensures { IfOk result (λ piece. IsReadTo check (lines text.now) piece.columns piece.refused) }
+pub(crate) fn read_piece(alloc: Global, text: &[u8], manner: Manner) -> Result<Piece, AllocError>
+    ensures { IfOk result (λ piece. IsReadTo manner (lines text.now) piece.columns piece.refused) }
 {
     grow_heap(alloc, text.len().saturating_add(text.len() / 4));
     let lines = cut_lines(alloc, text)?;
-    let mut columns = Columns::with_capacity(alloc, lines.len())?;
+    let mut columns = Columns::with_capacity(alloc, lines.len(), manner.whole)?;
     let mut pool = Pool::new(alloc, lines.len());
     for line in &lines {
-        match read_line(alloc, line, check) {
-            Ok(node) => columns.push(alloc, &mut pool, node)?,
+        match read_line(alloc, line, manner.check) {
+            Ok(node) => columns.push(alloc, &mut pool, node, manner.whole)?,
             Err(fault) => {
                 return Ok(Piece {
                     columns,
@@ -81,16 +82,16 @@ pub(crate) fn read_pieces(
     rt: &(impl Threads + Sync),
     alloc: Global,
     text: &[u8],
-    check: bool,
+    manner: Manner,
 ) -> Result<Vec<Result<Piece, AllocError>>, AllocError>
-    ensures { IfOk result (λ pieces. ArePieces check text.now pieces.items) }
+    ensures { IfOk result (λ pieces. ArePieces manner text.now pieces.items) }
 {
     let count = current_num_threads(rt)
         .saturating_mul(2)
         .min(text.len() / LONG)
         .max(1);
     let texts = cut_pieces(alloc, text, text.len() / count + 1)?;
-    read_each(rt, alloc, texts.as_slice(), check)
+    read_each(rt, alloc, texts.as_slice(), manner)
 }
 
 /// What the lines of each of these texts say, in order, each read by a thread of its own.
@@ -98,17 +99,17 @@ fn read_each(
     rt: &(impl Threads + Sync),
     alloc: Global,
     texts: &[&[u8]],
-    check: bool,
+    manner: Manner,
 ) -> Result<Vec<Result<Piece, AllocError>>, AllocError>
-    ensures { IfOk result (λ read. AllZip (IsReadText check) (map (λ text. text.now) texts.now) read.items) }
+    ensures { IfOk result (λ read. AllZip (IsReadText manner) (map (λ text. text.now) texts.now) read.items) }
 {
     texts
         .par_iter()
         .with_min_len(1)
         .map(
             |text: &&[u8]| -> Result<Piece, AllocError>
-                ensures { IsReadText check text.now.now result }
-            { read_piece(alloc, text, check) },
+                ensures { IsReadText manner text.now.now result }
+            { read_piece(alloc, text, manner) },
         )
         .collect(rt, alloc)
 }

@@ -18,25 +18,30 @@ pub(crate) struct Columns {
 }
 
 impl Columns {
-    /// No node, and room for so many.
-    pub(crate) fn with_capacity(alloc: Global, count: usize) -> Result<Columns, AllocError>
-        ensures { IfOk result (HasColumns []) }
+    /// No node, and room for so many: for all of them where `whole` is set, and else for their links and needs.
+    pub(crate) fn with_capacity(
+        alloc: Global,
+        count: usize,
+        whole: bool,
+    ) -> Result<Columns, AllocError>
+        ensures { IfOk result (HasColumns whole []) }
     {
         let paths = Vec::with_capacity(alloc, count)?;
-        let details = Details::with_capacity(alloc, count)?;
+        let details = Details::with_capacity(alloc, count, whole)?;
         Ok(Columns { paths, details })
     }
 
-    /// Adds the parts of a node, which share what the pool has. Where memory is refused some of them may have
-    /// been added.
-    #[tactic(auto, using(crate::proofs::Taken::pushed))]
+    /// Adds the parts of a node, which share what the pool has: all of them where `whole` is set, and else its links and
+    /// its need. Where memory is refused some of them may have been added.
+    #[tactic(auto, using(crate::proofs::Taken::pushed, crate::proofs::Taken::pushed_links))]
     pub(crate) fn push(
         &mut self,
         alloc: Global,
         pool: &mut Pool,
         node: LineView<'_>,
+        whole: bool,
     ) -> Result<(), AllocError>
-        ensures { OnOk result ((nodes : List LineNode) → HasColumns nodes self.old → HasColumns (nodes ++ node.entry ∷ []) self.new) }
+        ensures { OnOk result ((nodes : List LineNode) → HasColumns whole nodes self.old → HasColumns whole (nodes ++ node.entry ∷ []) self.new) }
     {
         let LineView {
             path,
@@ -50,10 +55,14 @@ impl Columns {
         let names = pool.names(alloc, output_names.as_slice())?;
         pool.keep(alloc, &path)?;
         self.paths.push(path)?;
-        self.details.needs.push(need)?;
         self.details.wants.push(wants)?;
-        self.details.sources.push(sources)?;
         self.details.names.push(names)?;
+        if !whole {
+            self.details.shared.push(need)?;
+            return Ok(());
+        }
+        self.details.needs.push(need)?;
+        self.details.sources.push(sources)?;
         self.details.outputs.push(outputs)?;
         Ok(())
     }

@@ -1,10 +1,11 @@
 //! What lines say of nodes beside their paths, as lists with one item per node.
 
-ghost use Rattle.std.specs.Prelude.{◌≡◌, ◌+◌, ◌++◌, [], length, IfOk, OnOk};
+ghost use Rattle.std.specs.Prelude.{◌≡◌, ◌+◌, ◌++◌, [], Bool, length, IfOk, OnOk};
 ghost use Rattle.nd_bundle.specs.Columned.{HasDetails};
 ghost use Rattle.nd_bundle.specs.Pieces.{HasSameNodes, IsAppended};
 
 use crate::names::Names;
+use crate::shared_needs::SharedNeeds;
 use crate::want::Want;
 use nd_bytes::Items;
 use nd_eligible::Need;
@@ -14,20 +15,27 @@ use std::alloc::{AllocError, Global};
 /// What lines say of nodes beside their paths, as lists with one item per node.
 #[derive(Drop)]
 pub(crate) struct Details {
+    /// None where the links and the needs alone are kept.
     pub needs: Vec<Need>,
+    /// None where all is kept.
+    pub shared: SharedNeeds,
     pub wants: Vec<Items<Want>>,
+    /// None where the links and the needs alone are kept.
     pub sources: Vec<Items<StorePath>>,
     pub names: Vec<Names>,
+    /// None where the links and the needs alone are kept.
     pub outputs: Vec<Items<StorePath>>,
 }
 
 impl Details {
     /// Of no node. It takes no memory.
+    #[tactic(auto, using(crate::proofs::Taken::no_details))]
     pub(crate) fn new(alloc: Global) -> Details
-        ensures { HasDetails [] result }
+        ensures { (whole : Bool) → HasDetails whole [] result }
     {
         Details {
             needs: Vec::new(alloc),
+            shared: SharedNeeds::new(alloc),
             wants: Vec::new(alloc),
             sources: Vec::new(alloc),
             names: Vec::new(alloc),
@@ -35,17 +43,25 @@ impl Details {
         }
     }
 
-    /// Of no node, and room for so many.
-    pub(crate) fn with_capacity(alloc: Global, count: usize) -> Result<Details, AllocError>
-        ensures { IfOk result (HasDetails []) }
+    /// Of no node, and room for so many: for all of them where `whole` is set, and else for their links and needs.
+    #[tactic(auto, using(crate::proofs::Taken::no_details))]
+    pub(crate) fn with_capacity(
+        alloc: Global,
+        count: usize,
+        whole: bool,
+    ) -> Result<Details, AllocError>
+        ensures { IfOk result (HasDetails whole []) }
     {
-        let needs = Vec::with_capacity(alloc, count)?;
+        let kept = if whole { count } else { 0 };
+        let needs = Vec::with_capacity(alloc, kept)?;
+        let shared = SharedNeeds::with_capacity(alloc, count - kept)?;
         let wants = Vec::with_capacity(alloc, count)?;
-        let sources = Vec::with_capacity(alloc, count)?;
+        let sources = Vec::with_capacity(alloc, kept)?;
         let names = Vec::with_capacity(alloc, count)?;
-        let outputs = Vec::with_capacity(alloc, count)?;
+        let outputs = Vec::with_capacity(alloc, kept)?;
         Ok(Details {
             needs,
+            shared,
             wants,
             sources,
             names,
@@ -55,9 +71,9 @@ impl Details {
 
     /// The number of the line behind those that say these nodes, from 1.
     pub(crate) fn next_line(&self) -> usize
-        ensures { result ≡ length self.now.needs.items + 1 }
+        ensures { result ≡ length self.now.names.items + 1 }
     {
-        self.needs.len() + 1
+        self.names.len() + 1
     }
 
     /// Makes room for so many nodes more.
@@ -80,12 +96,14 @@ impl Details {
     {
         let Details {
             needs,
+            shared,
             wants,
             sources,
             names,
             outputs,
         } = others;
         add_all(&mut self.needs, needs)?;
+        self.shared.append(shared)?;
         add_all(&mut self.wants, wants)?;
         add_all(&mut self.sources, sources)?;
         add_all(&mut self.names, names)?;

@@ -10,6 +10,7 @@ use crate::collect::read_pieces;
 use crate::columns::Columns;
 use crate::details::Details;
 use crate::fault::GraphError;
+use crate::manner::Manner;
 use crate::number::Numbers;
 use crate::piece::Piece;
 use indexmap::IndexSet;
@@ -123,12 +124,12 @@ pub(crate) fn read_lines_side_by_side(
     rt: &(impl Threads + Sync),
     alloc: Global,
     text: &[u8],
-    check: bool,
+    manner: Manner,
 ) -> Result<Numbered, GraphError>
-    ensures ok { IfOk result (SayNumbered check (lines text.now)) }
-    ensures err { IfErr result (IsFirstFault check text.now) }
+    ensures ok { IfOk result (SayNumbered manner (lines text.now)) }
+    ensures err { IfErr result (IsFirstFault manner.check text.now) }
 {
-    let pieces = read_pieces(rt, alloc, text, check)?;
+    let pieces = read_pieces(rt, alloc, text, manner)?;
     let mut found = Found::new(alloc);
     found.take_all(pieces)?;
     found.into_numbered()

@@ -7,6 +7,7 @@ ghost use Rattle.nd_graph.specs.Graphs.{Nodes};
 
 use crate::collect::read_lines;
 use crate::fault::GraphError;
+use crate::manner::Manner;
 use crate::whole::graph_of;
 use nd_graph::Graph;
 use std::alloc::Global;
@@ -25,6 +26,10 @@ pub fn read_bundle(alloc: Global, text: &[u8], check_paths: bool) -> Result<Grap
     ensures exactly { (graph : Nodes) → IsBundle check_paths text.now graph
         → MatchResult result (λ g. g ≡ graph) (λ e. e ≡ GraphError.Memory) }
 {
-    let columns = read_lines(alloc, text, check_paths)?;
+    let manner = Manner {
+        check: check_paths,
+        whole: true,
+    };
+    let columns = read_lines(alloc, text, manner)?;
     graph_of(alloc, columns)
 }

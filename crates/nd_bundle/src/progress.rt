@@ -8,6 +8,7 @@ use crate::collect::LONG;
 use crate::cutting::{cut_line, whole_lines};
 use crate::fault::GraphError;
 use crate::found::Numbered;
+use crate::manner::Manner;
 use crate::part::Part;
 use std::alloc::{AllocError, Global};
 use std::mem;
@@ -42,12 +43,12 @@ impl Progress {
         alloc: Global,
         room: Vec<u8>,
         filled: usize,
-        check: bool,
+        manner: Manner,
     ) -> Result<Option<Vec<u8>>, AllocError>
         requires { filled ≤ length room.items }
-        ensures { GoesOn check (take filled room.items) self.old self.new }
+        ensures { GoesOn manner (take filled room.items) self.old self.new }
     {
-        match self.read_room(rt, alloc, room, filled, check) {
+        match self.read_room(rt, alloc, room, filled, manner) {
             Ok(room) => Ok(room),
             Err(refused) => {
                 self.end();
@@ -71,14 +72,14 @@ impl Progress {
         alloc: Global,
         room: Vec<u8>,
         filled: usize,
-        check: bool,
+        manner: Manner,
     ) -> Result<Option<Vec<u8>>, AllocError>
         requires { filled ≤ length room.items }
-        ensures { OnOk result (GoesOn check (take filled room.items) self.old self.new) }
+        ensures { OnOk result (GoesOn manner (take filled room.items) self.old self.new) }
     {
         match self.ahead.found.refused {
             Some(_) => Ok(Some(room)),
-            None => self.read_text(rt, alloc, room, filled, check),
+            None => self.read_text(rt, alloc, room, filled, manner),
         }
     }
 
@@ -90,11 +91,11 @@ impl Progress {
         alloc: Global,
         room: Vec<u8>,
         filled: usize,
-        check: bool,
+        manner: Manner,
     ) -> Result<Option<Vec<u8>>, AllocError>
         requires filled { filled ≤ length room.items }
         requires none { self.old.ahead.found.refused ≡ None }
-        ensures { OnOk result (GoesOn check (take filled room.items) self.old self.new) }
+        ensures { OnOk result (GoesOn manner (take filled room.items) self.old self.new) }
     {
         let text = &room[..filled];
         match cut_line(text) {
@@ -104,8 +105,8 @@ impl Progress {
             }
             Some((end, _)) => {
                 let from = end.len();
-                self.end_line(rt, alloc, end, check)?;
-                self.read_behind(rt, alloc, room, from, filled, check)
+                self.end_line(rt, alloc, end, manner)?;
+                self.read_behind(rt, alloc, room, from, filled, manner)
             }
         }
     }
@@ -117,23 +118,23 @@ impl Progress {
         rt: &impl Threads,
         alloc: Global,
         end: &[u8],
-        check: bool,
+        manner: Manner,
     ) -> Result<(), AllocError>
         requires { self.old.ahead.found.refused ≡ None }
-        ensures lines { OnOk result (ReadsLines check (self.old.rest.items ++ end.now) self.old.ahead self.new.ahead) }
+        ensures lines { OnOk result (ReadsLines manner (self.old.rest.items ++ end.now) self.old.ahead self.new.ahead) }
         ensures rest { OnOk result (self.new.rest.items ≡ []) }
     {
         self.rest.extend_from_slice(end)?;
         if self.rest.len() < LONG {
             self.ahead
-                .read_line(rt, alloc, self.rest.as_slice(), check)?;
+                .read_line(rt, alloc, self.rest.as_slice(), manner)?;
             self.rest.clear();
             return Ok(());
         }
         let line = mem::replace(&mut self.rest, Vec::new(alloc));
         let len = line.len();
         self.ahead
-            .read_part(rt, alloc, Part::new(line, 0, len), check)?;
+            .read_part(rt, alloc, Part::new(line, 0, len), manner)?;
         Ok(())
     }
 
@@ -147,18 +148,18 @@ impl Progress {
         room: Vec<u8>,
         from: usize,
         filled: usize,
-        check: bool,
+        manner: Manner,
     ) -> Result<Option<Vec<u8>>, AllocError>
         requires rest { self.old.rest.items ≡ [] }
         requires order { from ≤ filled }
         requires filled { filled ≤ length room.items }
-        ensures { OnOk result (IsReadBehind check (drop from (take filled room.items)) self.old self.new) }
+        ensures { OnOk result (IsReadBehind manner (drop from (take filled room.items)) self.old self.new) }
     {
         let (front, rest) = whole_lines(&room[from..filled]);
         let to = from + front.len();
         self.rest.extend_from_slice(rest)?;
         let part = Part::new(room, from, to);
-        self.ahead.read_part(rt, alloc, part, check)
+        self.ahead.read_part(rt, alloc, part, manner)
     }
 
     /// What the lines of the text that was read say, the last line being the rest where there is one; or the
@@ -168,10 +169,10 @@ impl Progress {
         self,
         rt: &impl Threads,
         alloc: Global,
-        check: bool,
+        manner: Manner,
     ) -> Result<Numbered, GraphError>
-        ensures ok { IfOk result (IsToldBy check self) }
-        ensures err { IfErr result (IsFaultBy check self) }
+        ensures ok { IfOk result (IsToldBy manner self) }
+        ensures err { IfErr result (IsFaultBy manner self) }
     {
         let Progress { ahead, rest } = self;
         match ahead.found.refused {
@@ -181,7 +182,7 @@ impl Progress {
             }
             None => {
                 let mut ahead = ahead;
-                ahead.read_line(rt, alloc, rest.as_slice(), check)?;
+                ahead.read_line(rt, alloc, rest.as_slice(), manner)?;
                 ahead.into_numbered(rt)
             }
         }

@@ -6,8 +6,8 @@ ghost use Rattle.nd_bundle.specs.Bundles.{IsBundle, IsFirstFault};
 ghost use Rattle.nd_graph.specs.Graphs.{Nodes};
 
 use crate::fault::GraphError;
-use crate::progress::Progress;
-use crate::so_far::SoFar;
+use crate::lines_reader::LinesReader;
+use crate::manner::Manner;
 use crate::whole::graph_side_by_side;
 use nd_graph::Graph;
 use std::alloc::{AllocError, Global};
@@ -20,9 +20,7 @@ use std::thread::Threads;
 #[derive(Drop)]
 pub struct BundleReader {
     alloc: Global,
-    check: bool,
-    progress: Progress,
-    so_far: SoFar,
+    lines: LinesReader,
 }
 
 impl Model for BundleReader {
@@ -30,11 +28,11 @@ impl Model for BundleReader {
 
     ghost Value = { Reading };
 
-    ghost use Rattle.nd_bundle.specs.Parts.{IsReading};
+    ghost use Rattle.nd_bundle.specs.Told.{reading_of, ReadsGraph};
 
-    ghost view = { λ r. record { check = r.check; text = r.so_far.bytes } };
+    ghost view = { λ r. reading_of r.lines };
 
-    ghost invariant = { λ r. IsReading r.check r.so_far.bytes r.progress };
+    ghost invariant = { λ r. ReadsGraph r.lines };
 }
 
 impl BundleReader {
@@ -46,9 +44,13 @@ impl BundleReader {
     {
         BundleReader {
             alloc,
-            check: check_paths,
-            progress: Progress::new(alloc),
-            so_far: SoFar::new(),
+            lines: LinesReader::new(
+                alloc,
+                Manner {
+                    check: check_paths,
+                    whole: true,
+                },
+            ),
         }
     }
 
@@ -69,12 +71,7 @@ impl BundleReader {
         ensures check { self.new.check ≡ self.old.check }
         ensures text { OnOk result (self.new.text ≡ self.old.text ++ take filled room.items) }
     {
-        let so_far = self.so_far.with(&room[..filled]);
-        let read = self
-            .progress
-            .read_on(rt, self.alloc, room, filled, self.check);
-        self.so_far = so_far;
-        read
+        self.lines.feed(rt, room, filled)
     }
 
     /// The graph of the bundle that was read. What stands behind the last newline is its last line.
@@ -89,13 +86,8 @@ impl BundleReader {
         ensures exactly { (graph : Nodes) → IsBundle self.check self.text graph
             → MatchResult result (λ g. g ≡ graph) (λ e. e ≡ GraphError.Memory) }
     {
-        let BundleReader {
-            alloc,
-            check,
-            progress,
-            ..
-        } = self;
-        let numbered = progress.into_numbered(rt, alloc, check)?;
+        let BundleReader { alloc, lines } = self;
+        let numbered = lines.into_numbered(rt)?;
         graph_side_by_side(rt, alloc, numbered)
     }
 }

@@ -4,6 +4,7 @@ ghost use Rattle.nd_bundle.specs.Parts.{IsEndOf, IsTask};
 ghost use Rattle.nd_bundle.specs.Pieces.{IsReadText};
 
 use crate::collect::read_piece;
+use crate::manner::Manner;
 use crate::part::Part;
 use crate::piece::Piece;
 use std::alloc::{AllocError, Global};
@@ -21,13 +22,13 @@ pub(crate) struct Answer {
 #[derive(Drop)]
 pub(crate) struct Reads {
     pub text: Snapshot<Part>,
-    pub check: bool,
+    pub manner: Manner,
 }
 
 impl Promise<Answer> for Reads {
     ghost use Rattle.nd_bundle.specs.Pieces.{IsReadText};
 
-    ghost kept_by = { λ p answer. IsReadText p.check p.text.value answer.read };
+    ghost kept_by = { λ p answer. IsReadText p.manner p.text.value answer.read };
 }
 
 /// The reading of a piece.
@@ -41,14 +42,14 @@ pub(crate) enum Task {
 
 impl Task {
     /// The reading of these lines by a thread of its own, or by this one where none can be made.
-    pub(crate) fn start(rt: &impl Threads, alloc: Global, part: Part, check: bool) -> Task
-        ensures { IsTask check part result }
+    pub(crate) fn start(rt: &impl Threads, alloc: Global, part: Part, manner: Manner) -> Task
+        ensures { IsTask manner part result }
     {
         let promise = Reads {
             text: Snapshot::of(&part),
-            check,
+            manner,
         };
-        match spawn_with(rt, promise, move || read_part(alloc, part, check)) {
+        match spawn_with(rt, promise, move || read_part(alloc, part, manner)) {
             Ok(handle) => Task::Running(handle),
             Err(refused) => Task::Done((refused.value)().read),
         }
@@ -70,10 +71,10 @@ impl Task {
 }
 
 /// What is read of these lines, and their room.
-fn read_part(alloc: Global, part: Part, check: bool) -> Answer
-    ensures { IsReadText check part result.read }
+fn read_part(alloc: Global, part: Part, manner: Manner) -> Answer
+    ensures { IsReadText manner part result.read }
 {
-    let read = read_piece(alloc, part.text(), check);
+    let read = read_piece(alloc, part.text(), manner);
     Answer {
         read,
         room: part.into_room(),

@@ -1,9 +1,9 @@
 //! The graph of a bundle's nodes.
 
-ghost use Rattle.std.specs.Prelude.{◌≡◌, ◌≤◌, length, IfOk, IfErr};
+ghost use Rattle.std.specs.Prelude.{◌≡◌, ◌≤◌, length, IfOk, IfErr, OnOk};
 ghost use Rattle.nd_graph.specs.Graphs.{needed, node_limit, nodes_with, rows_of, IsSound};
 ghost use Rattle.nd_graph.specs.Walks.{AreDistinct, AreInRange, IsAcyclic};
-ghost use Rattle.nd_bundle.specs.Settled.{links_in, AllNamesRise, AreSized, ArePaired, IsGraphOfRows, IsOrderedFault};
+ghost use Rattle.nd_bundle.specs.Settled.{links_in, AllNamesRise, AreLinksSized, AreNeedsOfRows, AreSized, ArePaired, IsGraphOfRows, IsOrderedFault};
 ghost use Rattle.nd_bundle.specs.Whole.{IsWholeFault};
 
 use crate::columns::Columns;
@@ -11,6 +11,7 @@ use crate::details::Details;
 use crate::fault::GraphError;
 use crate::found::Numbered;
 use crate::linking::{link, link_side_by_side};
+use crate::needs::{Needs, Unused};
 use crate::number::number_all;
 use indexmap::IndexSet;
 use nd_bytes::Items;
@@ -38,6 +39,7 @@ pub(crate) fn graph_of(alloc: Global, columns: Columns) -> Result<Graph, GraphEr
         sources,
         names,
         outputs,
+        ..
     } = details;
     let paths = number_all(alloc, paths)?;
     let inputs = link(alloc, &paths, names.as_slice(), wants)?;
@@ -68,10 +70,61 @@ pub(crate) fn graph_side_by_side(
         sources,
         names,
         outputs,
+        ..
     } = details;
     let inputs = link_side_by_side(rt, alloc, &paths, names.as_slice(), wants)?;
     drop(names);
     graph_with(alloc, paths, needs, inputs, sources, outputs)
+}
+
+/// The needs of nodes whose paths are numbered and of which there is a graph, or the first refusal over the whole.
+#[tactic(auto, using(crate::proofs::Gathered::whole_numbered))]
+pub(crate) fn needs_side_by_side(
+    rt: &(impl Threads + Sync),
+    alloc: Global,
+    numbered: Numbered,
+) -> Result<Needs, GraphError>
+    requires distinct { AreDistinct numbered.paths.keys }
+    requires sized { AreLinksSized numbered.paths.keys numbered.details }
+    requires rising { AllNamesRise numbered.details.names.items }
+    ensures ok { IfOk result (AreNeedsOfRows numbered.paths.keys numbered.details) }
+    ensures err { IfErr result (IsWholeFault (links_in numbered.paths.keys numbered.details)) }
+{
+    let Numbered { paths, details } = numbered;
+    let Details {
+        shared,
+        wants,
+        names,
+        ..
+    } = details;
+    let inputs = link_side_by_side(rt, alloc, &paths, names.as_slice(), wants)?;
+    check_order(alloc, &paths, inputs.as_slice())?;
+    Ok(Needs::new(
+        shared,
+        Unused {
+            paths,
+            names,
+            inputs,
+        },
+    ))
+}
+
+/// Refuses nodes with these paths and these inputs where some node needs itself, and else where there are too many.
+fn check_order(
+    alloc: Global,
+    paths: &IndexSet<StorePath>,
+    inputs: &[Items<Input>],
+) -> Result<(), GraphError>
+    requires { AreInRange (needed inputs.now) }
+    ensures acyclic { OnOk result (IsAcyclic (needed inputs.now)) }
+    ensures few { OnOk result (length paths.now.keys ≤ node_limit) }
+    ensures err { IfErr result (IsOrderedFault paths.now.keys inputs.now) }
+{
+    find_order(alloc, inputs)?;
+    if paths.len() <= NODE_LIMIT {
+        return Ok(());
+    }
+    Err(GraphError::TooMany)
 }
 
 /// The graph of these parts, which are linked, or why they are none.

@@ -1,0 +1,93 @@
+//! The reader of the lines of a bundle whose text comes in parts.
+
+ghost use Rattle.std.specs.Prelude.{◌≡◌, ◌++◌, ◌≤◌, [], IfOk, IfErr, OnOk, length, take};
+ghost use Rattle.nd_bundle.specs.Bundles.{IsFirstFault};
+ghost use Rattle.nd_bundle.specs.Columned.{SayNumbered};
+ghost use Rattle.nd_bundle.specs.Lines.{lines};
+
+use crate::fault::GraphError;
+use crate::found::Numbered;
+use crate::manner::Manner;
+use crate::progress::Progress;
+use crate::so_far::SoFar;
+use std::alloc::{AllocError, Global};
+use std::marker::Model;
+use std::thread::Threads;
+
+/// A reader of the lines of a bundle whose text comes in parts, which may be cut anywhere. No part is kept once it was
+/// read, but for a line that hasn't ended. Where it is dropped before its end, its threads end by themselves. Contracts
+/// see how lines are read, and the text so far.
+#[derive(Drop)]
+pub(crate) struct LinesReader {
+    alloc: Global,
+    manner: Manner,
+    progress: Progress,
+    so_far: SoFar,
+}
+
+impl Model for LinesReader {
+    ghost use Rattle.nd_bundle.specs.ReadingLines.{ReadingLines};
+
+    ghost Value = { ReadingLines };
+
+    ghost use Rattle.nd_bundle.specs.Parts.{IsReading};
+
+    ghost view = { λ r. record { manner = r.manner; text = r.so_far.bytes } };
+
+    ghost invariant = { λ r. IsReading r.manner r.so_far.bytes r.progress };
+}
+
+impl LinesReader {
+    /// A reader that has read nothing. It takes no memory.
+    pub(crate) fn new(alloc: Global, manner: Manner) -> LinesReader
+        ensures manner { result.manner ≡ manner }
+        ensures text { result.text ≡ [] }
+    {
+        LinesReader {
+            alloc,
+            manner,
+            progress: Progress::new(alloc),
+            so_far: SoFar::new(),
+        }
+    }
+
+    /// Reads on: the first bytes of the room, `filled` of them, stand behind what was read. Answers a room that isn't
+    /// needed any more, if there is one.
+    pub(crate) fn feed(
+        &mut self,
+        rt: &impl Threads,
+        room: Vec<u8>,
+        filled: usize,
+    ) -> Result<Option<Vec<u8>>, AllocError>
+        requires { filled ≤ length room.items }
+        ensures manner { self.new.manner ≡ self.old.manner }
+        ensures text { OnOk result (self.new.text ≡ self.old.text ++ take filled room.items) }
+    {
+        let so_far = self.so_far.with(&room[..filled]);
+        let read = self
+            .progress
+            .read_on(rt, self.alloc, room, filled, self.manner);
+        self.so_far = so_far;
+        read
+    }
+
+    /// What the lines say with their paths numbered, or the first refusal. What stands behind the last newline is the
+    /// last line.
+    #[tactic(auto, using(crate::proofs::Parted::says_so_far, crate::proofs::Parted::fault_so_far))]
+    pub(crate) fn into_numbered(self, rt: &impl Threads) -> Result<Numbered, GraphError>
+        ensures ok { IfOk result (SayNumbered self.manner (lines self.text)) }
+        ensures err { IfErr result (IsFirstFault self.manner.check self.text) }
+    {
+        let LinesReader {
+            alloc,
+            manner,
+            progress,
+            ..
+        } = self;
+        // For the proof: each clause of the answer is met where the answer is known.
+        match progress.into_numbered(rt, alloc, manner) {
+            Ok(numbered) => Ok(numbered),
+            Err(fault) => Err(fault),
+        }
+    }
+}
