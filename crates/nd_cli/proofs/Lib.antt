@@ -2,6 +2,7 @@ pub mod Accepted
 pub mod ClassReplying
 pub mod Filled
 pub mod LocalTest
+pub mod PlacedReplying
 pub mod Refused
 pub mod Replying
 pub mod SameClass

@@ -6,7 +6,8 @@ use Rattle.nd_closure.specs.declared.info_error.InfoError.{InfoError}
 use Rattle.nd_machines.specs.declared.machine_error.MachineError.{MachineError}
 use Rattle.nd_cli.specs.Asked.{RefusesPark, IsAskFault}
 use Rattle.nd_cli.specs.Inputs.{ReadsWhole, OkUnlessMemory, is_read_fault, is_read_failure}
-use Rattle.nd_cli.specs.Parks.{IsParkFault, IsToldAs}
+use Rattle.nd_cli.specs.Parks.{IsAccepted, IsParkFault, IsToldAs}
+use Rattle.nd_cli.specs.Setting.{IsSettingFault}
 use Rattle.nd_cli.specs.Statuses.{exit_status}
 use Rattle.nd_cli.specs.declared.options.ParkOptions.{ParkOptions}
 use Rattle.nd_cli.specs.declared.fault.CliFault.{CliFault}
@@ -33,6 +34,11 @@ park_unmarked options text _ fault = refl
 pub park_is_read : {A : Type 0} (options : ParkOptions) (text : List ℕ) (answer : Result A CliFault) → IfErr answer (IsParkFault options text) → is_read_failure answer ≡ false
 park_is_read options text (Ok park) fault = refl
 park_is_read options text (Err e) fault = park_unmarked options text e fault
+
+-- a bundle is accepted, and what the options say beside it is refused
+pub setting_refused : (options : ParkOptions) (text : List ℕ) (e : CliFault) → IsAccepted options text → IsSettingFault options e → IsParkFault options text e
+setting_refused options text e accepted (inl builders) = inr (inl (accepted, builders))
+setting_refused options text e accepted (inr info) = inr (inr (accepted, info.0, info.1))
 
 -- the text that was read is refused
 pub park_refused : {R : Type 0} (options : ParkOptions) (remaining : R → Option (List ℕ)) (reader reader_after : Watched R) (writer_marked : Bool) (text : List ℕ) (e : CliFault)

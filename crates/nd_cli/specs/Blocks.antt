@@ -2,6 +2,7 @@
 use Rattle.std.specs.Prelude.{◌≡◌, ℕ, ◌<◌, ◌≤◌, List, length, Option, Some, Result, MatchResult}
 use Rattle.std.specs.Io.KnownBytes.{Consumes, IsAtEnd}
 use Rattle.nd_machines.specs.Builders.{Builder}
+use Rattle.nd_bundle.specs.Placing.{ArePlaced, Placed}
 use Rattle.nd_graph.specs.Graphs.{Nodes}
 use Rattle.nd_cli.specs.Inputs.{ReadsWhole}
 use Rattle.nd_cli.specs.Parks.{AreSameParts, HasGraph, HasPark}
@@ -26,6 +27,23 @@ pub record ReadsGraph (options : ParkOptions) (unread left : Option (List ℕ)) 
 abbrev pub AnswersKnownGraph : ParkOptions → Option (List ℕ) → Result Nodes CliFault → Type 0
 AnswersKnownGraph options unread answer =
     (text : List ℕ) (graph : Nodes) → unread ≡ Some text → HasGraph options text graph → MatchResult answer (λ read. read ≡ graph) (λ e. exit_status e ≡ 5)
+
+-- the text is within the limit, and is the bundle of a graph with these needs
+pub record HasNeedsWithin (options : ParkOptions) (text : List ℕ) (needs : Placed) : Type 0 where
+  pub graph : Nodes
+  pub has : HasGraph options text graph
+  pub placed : ArePlaced needs.table needs.places graph.needs
+
+-- the whole input, as the bundle of a graph with these needs
+pub record ReadsNeeds (options : ParkOptions) (unread left : Option (List ℕ)) (needs : Placed) : Type 0 where
+  pub graph : Nodes
+  pub read : ReadsGraph options unread left graph
+  pub placed : ArePlaced needs.table needs.places graph.needs
+
+-- where an input that is known is the bundle of a graph, the answer is the needs of this graph, unless the reader or the memory fails
+abbrev pub AnswersKnownNeeds : ParkOptions → Option (List ℕ) → Result Placed CliFault → Type 0
+AnswersKnownNeeds options unread answer =
+    (text : List ℕ) (graph : Nodes) → unread ≡ Some text → HasGraph options text graph → MatchResult answer (λ needs. ArePlaced needs.table needs.places graph.needs) (λ e. exit_status e ≡ 5)
 
 -- where an input that is known is accepted, with the other inputs, the answer is their park, unless the reader or the memory fails
 abbrev pub AnswersKnownPark : ParkOptions → Option (List ℕ) → Result Park CliFault → Type 0

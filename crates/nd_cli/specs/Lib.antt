@@ -1,10 +1,13 @@
 pub mod Inputs
 pub mod Parks
+pub mod Setting
 pub mod Asks
 pub mod ClassReplies
 pub mod SharedClasses
 pub mod Paths
 pub mod Asked
+pub mod NeedsRead
+pub mod PlacedReplies
 pub mod Blocks
 pub mod Statuses
 pub mod Names

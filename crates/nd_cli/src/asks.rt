@@ -5,14 +5,15 @@ ghost use Rattle.std.specs.List.{All, AllZip, flat_map};
 ghost use Rattle.std.specs.Io.KnownBytes.{Appends};
 ghost use Rattle.nd_devices.specs.Sending.{IsPut};
 ghost use Rattle.nd_devices.specs.Written.{WritesPart};
-ghost use Rattle.nd_cli.specs.Asks.{WritesReplies, WritesSomeReplies};
 ghost use Rattle.nd_cli.specs.ClassReplies.{IsClassReply};
 ghost use Rattle.nd_cli.specs.Inputs.{is_write_fault, is_write_failure};
+ghost use Rattle.nd_cli.specs.PlacedReplies.{HaveNeeds, WritesRepliesAt, WritesSomeRepliesAt};
 ghost use Rattle.nd_hook.specs.Idle.{IsFreeHere, IsIdleReply, idle, all_up};
 ghost use Rattle.nd_hook.specs.ReplyText.{IsInList, accept_text, line, reply_text};
 
 use crate::fault::CliFault;
-use crate::shares::replies_side_by_side;
+use crate::shares::replies_at;
+use nd_bundle::Needs;
 use nd_devices::{Fault, Page, Told};
 use nd_eligible::{Local, Need, eligible_places, local_ok};
 use nd_hook::{Reply, reply_in};
@@ -21,27 +22,28 @@ use std::alloc::{AllocError, Global};
 use std::io::Write;
 use std::thread::Threads;
 
-/// Writes for each need, in order, the reply on an idle park: no slot is taken, and every machine
-/// is up. Then it has the writer pass on what it holds back.
+/// Writes for each derivation, in the order of the places of their needs, the reply on an idle park: no slot is taken,
+/// and every machine is up. Then it has the writer pass on what it holds back.
 ///
 /// `Memory`: nothing is written then. `Write`: the writer refused, and is marked; the replies about
-/// some of the first needs, the last of them perhaps in part, are out.
-#[tactic(auto, using(crate::proofs::Replying::none_written, crate::proofs::Replying::all_written, crate::proofs::Replying::some_written))]
+/// some of the first derivations, the last of them perhaps in part, are out.
+#[tactic(auto, using(crate::proofs::PlacedReplying::none_written_at, crate::proofs::PlacedReplying::all_written_at, crate::proofs::PlacedReplying::some_written_at))]
 pub(crate) fn write_replies_side_by_side<W: Write>(
     rt: &(impl Threads + Sync),
     alloc: Global,
     machines: &[Machine],
     local: &Local,
-    needs: &[Need],
+    needs: &Needs,
     output: &mut Told<W>,
 ) -> Result<(), CliFault>
-    ensures written { OnOk result (WritesReplies machines.now local.now needs.now (W.contents output.old.device) (W.contents output.new.device)) }
-    ensures partly { OnErr result (WritesSomeReplies machines.now local.now needs.now (W.contents output.old.device) (W.contents output.new.device)) }
+    requires { HaveNeeds needs.now }
+    ensures written { OnOk result (WritesRepliesAt machines.now local.now needs.now (W.contents output.old.device) (W.contents output.new.device)) }
+    ensures partly { OnErr result (WritesSomeRepliesAt machines.now local.now needs.now (W.contents output.old.device) (W.contents output.new.device)) }
     ensures fault { IfErr result (λ e. (e ≡ CliFault.Write) ⊎ (e ≡ CliFault.Memory)) }
     ensures mark { output.new.is_marked ≡ (output.old.is_marked || is_write_failure result) }
     ensures untouched { IfErr result (λ e. is_write_fault e ≡ false → output.new ≡ output.old) }
 {
-    let Ok(replies) = replies_side_by_side(rt, alloc, machines, local, needs) else {
+    let Ok(replies) = replies_at(rt, alloc, machines, local, needs) else {
         return Err(CliFault::Memory);
     };
     let sent = pass_replies(&replies, machines, output);

@@ -1,9 +1,10 @@
-//! The graph of a bundle that is read from its input in blocks, so that its text is never in memory whole.
+//! The graph of a bundle, or its needs, that is read from its input in blocks, so that its text is never in memory whole.
 
 ghost use Rattle.std.specs.Prelude.{◌≡◌, ◌++◌, ◌<◌, ◌≤◌, ◌||◌, ℕ, List, [], false, length, take, IfOk, IfErr, OnOk};
+ghost use Rattle.nd_bundle.specs.Placing.{ArePlaced};
 ghost use Rattle.nd_graph.specs.Graphs.{Nodes};
 ghost use Rattle.nd_cli.specs.Asked.{IsAskFault};
-ghost use Rattle.nd_cli.specs.Blocks.{AnswersKnownGraph, ReadsGraph, ReadsPart};
+ghost use Rattle.nd_cli.specs.Blocks.{AnswersKnownGraph, AnswersKnownNeeds, HasNeedsWithin, ReadsGraph, ReadsNeeds, ReadsPart};
 ghost use Rattle.nd_cli.specs.Inputs.{IsReadFault, OkUnlessMemory, ReadsWhole, is_read_failure};
 ghost use Rattle.nd_cli.specs.Parks.{HasGraph, IsBundleFault};
 
@@ -11,7 +12,8 @@ use crate::fault::{CliFault, Place};
 use crate::input::LIMIT;
 use crate::options::ParkOptions;
 use crate::park::bundle_fault;
-use nd_bundle::BundleReader;
+use crate::parts_reader::PartsReader;
+use nd_bundle::{BundleReader, Needs, NeedsReader};
 use nd_devices::{Fault, Told};
 use nd_graph::Graph;
 use std::alloc::{AllocError, Global};
@@ -72,19 +74,62 @@ fn graph_of_blocks(
     }
 }
 
+/// The needs of the bundle on the input, which is read to its end, or to one byte past [`LIMIT`].
+///
+/// Refuses as [`take_graph`].
+pub(crate) fn take_needs<R: Read>(
+    rt: &(impl Threads + Sync),
+    alloc: Global,
+    options: &ParkOptions,
+    input: &mut Told<R>,
+) -> Result<Needs, CliFault>
+    ensures read { IfOk result (ReadsNeeds options.now (R.remaining input.old.device) (R.remaining input.new.device)) }
+    ensures fault { IfErr result (IsAskFault options.now R.remaining input.old input.new false) }
+    ensures mark { input.new.is_marked ≡ (input.old.is_marked || is_read_failure result) }
+    ensures exactly { AnswersKnownNeeds options.now (R.remaining input.old.device) result }
+{
+    let mut reader = NeedsReader::new(alloc, options.check_paths);
+    let count = feed_input(rt, alloc, input, &mut reader)?;
+    needs_of_blocks(rt, options, reader, count)
+}
+
+/// The needs of the bundle that the reader was fed, which has `count` bytes.
+///
+/// Refuses as [`graph_of_blocks`].
+fn needs_of_blocks(
+    rt: &(impl Threads + Sync),
+    options: &ParkOptions,
+    reader: NeedsReader,
+    count: usize,
+) -> Result<Needs, CliFault>
+    requires check { reader.check ≡ options.now.check_paths }
+    requires counted { count ≡ length reader.text }
+    ensures read { IfOk result (HasNeedsWithin options.now reader.text) }
+    ensures refused { IfErr result (IsBundleFault options.now reader.text) }
+    ensures exactly { (graph : Nodes) → HasGraph options.now reader.text graph → OkUnlessMemory result (λ needs. ArePlaced needs.table needs.places graph.needs) }
+{
+    if LIMIT < count {
+        return Err(CliFault::TooLarge(Place::Drvs));
+    }
+    match reader.finish(rt) {
+        Ok(needs) => Ok(needs),
+        Err(refusal) => Err(bundle_fault(refusal)),
+    }
+}
+
 /// Feeds the reader the whole input, or [`LIMIT`] bytes and one more, and answers how many these are.
 ///
 /// `Read`: the device refused a read, and is then marked. `Memory`.
-fn feed_input<R: Read>(
+fn feed_input<R: Read, P: PartsReader>(
     rt: &(impl Threads + Sync),
     alloc: Global,
     input: &mut Told<R>,
-    reader: &mut BundleReader,
+    reader: &mut P,
 ) -> Result<usize, CliFault>
-    requires begun { reader.old.text ≡ [] }
-    ensures check { reader.new.check ≡ reader.old.check }
-    ensures read { IfOk result (λ _. ReadsWhole (R.remaining input.old.device) (R.remaining input.new.device) reader.new.text) }
-    ensures counted { IfOk result (λ count. count ≡ length reader.new.text) }
+    requires begun { (P.reading reader.old).text ≡ [] }
+    ensures check { (P.reading reader.new).check ≡ (P.reading reader.old).check }
+    ensures read { IfOk result (λ _. ReadsWhole (R.remaining input.old.device) (R.remaining input.new.device) (P.reading reader.new).text) }
+    ensures counted { IfOk result (λ count. count ≡ length (P.reading reader.new).text) }
     ensures fault { IfErr result (IsReadFault input.new.is_marked) }
     ensures mark { input.new.is_marked ≡ (input.old.is_marked || is_read_failure result) }
 {

@@ -13,6 +13,7 @@ mod input;
 mod listing;
 mod options;
 mod park;
+mod parts_reader;
 mod path;
 mod shares;
 mod slot_lines;

@@ -8,6 +8,7 @@ ghost use Rattle.nd_cli.specs.Asked.{IsAskFault, ReadsPark};
 ghost use Rattle.nd_cli.specs.Blocks.{AnswersKnownPark};
 ghost use Rattle.nd_cli.specs.Inputs.{OkUnlessMemory, is_read_failure};
 ghost use Rattle.nd_cli.specs.Parks.{AnswersAcceptedPark, HasGraph, HasBuilders, HasInfo, HasPark, IsAccepted, IsBundleFault, IsBuildersFault, IsInfoFault, IsParkFault, IsToldAs, local_of};
+ghost use Rattle.nd_cli.specs.Setting.{AnswersAcceptedSetting, IsSettingFault};
 
 use crate::blocks::take_graph;
 use crate::fault::{CliFault, Place};
@@ -34,6 +35,17 @@ pub struct Park {
     pub local: Local,
     /// The paths that the info text lists, with their references.
     pub info: RefTable,
+}
+
+/// What the options of a command over a bundle say beside the bundle, once all of it is accepted.
+#[derive(Drop)]
+pub(crate) struct Setting {
+    /// The builders, in the order of their list.
+    pub(crate) machines: Vec<Machine>,
+    /// The local machine.
+    pub(crate) local: Local,
+    /// The paths that the info text lists, with their references.
+    pub(crate) info: RefTable,
 }
 
 /// What this text, a bundle, and the options describe. There are at most 1,024 builders.
@@ -92,25 +104,44 @@ fn park_over(alloc: Global, options: &ParkOptions, graph: Graph) -> Result<Park,
     ensures refused { (text : List ℕ) → IsAccepted options.now text → IfErr result (IsParkFault options.now text) }
     ensures exactly { (text : List ℕ) → ((nodes : Nodes) → HasGraph options.now text nodes → graph ≡ nodes) → AnswersAcceptedPark options.now text result }
 {
-    // For the proof: what was read before a refusal is let go by calls, and not in each goal of that exit.
-    let machines = match read_builders(alloc, options) {
-        Ok(machines) => machines,
+    match read_setting(alloc, options) {
+        Ok(setting) => Ok(Park {
+            graph,
+            machines: setting.machines,
+            local: setting.local,
+            info: setting.info,
+        }),
         Err(fault) => {
+            // For the proof: the graph is let go by a call, and not in each goal of this exit.
             drop(graph);
-            return Err(fault);
+            Err(fault)
         }
-    };
+    }
+}
+
+/// What the options say beside the bundle. There are at most 1,024 builders.
+///
+/// The first refusal in this order is answered: `TooLarge` or `Builders` for the builders list, `TooLarge` or
+/// `Info` for the info text. `Memory` may come at any point.
+pub(crate) fn read_setting(alloc: Global, options: &ParkOptions) -> Result<Setting, CliFault>
+    ensures builders { IfOk result (λ setting. HasBuilders options.now setting.machines.items) }
+    ensures references { IfOk result (λ setting. HasInfo options.now setting.info.entries) }
+    ensures local { IfOk result (λ setting. setting.local ≡ local_of options.now) }
+    ensures few { IfOk result (λ setting. length setting.machines.items ≤ 1024) }
+    ensures refused { IfErr result (IsSettingFault options.now) }
+    ensures exactly { AnswersAcceptedSetting options.now result }
+{
+    // For the proof: what was read before a refusal is let go by calls, and not in each goal of that exit.
+    let machines = read_builders(alloc, options)?;
     let info = match read_info(alloc, options) {
         Ok(info) => info,
         Err(fault) => {
             drop(machines);
-            drop(graph);
             return Err(fault);
         }
     };
     match read_local(alloc, options) {
-        Ok(local) => Ok(Park {
-            graph,
+        Ok(local) => Ok(Setting {
             machines,
             local,
             info,
@@ -118,7 +149,6 @@ fn park_over(alloc: Global, options: &ParkOptions, graph: Graph) -> Result<Park,
         Err(AllocError) => {
             drop(info);
             drop(machines);
-            drop(graph);
             Err(CliFault::Memory)
         }
     }

@@ -6,11 +6,13 @@ ghost use Rattle.nd_machines.specs.Builders.{Builder};
 ghost use Rattle.nd_eligible.specs.Settings.{Settings};
 ghost use Rattle.nd_hook.specs.Idle.{IsIdleReply};
 ghost use Rattle.nd_cli.specs.ClassReplies.{IsClassReply};
+ghost use Rattle.nd_cli.specs.PlacedReplies.{AreRepliesAt, HaveNeeds};
 ghost use Rattle.nd_cli.specs.Shares.{AreShares};
 
 use crate::asks::replies_about;
 use crate::class_shares::classes_side_by_side;
 use crate::classes::by_class;
+use nd_bundle::Needs;
 use nd_eligible::{Local, Need};
 use nd_hook::Reply;
 use nd_machines::Machine;
@@ -23,7 +25,7 @@ const SHARE: usize = 64;
 
 /// The replies about derivations with these needs, in order, where no slot is taken and every machine is up.
 #[tactic(auto, using(crate::proofs::ClassReplying::are_made, crate::proofs::ClassReplying::all_replies))]
-pub(crate) fn replies_side_by_side<R: Threads + Sync>(
+fn replies_side_by_side<R: Threads + Sync>(
     rt: &R,
     alloc: Global,
     machines: &[Machine],
@@ -35,6 +37,22 @@ pub(crate) fn replies_side_by_side<R: Threads + Sync>(
     let classes = classes_side_by_side(rt, alloc, needs)?;
     let made = class_replies(rt, alloc, machines, local, classes.firsts())?;
     by_class(alloc, &made, classes.members())
+}
+
+/// The replies about derivations whose needs stand at places of a table, in the order of the places, where no slot is
+/// taken and every machine is up.
+pub(crate) fn replies_at<R: Threads + Sync>(
+    rt: &R,
+    alloc: Global,
+    machines: &[Machine],
+    local: &Local,
+    needs: &Needs,
+) -> Result<Vec<Reply>, AllocError>
+    requires { HaveNeeds needs.now }
+    ensures { IfOk result (λ replies. AreRepliesAt machines.now local.now needs.now replies.items) }
+{
+    let made = replies_side_by_side(rt, alloc, machines, local, needs.table())?;
+    by_class(alloc, &made, needs.places())
 }
 
 /// The replies about some classes, in order. Those about more classes than [`SHARE`] are made by as many threads as
