@@ -7,6 +7,7 @@ mod explaining;
 mod holdings;
 mod lines;
 mod long_bundles;
+mod needs;
 mod parts;
 mod reading;
 mod shapes;

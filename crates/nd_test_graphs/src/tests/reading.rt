@@ -1,12 +1,26 @@
-//! Reading bundles with both readers.
+//! Reading bundles with both readers of a graph, and with the one of its needs.
 
-use nd_bundle::{GraphError, plain, read_bundle};
+use nd_bundle::{GraphError, Needs, NeedsReader, plain, read_bundle};
 use nd_graph::Graph;
 use nd_test_fixtures::bundles::joined;
 use std::alloc::Global;
 use std::thread::Threads;
 
-/// Whether both readers, which check paths or don't, refuse a text for this reason, or take it where
+/// The needs of a bundle whose text comes at once.
+pub(crate) fn needs_of<R: Threads + Sync>(
+    rt: &R,
+    alloc: Global,
+    text: &[u8],
+    check: bool,
+) -> Result<Needs, GraphError> {
+    let mut reader = NeedsReader::new(alloc, check);
+    let room = Vec::from_slice(alloc, text)?;
+    let filled = room.len();
+    reader.feed(rt, room, filled)?;
+    reader.finish(rt)
+}
+
+/// Whether both readers and that of the needs, which check paths or don't, refuse a text for this reason, or take it where
 /// there is none.
 pub(crate) fn both_answer<R: Threads + Sync>(
     rt: &R,
@@ -17,6 +31,7 @@ pub(crate) fn both_answer<R: Threads + Sync>(
 ) -> bool {
     plain::read_bundle(alloc, text, check).err() == want
         && read_bundle(rt, alloc, text, check).err() == want
+        && needs_of(rt, alloc, text, check).err() == want
 }
 
 /// Whether they do so of these parts, and check no paths. Want of memory is a no.
@@ -40,7 +55,15 @@ pub(crate) fn size_of(read: Result<Graph, GraphError>) -> Option<usize> {
     }
 }
 
-/// Whether both readers, which check paths or don't, find this many nodes in a text.
+/// The number of derivations of an answer, or none where the text is refused.
+fn count_of(read: Result<Needs, GraphError>) -> Option<usize> {
+    match read {
+        Ok(needs) => Some(needs.places().len()),
+        Err(_) => None,
+    }
+}
+
+/// Whether both readers and that of the needs, which check paths or don't, find this many nodes in a text.
 pub(crate) fn both_find<R: Threads + Sync>(
     rt: &R,
     alloc: Global,
@@ -50,6 +73,7 @@ pub(crate) fn both_find<R: Threads + Sync>(
 ) -> bool {
     size_of(plain::read_bundle(alloc, text, check)) == Some(nodes)
         && size_of(read_bundle(rt, alloc, text, check)) == Some(nodes)
+        && count_of(needs_of(rt, alloc, text, check)) == Some(nodes)
 }
 
 /// Whether they do so in these parts, and check no paths. Want of memory is a no.
