@@ -176,8 +176,8 @@ impl PathNumbers {
         true
     }
 
-    /// Whether this is the number of this path. It takes no memory.
-    fn is_number_of(&self, path: &StorePath, number: usize) -> bool
+    /// Whether this is the number of this path: the two paths are compared, and none is looked up. It takes no memory.
+    pub fn is_number_of(&self, path: &StorePath, number: usize) -> bool
         ensures { IsTrue result → IsNumberOf self.now.paths path.now number }
     {
         match self.paths.get_index(number) {

@@ -6,7 +6,7 @@ pub mod Lookalikes
 pub mod Entering
 pub mod Checking
 pub mod Preparing
-pub mod Remembering
+pub mod OutputNumbers
 pub mod Seeding
 pub mod Whole
 pub mod Storing

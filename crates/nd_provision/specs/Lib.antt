@@ -1,6 +1,6 @@
 pub mod Differences
 pub mod Nearby
-pub mod Remembered
+pub mod Outputs
 pub mod Seeds
 pub mod Stored
 pub mod StoresKept

@@ -29,3 +29,7 @@ pub record AreNear (graph : Nodes) (d : ℕ) (paths : List (List ℕ)) : Type 0 
 -- the same of each path of these lists
 pub record AreAllNear (graph : Nodes) (d : ℕ) (lists : List (List (List ℕ))) : Type 0 where
   pub each : (list : List (List ℕ)) → Contains lists list → AreNear graph d list
+
+-- there is no path in these lists
+pub record AreAllEmpty (lists : List (List (List ℕ))) : Type 0 where
+  pub each : (list : List (List ℕ)) → Contains lists list → list ≡ []

@@ -3,7 +3,7 @@
 
 ghost use Rattle.std.specs.Prelude.{◌≡◌, ◌<◌, length, slice_get, Some, IsTrue};
 ghost use Rattle.std.specs.List.{Contains};
-ghost use Rattle.nd_provision.specs.Nearby.{IsAtPlace, IsOfInput, IsNear, AreNear, AreAllNear};
+ghost use Rattle.nd_provision.specs.Nearby.{IsAtPlace, IsOfInput, IsNear, AreNear, AreAllNear, AreAllEmpty};
 
 use crate::needs::learn_graph;
 use nd_graph::Graph;
@@ -17,17 +17,33 @@ const FEW_PATHS: usize = 32;
 const FEW_REFERENCES: usize = 64;
 
 /// Whether all of these references are seen to be needed by derivation `drv` at once or to be among its
-/// outputs. A no says nothing: where there are many, none is looked at.
-#[tactic(auto, using(crate::proofs::Nearness::list_more_near))]
+/// outputs. A no says nothing: where there are many, none is looked at. Where there are none, nothing else is.
+#[tactic(auto, using(crate::proofs::Nearness::list_more_near, crate::proofs::Nearness::none_near))]
 pub(crate) fn are_near(graph: &Graph, drv: usize, lists: &[PathSet]) -> bool
     requires { drv < length graph.now.paths }
     ensures { IsTrue result → AreAllNear graph.now drv lists.now }
 {
+    if are_none(lists) {
+        return true;
+    }
     if !has_few(graph, drv) || !are_few(lists) {
         return false;
     }
     for list in lists {
         if !is_list_near(graph, drv, list.as_slice()) {
+            return false;
+        }
+    }
+    true
+}
+
+/// Whether there is no reference in these lists.
+#[tactic(auto, using(crate::proofs::Nearness::one_more_empty))]
+fn are_none(lists: &[PathSet]) -> bool
+    ensures { IsTrue result → AreAllEmpty lists.now }
+{
+    for list in lists {
+        if !list.is_empty() {
             return false;
         }
     }

@@ -1,12 +1,12 @@
 //! What derivations need: the sources of a bundle, and for one derivation its sources and the named
 //! outputs of its inputs.
 
-ghost use Rattle.std.specs.Prelude.{◌≡◌, ◌<◌, ◌++◌, [], length, map, slice_index_or, IfOk, OnOk, IfSome};
+ghost use Rattle.std.specs.Prelude.{◌≡◌, ◌<◌, ◌++◌, [], length, map, slice_index_or, IfOk, OnOk};
 ghost use Rattle.std.specs.List.{All, flat_map};
 ghost use Rattle.nd_graph.specs.Graphs.{IsSound};
-ghost use Rattle.nd_path_numbers.specs.Numbers.{HasGrown, IsNumberOf};
-ghost use Rattle.nd_provision.specs.Remembered.{IsLastAt, IsRemembered, AreRemembered};
-ghost use Rattle.nd_provision.specs.Seeds.{GoesOn, paths_at};
+ghost use Rattle.nd_path_numbers.specs.Numbers.{HasGrown};
+ghost use Rattle.nd_provision.specs.Outputs.{AreOutputRows};
+ghost use Rattle.nd_provision.specs.Seeds.{GoesOn};
 ghost use Rattle.nd_provision.specs.Stored.{AreNeededIn, AreSeedsIn, IsSeedRow};
 
 use crate::copying::add_copies;
@@ -15,13 +15,6 @@ use nd_graph::{Graph, Input};
 use nd_path::StorePath;
 use nd_path_numbers::PathNumbers;
 use std::alloc::{AllocError, Global};
-
-/// Of a derivation the output that was numbered last: its place among the outputs, and its number.
-#[derive(Clone, Copy)]
-struct LastNumber {
-    place: usize,
-    number: usize,
-}
 
 /// All input sources, node by node.
 pub(crate) fn all_sources(alloc: Global, graph: &Graph) -> Result<Vec<StorePath>, AllocError>
@@ -62,61 +55,71 @@ pub(crate) fn needed_by(
     Ok(needed)
 }
 
-/// For each derivation the numbers of what it needs at once.
-pub(crate) fn seeds_by_number(
+/// For each derivation the numbers of its outputs, of which there are so many in all.
+pub(crate) fn outputs_by_number(
     alloc: Global,
     numbers: &mut PathNumbers,
     graph: &Graph,
+    count: usize,
 ) -> Result<Rows, AllocError>
-    ensures seeds { IfOk result (λ v. AreSeedsIn graph.now numbers.new.paths v) }
+    ensures outputs { IfOk result (AreOutputRows graph.now.outputs numbers.new.paths) }
     ensures all { IfOk result (λ v. length v ≡ length graph.now.paths) }
     ensures grown { HasGrown numbers.old numbers.new }
 {
-    let mut last = vec![in alloc; None; graph.len()]?;
-    let mut rows = Rows::with_capacity(alloc, graph.len(), count_seeds(graph))?;
+    let mut rows = Rows::with_capacity(alloc, graph.len(), count)?;
     let mut row = Vec::new(alloc);
     for drv in 0..graph.len() {
-        seed_row(alloc, numbers, &mut last, &mut row, graph, drv)?;
+        row.clear();
+        add_numbers(alloc, numbers, &mut row, graph.outputs(drv))?;
         rows.add(row.as_slice())?;
     }
     Ok(rows)
 }
 
-/// Puts the numbers of what derivation `drv` needs at once in the place of those that are in the row. `last` has
-/// what is kept of each derivation.
+/// For each derivation the numbers of what it needs at once. `outputs` has those of all outputs, so that none is
+/// looked up by its path.
+pub(crate) fn seeds_by_number(
+    alloc: Global,
+    numbers: &mut PathNumbers,
+    graph: &Graph,
+    outputs: &Rows,
+) -> Result<Rows, AllocError>
+    requires sized { length outputs.now ≡ length graph.now.paths }
+    requires outputs { AreOutputRows graph.now.outputs numbers.old.paths outputs.now }
+    ensures seeds { IfOk result (λ v. AreSeedsIn graph.now numbers.new.paths v) }
+    ensures all { IfOk result (λ v. length v ≡ length graph.now.paths) }
+    ensures grown { HasGrown numbers.old numbers.new }
+{
+    let mut rows = Rows::with_capacity(alloc, graph.len(), count_seeds(graph))?;
+    let mut row = Vec::new(alloc);
+    for drv in 0..graph.len() {
+        seed_row(alloc, numbers, &mut row, graph, outputs, drv)?;
+        rows.add(row.as_slice())?;
+    }
+    Ok(rows)
+}
+
+/// Puts the numbers of what derivation `drv` needs at once in the place of those that are in the row.
 fn seed_row(
     alloc: Global,
     numbers: &mut PathNumbers,
-    last: &mut Vec<Option<LastNumber>>,
     row: &mut Vec<usize>,
     graph: &Graph,
+    outputs: &Rows,
     drv: usize,
 ) -> Result<(), AllocError>
     requires drv { drv < length graph.now.paths }
-    requires sized { length last.old.items ≡ length graph.now.paths }
-    requires remembered { AreRemembered graph.now.outputs numbers.old.paths last.old.items }
+    requires sized { length outputs.now ≡ length graph.now.paths }
+    requires outputs { AreOutputRows graph.now.outputs numbers.old.paths outputs.now }
     ensures row { OnOk result (IsSeedRow graph.now numbers.new.paths drv row.new.items) }
     ensures grown { HasGrown numbers.old numbers.new }
-    ensures sized { OnOk result (length last.new.items ≡ length graph.now.paths) }
-    ensures remembered { OnOk result (AreRemembered graph.now.outputs numbers.new.paths last.new.items) }
 {
     learn_graph(graph);
     row.clear();
-    let sources = graph.sources(drv);
-    add_numbers(alloc, numbers, row, sources)?;
-    let inputs = graph.inputs(drv);
-    for input in inputs {
-        let outputs = graph.outputs(input.node);
-        let mut kept = last[input.node];
-        add_numbers_at(
-            alloc,
-            numbers,
-            &mut kept,
-            row,
-            outputs,
-            input.outputs.as_slice(),
-        )?;
-        last[input.node] = kept;
+    add_numbers(alloc, numbers, row, graph.sources(drv))?;
+    for input in graph.inputs(drv) {
+        let own = outputs.row(input.node);
+        add_numbers_at(row, own, input.outputs.as_slice())?;
     }
     Ok(())
 }
@@ -155,75 +158,15 @@ fn add_numbers(
     Ok(())
 }
 
-/// Appends the numbers of the outputs at these places. `last` is what is kept of their derivation.
-fn add_numbers_at(
-    alloc: Global,
-    numbers: &mut PathNumbers,
-    last: &mut Option<LastNumber>,
-    row: &mut Vec<usize>,
-    outputs: &[StorePath],
-    places: &[usize],
-) -> Result<(), AllocError>
-    requires places { All (λ k. k < length outputs.now) places.now }
-    requires remembered { IsRemembered outputs.now numbers.old.paths last.old }
-    ensures row { OnOk result (GoesOn numbers.old.paths numbers.new.paths row.old.items row.new.items (paths_at outputs.now places.now)) }
-    ensures grown { HasGrown numbers.old numbers.new }
-    ensures remembered { OnOk result (IsRemembered outputs.now numbers.new.paths last.new) }
+/// Appends those at these places of the numbers of a derivation's outputs.
+fn add_numbers_at(row: &mut Vec<usize>, own: &[usize], places: &[usize]) -> Result<(), AllocError>
+    requires { All (λ k. k < length own.now) places.now }
+    ensures { OnOk result (row.new.items ≡ row.old.items ++ map (λ k. slice_index_or own.now k 0) places.now) }
 {
     for place in places {
-        row.push(number_at(alloc, numbers, last, outputs, *place)?)?;
+        row.push(own[*place])?;
     }
     Ok(())
-}
-
-/// The number of the output at this place. `last` is what is kept of its derivation: a place that was
-/// the last one has its number from there, and no path is looked up.
-fn number_at(
-    alloc: Global,
-    numbers: &mut PathNumbers,
-    last: &mut Option<LastNumber>,
-    outputs: &[StorePath],
-    place: usize,
-) -> Result<usize, AllocError>
-    requires place { place < length outputs.now }
-    requires remembered { IsRemembered outputs.now numbers.old.paths last.old }
-    ensures number { IfOk result (IsNumberOf numbers.new.paths (slice_index_or outputs.now place [])) }
-    ensures grown { HasGrown numbers.old numbers.new }
-    ensures remembered { OnOk result (IsRemembered outputs.now numbers.new.paths last.new) }
-{
-    if let Some(number) = number_kept(*last, place) {
-        return Ok(number);
-    }
-    number_looked_up(alloc, numbers, last, outputs, place)
-}
-
-/// The number of the output at this place, by its path. It is kept in `last`.
-#[tactic(auto, using(crate::proofs::Remembering::number_read, crate::proofs::Remembering::remembered_now))]
-fn number_looked_up(
-    alloc: Global,
-    numbers: &mut PathNumbers,
-    last: &mut Option<LastNumber>,
-    outputs: &[StorePath],
-    place: usize,
-) -> Result<usize, AllocError>
-    requires { place < length outputs.now }
-    ensures number { IfOk result (IsNumberOf numbers.new.paths (slice_index_or outputs.now place [])) }
-    ensures grown { HasGrown numbers.old numbers.new }
-    ensures remembered { OnOk result (IsRemembered outputs.now numbers.new.paths last.new) }
-{
-    let number = numbers.know(alloc, &outputs[place])?;
-    *last = Some(LastNumber { place, number });
-    Ok(number)
-}
-
-/// The number that is kept, if it is of the output at this place.
-fn number_kept(last: Option<LastNumber>, place: usize) -> Option<usize>
-    ensures { IfSome result (IsLastAt last place) }
-{
-    match last {
-        Some(kept) if kept.place == place => Some(kept.number),
-        _ => None,
-    }
 }
 
 /// Appends copies of the outputs at these places.

@@ -2,7 +2,7 @@
 
 ghost use Rattle.std.specs.Prelude.{◌≡◌, ◌==◌, [], length, map, if◌then◌else◌, IfOk, IfSome};
 ghost use Rattle.std.specs.List.{zip};
-ghost use Rattle.nd_path_numbers.specs.Numbers.{AreNumbersOf, HasGrown};
+ghost use Rattle.nd_path_numbers.specs.Numbers.{AreNumbersOf, HasGrown, IsNumberOf};
 ghost use Rattle.nd_provision.specs.Listed.{number_in};
 ghost use Rattle.nd_provision.specs.Stored.{entry_of, IsListing, AreListings, AreGivenEntries, IsNumberedGiven, IsNumberedBuild};
 
@@ -35,19 +35,20 @@ pub(crate) fn number_given(
 }
 
 /// What a build on machine `m` with these outputs and references adds; whether the machine has what they
-/// refer to isn't looked at.
+/// refer to isn't looked at. `likely` has the numbers that the outputs have, as far as is known.
 pub(crate) fn number_build(
     alloc: Global,
     numbers: &mut PathNumbers,
     m: usize,
     outputs: &[StorePath],
+    likely: &[usize],
     refs: &[PathSet],
 ) -> Result<Additions, AllocError>
     requires { length refs.now ≡ length outputs.now }
     ensures build { IfOk result (IsNumberedBuild numbers.new.paths m outputs.now refs.now) }
     ensures grown { HasGrown numbers.old numbers.new }
 {
-    let entries = list_beside(alloc, numbers, outputs, refs)?;
+    let entries = list_beside(alloc, numbers, outputs, likely, refs)?;
     let own = listed_numbers(alloc, entries.as_slice())?;
     let brought = brought_of(alloc, m, own.as_slice())?;
     Ok(Additions {
@@ -117,18 +118,38 @@ fn brought_of(alloc: Global, m: usize, own: &[usize]) -> Result<Vec<usize>, Allo
     Vec::from_slice(alloc, own)
 }
 
-/// A path and its set of references, with their numbers.
+/// The number of a path. Where it is likely to be this one, the two paths are compared first, and where it is,
+/// the path isn't looked up.
+fn number_likely(
+    alloc: Global,
+    numbers: &mut PathNumbers,
+    path: &StorePath,
+    likely: Option<usize>,
+) -> Result<usize, AllocError>
+    ensures number { IfOk result (IsNumberOf numbers.new.paths path.now) }
+    ensures grown { HasGrown numbers.old numbers.new }
+{
+    if let Some(number) = likely {
+        if numbers.is_number_of(path, number) {
+            return Ok(number);
+        }
+    }
+    numbers.know(alloc, path)
+}
+
+/// A path, which is likely to have this number, and its set of references, with their numbers.
 fn list_one(
     alloc: Global,
     numbers: &mut PathNumbers,
     path: &StorePath,
+    likely: Option<usize>,
     refs: PathSet,
 ) -> Result<Listing, AllocError>
     ensures listed { IfOk result (IsListing numbers.new.paths) }
     ensures entry { IfOk result (λ l. entry_of l ≡ (path.now, refs)) }
     ensures grown { HasGrown numbers.old numbers.new }
 {
-    let number = numbers.know(alloc, path)?;
+    let number = number_likely(alloc, numbers, path, likely)?;
     let row = Items::new(numbers.know_all(alloc, refs.as_slice())?);
     Ok(Listing {
         path: path.try_clone()?,
@@ -138,11 +159,12 @@ fn list_one(
     })
 }
 
-/// These paths, each with its set of references, by number too.
+/// These paths, which are likely to have these numbers, each with its set of references, by number too.
 fn list_beside(
     alloc: Global,
     numbers: &mut PathNumbers,
     paths: &[StorePath],
+    likely: &[usize],
     refs: &[PathSet],
 ) -> Result<Vec<Listing>, AllocError>
     requires { length refs.now ≡ length paths.now }
@@ -152,7 +174,8 @@ fn list_beside(
 {
     let mut listings = Vec::with_capacity(alloc, paths.len())?;
     for i in 0..paths.len() {
-        let listing = list_one(alloc, numbers, &paths[i], refs[i].try_clone()?)?;
+        let number = likely.get(i).copied();
+        let listing = list_one(alloc, numbers, &paths[i], number, refs[i].try_clone()?)?;
         listings.push(listing)?;
     }
     Ok(listings)
@@ -172,7 +195,7 @@ fn list_given(
     let mut listings = Vec::new(alloc);
     for path in given {
         let refs = set_of(alloc, info.refs(path))?;
-        let listing = list_one(alloc, numbers, path, refs)?;
+        let listing = list_one(alloc, numbers, path, None, refs)?;
         listings.push(listing)?;
     }
     Ok(listings)

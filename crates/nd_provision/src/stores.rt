@@ -10,7 +10,7 @@ ghost use Rattle.nd_provision.specs.Stored.{AreListings, IsFirstFor, IsSameStore
 use crate::checks::{all_lie_in, are_listings_held, are_rows_held, is_covered, lacked, lie_in};
 use crate::copying::{Additions, Listing, PathsError, enter_all, put_all, set_with};
 use crate::near::are_near;
-use crate::needs::{all_sources, count_outputs, needed_by, seeds_by_number};
+use crate::needs::{all_sources, count_outputs, needed_by, outputs_by_number, seeds_by_number};
 use crate::numbering::{number_build, number_given, numbers_at_hand};
 use nd_closure::{RefTable, Refs, reach};
 use nd_flags::Rows;
@@ -24,9 +24,10 @@ use std::marker::Model;
 /// A table of what each path refers to, and the set of the paths that each machine holds. Both follow
 /// a history entry by entry, so that no closure and no copy is found by a search of the entries.
 ///
-/// Paths have numbers here, which are given before the first entry to those that are given or that some
-/// derivation needs, and to the other outputs when they are built. What a derivation needs at once, what a
-/// path refers to and what a machine holds is kept by number, so a search compares no paths.
+/// Paths have numbers here, which are given before the first entry to all outputs and to those that are given or
+/// that some derivation needs. Which outputs a derivation has, what it needs at once, what a path refers to and
+/// what a machine holds is kept by number, so a search compares no paths, and an output that is built is compared
+/// with one and isn't looked up.
 ///
 /// A machine that holds a path mostly holds all that the path refers to, since closures are copied whole.
 /// It is otherwise only where a build has an output that another build had first, or that is given, with
@@ -36,6 +37,7 @@ use std::marker::Model;
 pub struct Stores {
     table: RefTable,
     numbers: PathNumbers,
+    outputs: Rows,
     seeds: Rows,
     holdings: Holdings,
     whole: bool,
@@ -65,10 +67,11 @@ impl Stores {
     {
         let sources = all_sources(alloc, graph)?;
         let given = reach(alloc, sources.as_slice(), info)?;
-        let outputs = count_outputs(graph);
-        let known = given.len().saturating_add(outputs);
+        let count = count_outputs(graph);
+        let known = given.len().saturating_add(count);
         let mut numbers = PathNumbers::with_capacity(alloc, known)?;
-        let seeds = seeds_by_number(alloc, &mut numbers, graph)?;
+        let outputs = outputs_by_number(alloc, &mut numbers, graph, count)?;
+        let seeds = seeds_by_number(alloc, &mut numbers, graph, &outputs)?;
         let Additions { entries, own, .. } = number_given(
             alloc,
             &mut numbers,
@@ -76,7 +79,7 @@ impl Stores {
             info,
         )?;
         let mut table = RefTable::new(alloc);
-        table.reserve(entries.len().saturating_add(outputs))?;
+        table.reserve(entries.len().saturating_add(count))?;
         enter_all(&mut table, &mut numbers, entries);
         let mut holdings = Holdings::new(alloc, builders + 1)?;
         holdings.reserve_below(alloc, 0, own.len(), numbers.len())?;
@@ -84,6 +87,7 @@ impl Stores {
         Ok(Stores {
             table,
             numbers,
+            outputs,
             seeds,
             holdings,
             whole: true,
@@ -97,6 +101,7 @@ impl Stores {
         Ok(Stores {
             table: self.table.try_clone()?,
             numbers: self.numbers.try_clone(alloc)?,
+            outputs: self.outputs.try_clone()?,
             seeds: self.seeds.try_clone()?,
             holdings: self.holdings.try_clone()?,
             whole: self.whole,
@@ -326,7 +331,15 @@ impl Stores {
         ensures additions { IfOk result (AreBuiltAdditions (premises_of inputs.now) self.new drv m refs.now) }
     {
         let outputs = inputs.graph.outputs(drv);
-        let mut additions = number_build(alloc, &mut self.numbers, m, outputs, refs.lists())?;
+        let likely = self.outputs.row(drv);
+        let mut additions = number_build(
+            alloc,
+            &mut self.numbers,
+            m,
+            outputs,
+            likely,
+            refs.lists(),
+        )?;
         additions.provided = self.is_provided(
             m,
             additions.own.as_slice(),

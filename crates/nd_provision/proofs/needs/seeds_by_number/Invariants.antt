@@ -1,6 +1,6 @@
 use Rattle.std.proofs.Common.{◌≡◌, length}
 use Rattle.nd_path_numbers.specs.Numbers.{HasGrown}
-use Rattle.nd_provision.specs.Remembered.{AreRemembered}
+use Rattle.nd_provision.specs.Outputs.{AreOutputRows}
 use Rattle.nd_provision.specs.Stored.{AreSeedsIn}
 use Rattle.nd_provision.proofs.needs.seeds_by_number.Given as goal
 
@@ -9,6 +9,5 @@ invariant-loop-drv l = record {
   grown : HasGrown l.fn.numbers l.numbers;
   size : length l.rows ≡ l.drv;
   seeds : AreSeedsIn l.graph l.numbers.paths l.rows;
-  sized : length l.last.items ≡ length l.graph.paths;
-  remembered : AreRemembered l.graph.outputs l.numbers.paths l.last.items;
+  outputs : AreOutputRows l.graph.outputs l.numbers.paths l.outputs;
 }

@@ -31,7 +31,8 @@ returns c =
     let empty_table : c.reserve.new.self.entries ≡ [] = c.in_ok-reserve.ensures.kept ∙ c.new-table.ensures in
     let entered : HasEntered [] s.entries before after listings = subst (λ (es : List (List ℕ × List (List ℕ))). HasEntered es s.entries before after listings) empty_table c.enter_all.ensures in
     let told : AreNumbered [] before = first_numbers c.in_ok-numbers.numbers before c.in_ok-numbers.ensures.paths c.in_ok-numbers.ensures.rows
-    (grown_through c.in_ok-numbers.numbers c.seeds_by_number.new.numbers before c.in_ok-seeds.ensures.grown c.in_ok-entries.ensures.grown) in
+    (grown_through c.in_ok-numbers.numbers c.outputs_by_number.new.numbers before c.in_ok-outputs.ensures.grown
+    (grown_through c.outputs_by_number.new.numbers c.seeds_by_number.new.numbers before c.in_ok-seeds.ensures.grown c.in_ok-entries.ensures.grown)) in
     let seeds : AreSeedsIn c.args.graph.now before.paths rows = seeds_stay c.args.graph.now c.seeds_by_number.new.numbers before rows c.in_ok-entries.ensures.grown c.in_ok-seeds.ensures.seeds in
     let holds : List Hold = c.reserve_below.new.self in
     let park : length holds ≡ c.args.builders + 1 = c.in_ok-reserve_below.ensures.others.size ∙ c.in_ok-holdings.ensures.machines in

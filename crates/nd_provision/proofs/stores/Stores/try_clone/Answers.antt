@@ -7,12 +7,12 @@ use Rattle.nd_provision.proofs.stores.Stores.try_clone.Goals as goal
 pub returns : goal.returns
 returns c =
     let s : Stored = record { entries = c.self.inside.table.entries; spare = c.self.inside.table.spare; numbers = c.self.inside.numbers; seeds = c.self.inside.seeds; stocks = c.self.inside.holdings; whole = c.self.inside.whole } in
-    let copy : Stored = record { entries = c.in_ok-try_clone.field-0.entries; spare = c.in_ok-try_clone.field-0.spare; numbers = c.in_ok-try_clone-2.field-0; seeds = c.in_ok-try_clone-3.field-0; stocks = c.in_ok-try_clone-4.field-0; whole = c.self.inside.whole } in
+    let copy : Stored = record { entries = c.in_ok-try_clone.field-0.entries; spare = c.in_ok-try_clone.field-0.spare; numbers = c.in_ok-try_clone-2.field-0; seeds = c.in_ok-try_clone-4.field-0; stocks = c.in_ok-try_clone-5.field-0; whole = c.self.inside.whole } in
     subst (λ (x : Stored). IsSameStored x copy) c.self.view_is (record {
       entries = c.in_ok-try_clone.ensures;
       numbers = subst (λ (n : Numbered). HasGrown c.self.inside.numbers n) (sym c.in_ok-try_clone-2.ensures) (grown_none c.self.inside.numbers);
-      seeds = c.in_ok-try_clone-3.ensures;
-      park = c.in_ok-try_clone-4.ensures.size;
-      held = c.in_ok-try_clone-4.ensures.numbers;
+      seeds = c.in_ok-try_clone-4.ensures;
+      park = c.in_ok-try_clone-5.ensures.size;
+      held = c.in_ok-try_clone-5.ensures.numbers;
       whole = refl;
     })
