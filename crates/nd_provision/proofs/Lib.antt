@@ -4,6 +4,7 @@ pub mod Joined
 pub mod Nearness
 pub mod Lookalikes
 pub mod Entering
+pub mod Told
 pub mod Checking
 pub mod Preparing
 pub mod OutputNumbers

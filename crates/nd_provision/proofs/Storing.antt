@@ -14,7 +14,7 @@ use Rattle.nd_path.specs.PathSets.{HasSameMembers}
 use Rattle.nd_closure.specs.Tables.{is_listed, refs_of}
 use Rattle.nd_closure.specs.Sets.{is_held}
 use Rattle.nd_closure.specs.Closures.{IsReached, HoldsAll}
-use Rattle.nd_path_numbers.specs.Numbers.{Numbered, path_in, row_in, AreNumbersOf, AreNumbered}
+use Rattle.nd_path_numbers.specs.Numbers.{Numbered, path_in, row_in, AreKnown, AreNumbersOf, AreNumbered}
 use Rattle.nd_path_numbers.specs.Held.{Hold, hold_of}
 use Rattle.nd_path_numbers.specs.Searches.{IsUnheld, FindsUnheld}
 use Rattle.nd_path_numbers.proofs.Growing.{known_stay, names_stay, numbered_grown}
@@ -82,13 +82,20 @@ pub along_reached : {R : List ℕ → List ℕ → Type 0} {S : List ℕ → Typ
 along_reached table seeds at refs x (seed p h) = start p (at p h)
 along_reached table seeds at refs x (step p q r h) = onward p q (along_reached table seeds at refs p r) (refs p q h)
 
--- what is reached from all that d needs is its closure
-pub closure_by : (i : Premises) (s : Stored) (d : ℕ) (needed paths : List (List ℕ)) → AreNeeded i d needed → ((p : List ℕ) → Contains paths p ↔ IsReached s.entries needed p) → IsClosureBy i s d paths
-closure_by i s d needed paths are reached = record {
-  tells = λ past kept p. (
-    λ h. reached_along s.entries needed (λ q k. (are.exact q).0 k) (λ q r k. (table_refers i past s.entries kept.references q r).0 k) p ((reached p).0 h),
-    λ h. (reached p).1 (along_reached s.entries needed (λ q k. (are.exact q).1 k) (λ q r k. (table_refers i past s.entries kept.references q r).1 k) p h),
-  );
+-- what a search finds that stops nowhere, from all that d needs, is its closure
+pub closure_by : (i : Premises) (s : Stored) (d : ℕ) (paths : List (List ℕ)) → d < length i.graph.paths → FindsUnheld s.numbers [] (row_in s.seeds d) paths → IsClosureBy i s d paths
+closure_by i s d paths ranged finds = record {
+  tells = λ past kept p.
+      let none : AreKnown s.numbers.paths [] = record { each = λ n h. absurd (nothing_in n h) } in
+      let found : IsUnheld s.entries [] (seeds_of s d) paths = finds.tells s.entries kept.numbered none (kept.seeds.known d) in
+      let are = kept.seeds.needed d ranged in
+      let refers = table_refers i past s.entries kept.references in (
+        λ h. reached_along s.entries (seeds_of s d) (λ q k. (are.exact q).0 k) (λ q r k. (refers q r).0 k) p (found.reached p h),
+        λ h. along_within (λ x. Contains paths x)
+            (λ q k. elim (found.seeded q ((are.exact q).1 k)) [ inl there ↦ there | inr held ↦ absurd (nothing_in q held) ])
+            (λ q r there refs. elim (found.onward q r there ((refers q r).1 refs)) [ inl more ↦ more | inr held ↦ absurd (nothing_in r held) ])
+            p h,
+      );
 }
 
 -- where this is kept, no path has two numbers, and what is held is known

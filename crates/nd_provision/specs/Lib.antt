@@ -3,6 +3,7 @@ pub mod Nearby
 pub mod Outputs
 pub mod Seeds
 pub mod Stored
+pub mod Told
 pub mod StoresKept
 pub mod Listed
 pub mod Copies

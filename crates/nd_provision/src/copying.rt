@@ -1,31 +1,33 @@
-//! Copies of paths, and what is added to tables of references and to holdings.
+//! Copies of paths, and what is added to the listed paths and to holdings.
 
 ghost use Rattle.std.specs.Prelude.{◌≡◌, ◌+◌, ◌<◌, ◌≤◌, ◌++◌, ◌∷◌, [], length, IfOk, OnOk};
 ghost use Rattle.nd_path.specs.PathSets.{HasSameMembers};
 ghost use Rattle.nd_path_numbers.specs.Held.{hold_of};
 ghost use Rattle.nd_provision.specs.declared.copying.PathsError.TheVariants.{Memory};
 ghost use Rattle.nd_provision.specs.Stored.{IsListing, AreListings, HasEntered, HasGained};
+ghost use Rattle.nd_provision.specs.Told.{AreTold};
 
+use crate::listed_paths::Listed;
+use crate::seen::{SeenPath, SeenRefs};
 use nd_bytes::Items;
-use nd_closure::RefTable;
 use nd_path::{PathSet, StorePath};
 use nd_path_numbers::{Holdings, PathNumbers};
 use std::alloc::{AllocError, Global};
 
-/// A path with the set of what it refers to, and the same by number.
+/// A path with what it refers to, by number. The path and the set of the others are there for contracts alone.
 #[derive(Drop, Debug)]
 pub struct Listing {
     /// The path.
-    pub path: StorePath,
+    pub path: SeenPath,
     /// What it refers to.
-    pub refs: PathSet,
+    pub refs: SeenRefs,
     /// The path's number.
     pub number: usize,
     /// The numbers of what it refers to.
     pub row: Items<usize>,
 }
 
-/// What a start or a build adds to a table of references and to the holdings of a machine and of the
+/// What a start or a build adds to the listed paths and to the holdings of a machine and of the
 /// local one, made before anything is changed.
 #[derive(Drop, Debug)]
 pub struct Additions {
@@ -70,15 +72,6 @@ pub(crate) fn add_copies(into: &mut Vec<StorePath>, paths: &[StorePath]) -> Resu
     Ok(())
 }
 
-/// Copies of these paths.
-pub(crate) fn copy_all(alloc: Global, paths: &[StorePath]) -> Result<Vec<StorePath>, AllocError>
-    ensures { IfOk result (λ v. v.items ≡ paths.now) }
-{
-    let mut copies = Vec::new(alloc);
-    add_copies(&mut copies, paths)?;
-    Ok(copies)
-}
-
 /// The set of these paths and of copies of those.
 pub(crate) fn set_with(mut paths: Vec<StorePath>, more: &[StorePath]) -> Result<PathSet, AllocError>
     ensures { IfOk result (HasSameMembers (paths.items ++ more.now)) }
@@ -87,19 +80,15 @@ pub(crate) fn set_with(mut paths: Vec<StorePath>, more: &[StorePath]) -> Result<
     PathSet::from_vec(paths)
 }
 
-/// The set of these paths.
-pub(crate) fn set_of(alloc: Global, paths: &[StorePath]) -> Result<PathSet, AllocError>
-    ensures { IfOk result (HasSameMembers paths.now) }
-{
-    PathSet::from_vec(copy_all(alloc, paths)?)
-}
-
-/// Enters a path in a table that has room for it, and by number, where it isn't listed. It takes no memory.
-fn enter_one(table: &mut RefTable, numbers: &mut PathNumbers, listing: Listing)
-    requires room { 0 < table.old.spare }
+/// Lists a path where there is room for it, and says by number what it refers to, where it isn't listed yet. It takes
+/// no memory.
+fn enter_one(listed: &mut Listed, numbers: &mut PathNumbers, listing: Listing)
+    requires room { 0 < listed.old.spare }
     requires listed { IsListing numbers.old.paths listing }
-    ensures entered { HasEntered table.old.entries table.new.entries numbers.old numbers.new (listing ∷ []) }
-    ensures room { table.old.spare ≤ table.new.spare + 1 }
+    requires told { AreTold listed.old numbers.old.paths }
+    ensures entered { HasEntered listed.old.entries listed.new.entries numbers.old numbers.new (listing ∷ []) }
+    ensures room { listed.old.spare ≤ listed.new.spare + 1 }
+    ensures told { AreTold listed.new numbers.new.paths }
 {
     let Listing {
         path,
@@ -107,23 +96,23 @@ fn enter_one(table: &mut RefTable, numbers: &mut PathNumbers, listing: Listing)
         number,
         row,
     } = listing;
-    let Ok(added) = table.add(path, refs) else {
-        unreachable!()
-    };
+    let added = listed.add(number, &path, &refs);
     if added {
         numbers.set_row(number, row);
     }
 }
 
-/// Enters these paths in a table that has room for them, and by number: of two entries for a path the first
-/// counts. It takes no memory.
-pub(crate) fn enter_all(table: &mut RefTable, numbers: &mut PathNumbers, listings: Vec<Listing>)
-    requires room { length listings.items ≤ table.old.spare }
+/// Lists these paths where there is room for them, and says by number what they refer to: of two entries for a path
+/// the first counts. It takes no memory.
+pub(crate) fn enter_all(listed: &mut Listed, numbers: &mut PathNumbers, listings: Vec<Listing>)
+    requires room { length listings.items ≤ listed.old.spare }
     requires listed { AreListings numbers.old.paths listings.items }
-    ensures { HasEntered table.old.entries table.new.entries numbers.old numbers.new listings.items }
+    requires told { AreTold listed.old numbers.old.paths }
+    ensures entered { HasEntered listed.old.entries listed.new.entries numbers.old numbers.new listings.items }
+    ensures told { AreTold listed.new numbers.new.paths }
 {
     for listing in listings {
-        enter_one(table, numbers, listing);
+        enter_one(listed, numbers, listing);
     }
 }
 

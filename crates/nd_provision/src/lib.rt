@@ -3,9 +3,11 @@
 
 mod checks;
 mod copying;
+mod listed_paths;
 mod near;
 mod needs;
 mod numbering;
+mod seen;
 mod stores;
 
 pub use copying::{Additions, PathsError};

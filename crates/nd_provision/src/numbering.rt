@@ -6,7 +6,8 @@ ghost use Rattle.nd_path_numbers.specs.Numbers.{AreNumbersOf, HasGrown, IsNumber
 ghost use Rattle.nd_provision.specs.Listed.{number_in};
 ghost use Rattle.nd_provision.specs.Stored.{entry_of, IsListing, AreListings, AreGivenEntries, IsNumberedGiven, IsNumberedBuild};
 
-use crate::copying::{Additions, Listing, set_of};
+use crate::copying::{Additions, Listing};
+use crate::seen::{SeenPath, SeenRefs};
 use nd_bytes::Items;
 use nd_closure::RefTable;
 use nd_path::{PathSet, StorePath};
@@ -137,29 +138,29 @@ fn number_likely(
     numbers.know(alloc, path)
 }
 
-/// A path, which is likely to have this number, and its set of references, with their numbers.
+/// A path, which is likely to have this number, and what it refers to, by number.
 fn list_one(
     alloc: Global,
     numbers: &mut PathNumbers,
     path: &StorePath,
     likely: Option<usize>,
-    refs: PathSet,
+    refs: &[StorePath],
 ) -> Result<Listing, AllocError>
     ensures listed { IfOk result (IsListing numbers.new.paths) }
-    ensures entry { IfOk result (λ l. entry_of l ≡ (path.now, refs)) }
+    ensures entry { IfOk result (λ l. entry_of l ≡ (path.now, refs.now)) }
     ensures grown { HasGrown numbers.old numbers.new }
 {
     let number = number_likely(alloc, numbers, path, likely)?;
-    let row = Items::new(numbers.know_all(alloc, refs.as_slice())?);
+    let row = Items::new(numbers.know_all(alloc, refs)?);
     Ok(Listing {
-        path: path.try_clone()?,
-        refs,
+        path: SeenPath::of(path),
+        refs: SeenRefs::of(refs),
         number,
         row,
     })
 }
 
-/// These paths, which are likely to have these numbers, each with its set of references, by number too.
+/// These paths, which are likely to have these numbers, each with its set of references, by number.
 fn list_beside(
     alloc: Global,
     numbers: &mut PathNumbers,
@@ -175,13 +176,13 @@ fn list_beside(
     let mut listings = Vec::with_capacity(alloc, paths.len())?;
     for i in 0..paths.len() {
         let number = likely.get(i).copied();
-        let listing = list_one(alloc, numbers, &paths[i], number, refs[i].try_clone()?)?;
+        let listing = list_one(alloc, numbers, &paths[i], number, refs[i].as_slice())?;
         listings.push(listing)?;
     }
     Ok(listings)
 }
 
-/// These paths, each with the set of what the info table lists for it, by number too.
+/// These paths, each with what the info table lists for it, by number.
 fn list_given(
     alloc: Global,
     numbers: &mut PathNumbers,
@@ -194,8 +195,7 @@ fn list_given(
 {
     let mut listings = Vec::new(alloc);
     for path in given {
-        let refs = set_of(alloc, info.refs(path))?;
-        let listing = list_one(alloc, numbers, path, None, refs)?;
+        let listing = list_one(alloc, numbers, path, None, info.refs(path))?;
         listings.push(listing)?;
     }
     Ok(listings)

@@ -9,6 +9,7 @@ ghost use Rattle.nd_provision.specs.Stored.{AreListings, IsFirstFor, IsSameStore
 
 use crate::checks::{all_lie_in, are_listings_held, are_rows_held, is_covered, lacked, lie_in};
 use crate::copying::{Additions, Listing, PathsError, enter_all, put_all, set_with};
+use crate::listed_paths::Listed;
 use crate::near::are_near;
 use crate::needs::{all_sources, count_outputs, needed_by, outputs_by_number, seeds_by_number};
 use crate::numbering::{number_build, number_given, numbers_at_hand};
@@ -17,12 +18,12 @@ use nd_flags::Rows;
 use nd_graph::Graph;
 use nd_history::Inputs;
 use nd_path::{PathSet, StorePath};
-use nd_path_numbers::{Holdings, PathNumbers, match_unheld, reach_unheld};
+use nd_path_numbers::{Held, Holdings, PathNumbers, match_unheld, reach_unheld};
 use std::alloc::{AllocError, Global};
 use std::marker::Model;
 
-/// A table of what each path refers to, and the set of the paths that each machine holds. Both follow
-/// a history entry by entry, so that no closure and no copy is found by a search of the entries.
+/// What each path refers to, and the set of the paths that each machine holds. Both follow a history entry by
+/// entry, so that no closure and no copy is found by a search of the entries.
 ///
 /// Paths have numbers here, which are given before the first entry to all outputs and to those that are given or
 /// that some derivation needs. Which outputs a derivation has, what it needs at once, what a path refers to and
@@ -35,7 +36,7 @@ use std::marker::Model;
 /// stops at each path that it holds.
 #[derive(Drop, Debug)]
 pub struct Stores {
-    table: RefTable,
+    listed: Listed,
     numbers: PathNumbers,
     outputs: Rows,
     seeds: Rows,
@@ -48,9 +49,11 @@ impl Model for Stores {
 
     ghost Value = { Stored };
 
-    ghost use Rattle.nd_provision.specs.StoresKept.{stored};
+    ghost use Rattle.nd_provision.specs.StoresKept.{stored, AreKept};
 
     ghost view = { stored };
+
+    ghost invariant = { AreKept };
 }
 
 impl Stores {
@@ -78,14 +81,14 @@ impl Stores {
             given.as_slice(),
             info,
         )?;
-        let mut table = RefTable::new(alloc);
-        table.reserve(entries.len().saturating_add(count))?;
-        enter_all(&mut table, &mut numbers, entries);
+        let mut listed = Listed::new(alloc)?;
+        listed.reserve(alloc, entries.len(), known)?;
+        enter_all(&mut listed, &mut numbers, entries);
         let mut holdings = Holdings::new(alloc, builders + 1)?;
         holdings.reserve_below(alloc, 0, own.len(), numbers.len())?;
         put_all(&mut holdings, 0, own.as_slice());
         Ok(Stores {
-            table,
+            listed,
             numbers,
             outputs,
             seeds,
@@ -99,7 +102,7 @@ impl Stores {
         ensures { IfOk result (IsSameStored self.now) }
     {
         Ok(Stores {
-            table: self.table.try_clone()?,
+            listed: self.listed.try_clone()?,
             numbers: self.numbers.try_clone(alloc)?,
             outputs: self.outputs.try_clone()?,
             seeds: self.seeds.try_clone()?,
@@ -108,7 +111,7 @@ impl Stores {
         })
     }
 
-    /// The input closure of derivation `drv`.
+    /// The input closure of derivation `drv`: what a search finds that stops nowhere, since nothing is held.
     pub(crate) fn closure(
         &self,
         alloc: Global,
@@ -118,8 +121,9 @@ impl Stores {
         requires { drv < length inputs.now.graph.paths }
         ensures { IfOk result (IsClosureBy (premises_of inputs.now) self.now drv) }
     {
-        let needed = needed_by(alloc, &inputs.graph, drv)?;
-        reach(alloc, needed.as_slice(), &self.table)
+        let seeds = self.seeds(drv);
+        let nothing = Held::new(alloc);
+        reach_unheld(alloc, seeds, &self.numbers, &nothing)
     }
 
     /// The paths of derivation `drv`'s input closure that machine `m` doesn't hold. Mostly it costs as much
@@ -357,8 +361,8 @@ impl Stores {
         ensures numbers { self.new.numbers ≡ self.old.numbers }
         ensures room { OnOk result (HasRoomFor self.new additions.now) }
     {
-        self.table.reserve(additions.entries.len())?;
         let known = self.numbers.len();
+        self.listed.reserve(alloc, additions.entries.len(), known)?;
         self.holdings
             .reserve_below(alloc, additions.machine, additions.brought.len(), known)?;
         self.holdings
@@ -393,7 +397,7 @@ impl Stores {
             brought,
             provided,
         } = additions;
-        enter_all(&mut self.table, &mut self.numbers, entries);
+        enter_all(&mut self.listed, &mut self.numbers, entries);
         put_all(&mut self.holdings, 0, own.as_slice());
         put_all(&mut self.holdings, machine, brought.as_slice());
         self.whole &= provided;

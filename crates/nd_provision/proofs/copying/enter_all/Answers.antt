@@ -22,8 +22,9 @@ loop-listing-preserved c =
     let left : length (into_iter_items c.loop-listing.listing-iterator) ≡ length (into_iter_items c.next.new.self) + 1 =
     ap (λ (xs : List Listing). length xs) c.in-Some.ensures.steps.0 ∙ omega arith in
     record {
-      entered = entered_through c.args.table.now.entries c.loop-listing.table.entries c.enter_one.new.table.entries c.args.numbers.now c.loop-listing.numbers c.enter_one.new.numbers c.loop-listing.yielded c.in-Some.listing
+      entered = entered_through c.args.listed.now.entries c.loop-listing.listed.entries c.enter_one.new.listed.entries c.args.numbers.now c.loop-listing.numbers c.enter_one.new.numbers c.loop-listing.yielded c.in-Some.listing
           c.loop-listing.invariant.entered c.enter_one.ensures.entered;
+      told = c.enter_one.ensures.told;
       whole =
           c.loop-listing.invariant.whole ∙ ap (λ (rest : List Listing). c.loop-listing.yielded ++ rest) c.in-Some.ensures.steps.0
           ∙ sym (append_assoc c.loop-listing.yielded (c.in-Some.listing ∷ []) (into_iter_items c.next.new.self));

@@ -14,7 +14,7 @@ pub loop-i-preserved : goal.loop-i-preserved
 loop-i-preserved c =
     let before : List (List ℕ × List (List ℕ)) = take c.loop-i.i (zip c.args.paths.now c.args.refs.now) in
     let listing : entry_of c.in_ok-listing.listing ≡ (c.index-paths-i.result, c.index-refs-i.result) =
-    c.in_ok-listing.ensures.entry ∙ ap (λ (x : List (List ℕ)). (c.index-paths-i.result, x)) c.in_ok-try_clone.ensures in
+    c.in_ok-listing.ensures.entry ∙ ap (λ (x : List (List ℕ)). (c.index-paths-i.result, x)) c.as_slice.ensures.value in
     record {
       grown = grown_through c.args.numbers.now c.loop-i.numbers c.list_one.new.numbers c.loop-i.invariant.grown c.in_ok-listing.ensures.grown;
       listed = subst (λ (ls : List Listing). AreListings c.list_one.new.numbers.paths ls) (sym c.in_ok-push.ensures.items)

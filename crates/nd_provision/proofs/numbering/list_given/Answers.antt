@@ -15,10 +15,10 @@ pub loop-path-preserved : goal.loop-path-preserved
 loop-path-preserved c =
     let info : List (List ℕ × List (List ℕ)) = c.args.info.now.entries in
     let path : List ℕ = c.path-item.result in
-    let refs : List (List ℕ) = c.in_ok-refs.refs in
+    let refs : List (List ℕ) = c.refs.result.now in
     let made : map entry_of c.push.new.self.items ≡ map entry_of c.loop-path.listings.items ++ (path, refs) ∷ [] =
     ap (map entry_of) c.in_ok-push.ensures.items ∙ entries_push c.loop-path.listings.items c.in_ok-listing.listing path refs c.in_ok-listing.ensures.entry in
-    let same : HasSameMembers (refs_of info path) refs = subst (λ (xs : List (List ℕ)). HasSameMembers xs refs) c.refs.ensures c.in_ok-refs.ensures in
+    let same : HasSameMembers (refs_of info path) refs = subst (λ (xs : List (List ℕ)). HasSameMembers xs refs) c.refs.ensures (record { to = λ p h. h; from = λ p h. h }) in
     record {
       grown = grown_through c.args.numbers.now c.loop-path.numbers c.list_one.new.numbers c.loop-path.invariant.grown c.in_ok-listing.ensures.grown;
       listed = subst (λ (ls : List Listing). AreListings c.list_one.new.numbers.paths ls) (sym c.in_ok-push.ensures.items)

@@ -12,6 +12,7 @@ use Rattle.nd_provision.specs.declared.copying.Listing.{Listing}
 use Rattle.nd_provision.specs.Stored.{Stored, AreSources, AreSeeds, AreSeedsIn, AreGivenEntries, HasEntered, HasGained, IsNumberedGiven, entry_of}
 use Rattle.nd_provision.proofs.Joined.{sources_joined}
 use Rattle.nd_provision.proofs.Preparing.{first_numbers, seeds_stay}
+use Rattle.nd_provision.proofs.Told.{told_none}
 use Rattle.nd_provision.proofs.Storing.{stored_at_first, seeds_in, given_reached}
 use Rattle.nd_provision.proofs.stores.Stores.new.Goals as goal
 
@@ -23,13 +24,13 @@ returns c =
     let listings : List Listing = c.in_ok-entries.field-0.entries.items in
     let own : List ℕ = c.in_ok-entries.field-0.own.items in
     let rows : List (List ℕ) = c.in_ok-seeds.seeds in
-    let s : Stored = record { entries = c.enter_all.new.table.entries; spare = c.enter_all.new.table.spare; numbers = after; seeds = rows; stocks = c.put_all.new.holdings; whole = true } in
+    let s : Stored = record { entries = c.enter_all.new.listed.entries; spare = c.enter_all.new.listed.spare; numbers = after; seeds = rows; stocks = c.put_all.new.holdings; whole = true } in
     let numbered : IsNumberedGiven c.args.info.now.entries before.paths c.as_slice-2.result.now c.in_ok-entries.field-0 = c.in_ok-entries.ensures.given in
     let listed : AreGivenEntries c.args.info.now.entries given (map entry_of listings) =
     subst (λ (xs : List (List ℕ)). AreGivenEntries c.args.info.now.entries xs (map entry_of listings)) c.as_slice-2.ensures.value numbered.entries in
     let owned : AreNumbersOf before.paths given own = subst (λ (xs : List (List ℕ)). AreNumbersOf before.paths xs own) c.as_slice-2.ensures.value numbered.own in
-    let empty_table : c.reserve.new.self.entries ≡ [] = c.in_ok-reserve.ensures.kept ∙ c.new-table.ensures in
-    let entered : HasEntered [] s.entries before after listings = subst (λ (es : List (List ℕ × List (List ℕ))). HasEntered es s.entries before after listings) empty_table c.enter_all.ensures in
+    let empty_table : c.reserve.new.self.entries ≡ [] = c.in_ok-reserve.ensures.entries ∙ c.in_ok-listed.ensures.entries in
+    let entered : HasEntered [] s.entries before after listings = subst (λ (es : List (List ℕ × List (List ℕ))). HasEntered es s.entries before after listings) empty_table c.enter_all.ensures.entered in
     let told : AreNumbered [] before = first_numbers c.in_ok-numbers.numbers before c.in_ok-numbers.ensures.paths c.in_ok-numbers.ensures.rows
     (grown_through c.in_ok-numbers.numbers c.outputs_by_number.new.numbers before c.in_ok-outputs.ensures.grown
     (grown_through c.outputs_by_number.new.numbers c.seeds_by_number.new.numbers before c.in_ok-seeds.ensures.grown c.in_ok-entries.ensures.grown)) in
@@ -57,3 +58,11 @@ returns c =
           (subst (λ (ps : List (List ℕ)). AreNumbersOf ps given own) (sym entered.paths) owned)
           (park ∙ ap (λ (n : ℕ). n + 1) (sym builders)) none gained;
     }
+
+pub enter_all-requires-clause-told : goal.enter_all-requires-clause-told
+enter_all-requires-clause-told c =
+    let before : Numbered = c.number_given.new.numbers in
+    let first : AreNumbered [] before = first_numbers c.in_ok-numbers.numbers before c.in_ok-numbers.ensures.paths c.in_ok-numbers.ensures.rows
+    (grown_through c.in_ok-numbers.numbers c.outputs_by_number.new.numbers before c.in_ok-outputs.ensures.grown
+    (grown_through c.outputs_by_number.new.numbers c.seeds_by_number.new.numbers before c.in_ok-seeds.ensures.grown c.in_ok-entries.ensures.grown)) in
+    told_none c.reserve.new.self before.paths (c.in_ok-reserve.ensures.entries ∙ c.in_ok-listed.ensures.entries) (c.in_ok-reserve.ensures.numbers ∙ c.in_ok-listed.ensures.numbers) first.distinct

@@ -3,6 +3,7 @@ use Rattle.nd_provision.specs.declared.copying.Listing.{Listing}
 use Rattle.nd_provision.specs.declared.copying.Additions.{Additions}
 use Rattle.nd_provision.specs.Stored.{Stored, IsNumberedBuild, IsProvided}
 use Rattle.nd_provision.proofs.Preparing.{fits_build}
+use Rattle.nd_provision.proofs.Told.{told_grown}
 use Rattle.nd_provision.proofs.stores.Stores.prepare_built.Goals as goal
 
 pub returns-clause-fits : goal.returns-clause-fits
@@ -18,8 +19,8 @@ returns-clause-fits c =
       provided = c.is_provided.result;
     } in
     let mid : Stored = record {
-      entries = c.self.inside.table.entries;
-      spare = c.self.inside.table.spare;
+      entries = c.self.inside.listed.entries;
+      spare = c.self.inside.listed.spare;
       numbers = c.number_build.new.numbers;
       seeds = c.self.inside.seeds;
       stocks = c.self.inside.holdings;
@@ -32,3 +33,9 @@ returns-clause-fits c =
     subst (λ (ls : List Listing). IsProvided mid c.args.m own ls c.is_provided.result) c.as_slice-2.ensures.value
     (subst (λ (ns : List ℕ). IsProvided mid c.args.m ns c.as_slice-2.result.now c.is_provided.result) c.as_slice.ensures.value c.is_provided.ensures) in
     fits_build mid c.make_room.new.self c.args.m c.outputs-outputs.result.now c.lists.result.now additions within build c.make_room.ensures.same c.make_room.ensures.numbers c.in_ok-make_room.ensures.room provided
+
+pub invariant_of-self : goal.invariant_of-self
+invariant_of-self c = told_grown c.self.inside.listed c.self.inside.numbers c.number_build.new.numbers c.in_err-additions.ensures.grown c.self.invariant
+
+pub invariant_of-self-2 : goal.invariant_of-self-2
+invariant_of-self-2 c = told_grown c.self.inside.listed c.self.inside.numbers c.number_build.new.numbers c.in_ok-additions.ensures.grown c.self.invariant
