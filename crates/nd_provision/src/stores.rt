@@ -121,6 +121,7 @@ impl Stores {
         requires { drv < length inputs.now.graph.paths }
         ensures { IfOk result (IsClosureBy (premises_of inputs.now) self.now drv) }
     {
+        // For the proof: only the contract speaks of the inputs.
         let seeds = self.seeds(drv);
         let nothing = Held::new(alloc);
         reach_unheld(alloc, seeds, &self.numbers, &nothing)
