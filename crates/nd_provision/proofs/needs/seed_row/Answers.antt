@@ -1,7 +1,6 @@
 use Rattle.std.proofs.Common.{◌≡◌, ◌<◌, ◌≤◌, List, ℕ, length, get_or, refl, sym, subst}
 use Rattle.nd_graph.specs.declared.graph.Input.{Input}
 use Rattle.nd_history.specs.References.{inputs_at, outputs_of}
-use Rattle.nd_path_numbers.specs.Numbers.{AreNumbersOf}
 use Rattle.nd_provision.specs.Seeds.{GoesOn, paths_at}
 use Rattle.nd_provision.proofs.Joined.{with_graph}
 use Rattle.nd_provision.proofs.OutputNumbers.{own_there, named_there, places_go_on}
