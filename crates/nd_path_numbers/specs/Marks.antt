@@ -1,6 +1,6 @@
 -- Which numbers a list has, by flags and beyond them by a set.
 -- Private clauses alone cite this.
-use Rattle.std.specs.Prelude.{◌≡◌, ℕ, ◌≤◌, ◌<◌, ◌/◌, ◌%◌, Bool, List, [], ◌∷◌, ◌++◌, Option, None, Some, length, slice_index_or, ◌==◌}
+use Rattle.std.specs.Prelude.{◌≡◌, ℕ, ◌≤◌, ◌<◌, ◌-◌, ◌/◌, ◌%◌, Bool, List, [], ◌∷◌, ◌++◌, Option, None, Some, length, slice_index_or, ◌==◌}
 use Rattle.std.specs.Int.{bit_at}
 use Rattle.indexmap.specs.IndexSet.{spare}
 use Rattle.nd_path_numbers.specs.Held.{is_among}
@@ -31,3 +31,12 @@ AreTold numbers (Some m) = AreMarked numbers m
 -- how many more numbers of any size can be noted without taking memory
 abbrev pub room_of : Marks → ℕ
 room_of m = spare m.others
+
+-- .. beside these numbers: a few take none
+abbrev pub room_beside : List ℕ → Option Marks → ℕ
+room_beside numbers None = 64 - length numbers
+room_beside numbers (Some m) = room_of m
+
+-- what is told of the same lists
+abbrev pub TellTheSame : Option Marks → Option Marks → Type 0
+TellTheSame old new = (numbers : List ℕ) → AreTold numbers old → AreTold numbers new

@@ -4,6 +4,7 @@ ghost use Rattle.std.specs.Prelude.{◌≡◌, ℕ, ◌+◌, ◌<◌, ◌≤◌,
 ghost use Rattle.std.specs.List.{Contains};
 ghost use Rattle.nd_path_numbers.specs.Held.{is_among, with_new, hold_of, KeepsOthers, HoldTheSame};
 
+use crate::few::{FEW, flag_beside, mark_beside, marks_again, reserve_beside};
 use crate::marks::Marks;
 use std::alloc::{AllocError, Global};
 use std::marker::Model;
@@ -12,23 +13,26 @@ use std::marker::Model;
 /// they came, each once, and beside it the reserved room, of which "equal" and "as before" do not speak.
 ///
 /// Whether a number is held is told by a flag, where enough is held to pay for flags of all numbers, and else by
-/// a set. There is reserved room only where both the list and the set have it.
+/// a set; a machine that holds a few, and has no room for more, has neither, and its list is looked through. There is
+/// reserved room only where the list has it, and what stands beside it.
 #[derive(Debug, Drop)]
 pub struct Held {
     numbers: Vec<usize>,
-    marks: Marks,
+    /// Whether a number is held, once more than a few are, or room for more was made.
+    marks: Option<Marks>,
+    alloc: Global,
 }
 
 impl Model for Held {
     ghost use Rattle.std.specs.Prelude.{◌-◌, min, vec_len, vec_capacity};
     ghost use Rattle.nd_path_numbers.specs.Held.{Hold};
-    ghost use Rattle.nd_path_numbers.specs.Marks.{AreMarked, room_of};
+    ghost use Rattle.nd_path_numbers.specs.Marks.{AreTold, room_beside};
 
     ghost Value = { Hold };
 
-    ghost view = { λ h. record { numbers = h.numbers.items; spare = min (vec_capacity h.numbers - vec_len h.numbers) (room_of h.marks) } };
+    ghost view = { λ h. record { numbers = h.numbers.items; spare = min (vec_capacity h.numbers - vec_len h.numbers) (room_beside h.numbers.items h.marks) } };
 
-    ghost invariant = { λ h. AreMarked h.numbers.items h.marks };
+    ghost invariant = { λ h. AreTold h.numbers.items h.marks };
 }
 
 impl Held {
@@ -38,7 +42,8 @@ impl Held {
     {
         Held {
             numbers: Vec::new(alloc),
-            marks: Marks::new(alloc),
+            marks: None,
+            alloc,
         }
     }
 
@@ -47,7 +52,18 @@ impl Held {
     pub fn contains(&self, number: usize) -> bool
         ensures { IsTrue result ↔ Contains self.now.numbers number }
     {
-        self.marks.tell(number)
+        self.tells(number)
+    }
+
+    /// The same as a test of the list.
+    #[inline(always)]
+    fn tells(&self, number: usize) -> bool
+        ensures { result ≡ is_among self.now.numbers number }
+    {
+        match &self.marks {
+            Some(marks) => marks.tell(number),
+            None => self.numbers.as_slice().contains(&number),
+        }
     }
 
     fn reserve(&mut self, n: usize) -> Result<(), AllocError>
@@ -55,7 +71,7 @@ impl Held {
         ensures kept { self.new.numbers ≡ self.old.numbers }
         ensures as_before { self.old.spare ≤ self.new.spare }
     {
-        self.marks.reserve(n)?;
+        reserve_beside(&mut self.marks, self.alloc, self.numbers.as_slice(), n)?;
         self.numbers.reserve(n)
     }
 
@@ -65,10 +81,10 @@ impl Held {
         ensures kept { self.new.numbers ≡ self.old.numbers }
         ensures as_before { self.old.spare ≤ self.new.spare }
     {
-        if n > 0 {
-            let numbers = self.numbers.as_slice();
-            let paying = numbers.len().saturating_add(n);
-            self.marks.flag_below(alloc, numbers, paying, limit)?;
+        let numbers = self.numbers.as_slice();
+        let paying = numbers.len().saturating_add(n);
+        if n > 0 && paying > FEW {
+            flag_beside(&mut self.marks, alloc, numbers, paying, limit)?;
         }
         self.reserve(n)
     }
@@ -96,7 +112,12 @@ impl Held {
         ensures room { self.old.spare ≤ self.new.spare + 1 }
     {
         self.numbers.reserve(1)?;
-        self.marks.note(number)?;
+        if self.numbers.len() >= FEW && self.marks.is_none() {
+            mark_beside(&mut self.marks, self.alloc, self.numbers.as_slice(), 1)?;
+        }
+        if let Some(marks) = &mut self.marks {
+            marks.note(number)?;
+        }
         self.numbers.push_reserved(number);
         Ok(())
     }
@@ -115,7 +136,8 @@ impl Clone for Held {
     fn clone(&self) -> Result<Held, AllocError> {
         Ok(Held {
             numbers: copy_of(&self.numbers)?,
-            marks: self.marks.try_clone()?,
+            marks: marks_again(&self.marks)?,
+            alloc: self.alloc,
         })
     }
 }

@@ -1,6 +1,7 @@
 //! Store paths by number: what they refer to, which machines hold them, and what is reached from them.
 #![tactic(auto)]
 
+mod few;
 mod holdings;
 mod marks;
 mod path_numbers;

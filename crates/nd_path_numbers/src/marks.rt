@@ -65,7 +65,7 @@ impl Marks {
     }
 
     /// The marks of a list without flags.
-    fn with_set(alloc: Global, numbers: &[usize]) -> Result<Marks, AllocError>
+    pub(crate) fn with_set(alloc: Global, numbers: &[usize]) -> Result<Marks, AllocError>
         ensures { IfOk result (AreMarked numbers.now) }
     {
         let mut marks = Marks::new(alloc);

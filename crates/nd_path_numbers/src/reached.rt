@@ -3,12 +3,10 @@
 ghost use Rattle.std.specs.Prelude.{◌≡◌, ◌<◌, ◌≤◌, ◌∷◌, ◌++◌, [], length, not, OnOk, MatchOption, slice_index_or};
 ghost use Rattle.nd_path_numbers.specs.Held.{is_among, with_new};
 
+use crate::few::FEW;
 use crate::marks::Marks;
 use std::alloc::{AllocError, Global};
 use std::marker::Model;
-
-/// Among so many numbers or fewer one is looked for in their list.
-const FEW: usize = 64;
 
 /// A search doesn't last: a number that it has found pays for so many times the flags that a held one does.
 const FLAGS_OF_A_SEARCH: usize = 4;
