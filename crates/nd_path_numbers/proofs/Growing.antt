@@ -160,6 +160,10 @@ only_next one two three these i p lt at h k = record {
 pub number_found : (keys : List (List ℕ)) (n : ℕ) (p k : List ℕ) → n < length keys → slice_get keys n ≡ Some k → path_eq p k ≡ true → IsNumberOf keys p n
 number_found keys n p k within at same = record { known = within; named = get_or_from_slice_get keys n k [] at ∙ sym (paths_same p k same) }
 
+-- .. and so it is told
+pub found_number : (keys : List (List ℕ)) (n : ℕ) (p k : List ℕ) → slice_get keys n ≡ Some k → IsNumberOf keys p n → path_eq p k ≡ true
+found_number keys n p k at is = equal_paths p k (sym is.named ∙ get_or_from_slice_get keys n k [] at)
+
 -- ---- paths gathered by number
 
 pub gathers_none : (known : List (List ℕ)) → Gathers known [] []

@@ -1,6 +1,6 @@
 //! Store paths, each with a number.
 
-ghost use Rattle.std.specs.Prelude.{◌≡◌, ◌<◌, ◌∷◌, [], length, slice_set, IfOk, OnOk, IfSome, IsTrue};
+ghost use Rattle.std.specs.Prelude.{◌≡◌, ◌<◌, ◌∷◌, [], length, slice_set, IfOk, OnOk, IfSome, IsTrue, ◌↔◌};
 ghost use Rattle.std.specs.List.Sorted.{IsPermutation};
 ghost use Rattle.nd_path_numbers.specs.Numbers.{row_in, AreNumbersOf, IsNumberOf, IsLookedUp, HasGrown, AddsOnly, IsSetOf};
 
@@ -178,7 +178,7 @@ impl PathNumbers {
 
     /// Whether this is the number of this path: the two paths are compared, and none is looked up. It takes no memory.
     pub fn is_number_of(&self, path: &StorePath, number: usize) -> bool
-        ensures { IsTrue result → IsNumberOf self.now.paths path.now number }
+        ensures { IsTrue result ↔ IsNumberOf self.now.paths path.now number }
     {
         match self.paths.get_index(number) {
             Some(known) => *path == *known,
