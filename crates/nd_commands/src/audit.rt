@@ -14,13 +14,15 @@ ghost use Rattle.nd_commands.specs.Audited.{IsAuditAccepted, AnswersAudit, Leave
 use crate::opening::close_dispatch;
 use crate::reading::read_audit_inputs;
 use crate::verdict::{write_illegal, write_legal};
+use nd_bytes::Items;
 use nd_cli::{CliFault, Park, ParkOptions};
 use nd_devices::{Fault, Told};
-use nd_history::{Entry, Rule};
+use nd_history::{Entry, Inputs, Rule};
 use nd_ledger::Dispatch;
-use nd_report::{AuditError, admit_all};
+use nd_report::{AuditError, admit_all, audit_side_by_side};
 use std::alloc::Global;
 use std::io::{Read, Write};
+use std::mem;
 use std::thread::Threads;
 
 /// The exit status where a history is not legal.
@@ -92,9 +94,45 @@ fn write_verdict<W: Write>(
     }
 }
 
-/// Whether these entries are a legal history of the park, as `audit` of `nd_report` says it. The dispatch
-/// that says so is left to the system, since the command ends with it.
+/// A history of fewer entries is audited by one thread, which takes less time than others take to start.
+const LONG: usize = 16_384;
+
+/// Whether these entries are a legal history of the park, as `audit` of `nd_report` says it. What was made for the answer
+/// is left to the system, since the command ends with it.
 fn judge(
+    rt: &(impl Threads + Sync),
+    alloc: Global,
+    park: Park,
+    keep_going: bool,
+    entries: Vec<Entry>,
+) -> Result<(), AuditError>
+    requires few { length park.machines.items ≤ 1024 }
+    ensures legal { OnOk result (IsLegal (park_inputs park keep_going) (reverse entries.items)) }
+    ensures refused { IfErr result (IsAuditRefused (park_inputs park keep_going) entries.items) }
+{
+    if entries.len() < LONG {
+        return judge_alone(rt, alloc, park, keep_going, entries);
+    }
+    let inputs = Inputs {
+        graph: park.graph,
+        machines: Items::new(park.machines),
+        local: park.local,
+        info: park.info,
+        keep_going,
+    };
+    let answer = match audit_side_by_side(rt, alloc, &inputs, entries) {
+        Ok(audited) => {
+            mem::forget(audited);
+            Ok(())
+        }
+        Err(error) => Err(error),
+    };
+    mem::forget(inputs);
+    answer
+}
+
+/// The same, where one thread goes through the entries.
+fn judge_alone(
     rt: &(impl Threads + Sync),
     alloc: Global,
     park: Park,

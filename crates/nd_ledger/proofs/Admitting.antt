@@ -56,7 +56,7 @@ ticket_of d past (Some t) is = (own_lease d past t (sym is), own_live d past t (
 -- ---- rules that take no memory
 
 -- what passes each of those, one by one
-freely : (i : Premises) (past : List Entry) (e : Entry) → Passes i past e Range → Passes i past e Ready → Passes i past e Decision → Passes i past e Best → Passes i past e Slot → Passes i past e Live → Passes i past e StartedRule → Passes i past e Stopped → PassesFreely i past e
+pub freely : (i : Premises) (past : List Entry) (e : Entry) → Passes i past e Range → Passes i past e Ready → Passes i past e Decision → Passes i past e Best → Passes i past e Slot → Passes i past e Live → Passes i past e StartedRule → Passes i past e Stopped → PassesFreely i past e
 freely i past e ranged ready decided best slot live started stopped = record { each = each }
   where
     each : (rule : Rule) → is_over_paths rule ≡ false → Passes i past e rule
@@ -72,11 +72,11 @@ freely i past e ranged ready decided best slot live started stopped = record { e
     each Stopped free = stopped
 
 -- a start of a lease that is live and not started passes those
-free_start : (i : Premises) (past : List Entry) (d : ℕ) (paths : List (List ℕ)) → d < drvs_in i → is_leased d past ≡ true → is_started d past ≡ false → PassesFreely i past (Starting d paths)
+pub free_start : (i : Premises) (past : List Entry) (d : ℕ) (paths : List (List ℕ)) → d < drvs_in i → is_leased d past ≡ true → is_started d past ≡ false → PassesFreely i past (Starting d paths)
 free_start i past d paths ranged leased fresh = freely i past (Starting d paths) ranged tt tt tt tt leased fresh tt
 
 -- .. and the end of a build of one that is live and started
-free_end : (i : Premises) (past : List Entry) (d : ℕ) (refs : List (List (List ℕ))) → d < drvs_in i → is_leased d past ≡ true → is_started d past ≡ true → PassesFreely i past (Built d refs)
+pub free_end : (i : Premises) (past : List Entry) (d : ℕ) (refs : List (List (List ℕ))) → d < drvs_in i → is_leased d past ≡ true → is_started d past ≡ true → PassesFreely i past (Built d refs)
 free_end i past d refs ranged leased started = freely i past (Built d refs) ranged tt tt tt tt leased started tt
 
 -- .. and what is allowed

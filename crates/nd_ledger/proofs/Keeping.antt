@@ -184,18 +184,24 @@ step_quiet (Started c paths) d h = cc
 step_quiet (Built c refs) d h = cc
 step_quiet e d h = refl
 
--- an entry that is no start and no build is appended
-pub kept_appended : (d : Inside) (after : State) (e : Entry) → IsAppended d.state after e → IsKept d → IsAllowed (premises_of d.inputs) e (reverse d.state.book.entries) → is_quiet e ≡ true → IsKept (record d { state = after })
-kept_appended d after e rec was allowed quiet =
+-- an entry is appended, with what is kept of references and holdings after it
+pub kept_behind : (d : Inside) (after : State) (stores : Stored) (e : Entry) → IsAppended d.state after e → IsKept d → IsAllowed (premises_of d.inputs) e (reverse d.state.book.entries)
+    → AreStored (premises_of d.inputs) (e ∷ reverse d.state.book.entries) stores → IsKept (record d { state = after; stores = stores })
+kept_behind d after stores e rec was allowed stored =
     let past = reverse d.state.book.entries in
     let one = rec.entered in
     let had = rec.room in
     let roomy : Recorded = record { entries = d.state.book.entries; room = after.book.room + 1; drvs = after.book.drvs; machines = after.book.machines; rooms = after.book.rooms } in
-    kept_more d roomy after d.stores e 1
+    kept_more d roomy after stores e 1
     (record { entries = refl; drvs = one.drvs; machines = one.machines; room = one.room })
     (omega arith)
     (record { entries = one.entries; room = omega arith; drvs = refl; machines = refl; board = one.board; turned = one.turned; whole = one.whole })
-    was allowed (live_grows past e) (stored_quiet (premises_of d.inputs) past e d.stores quiet was.stores)
+    was allowed (live_grows past e) stored
+
+-- .. which one that is no start and no build leaves as it was
+pub kept_appended : (d : Inside) (after : State) (e : Entry) → IsAppended d.state after e → IsKept d → IsAllowed (premises_of d.inputs) e (reverse d.state.book.entries) → is_quiet e ≡ true → IsKept (record d { state = after })
+kept_appended d after e rec was allowed quiet =
+    kept_behind d after d.stores e rec was allowed (stored_quiet (premises_of d.inputs) (reverse d.state.book.entries) e d.stores quiet was.stores)
 
 -- ---- what stands beside the history
 

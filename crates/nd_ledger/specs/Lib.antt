@@ -1,5 +1,7 @@
 pub mod Admitting
+pub mod Ahead
 pub mod Inner
+pub mod Judging
 pub mod Moves
 pub mod Refusals
 pub mod States

@@ -67,7 +67,7 @@ pub(crate) fn begin(parts: Parts, stores: Stores, state: State) -> Dispatch
 }
 
 /// No machine builds more than 65,535 at once.
-fn learn_jobs(machines: &[Machine], local: &Local)
+pub(crate) fn learn_jobs(machines: &[Machine], local: &Local)
     ensures builders { (p : ℕ) → jobs_at machines.now p ≤ 65535 }
     ensures local { local.now.jobs ≤ 65535 }
 {

@@ -1,5 +1,5 @@
 -- Entries that are admitted one after another behind the history of a dispatch.
-use Rattle.std.proofs.Common.{◌≡◌, ◌∙◌, ℕ, ◌+◌, List, [], ◌∷◌, ◌++◌, length, reverse, refl, sym, ap, subst, arith, append_assoc, length-append}
+use Rattle.std.proofs.Common.{◌≡◌, ◌∙◌, ℕ, ◌+◌, List, [], ◌∷◌, ◌++◌, length, reverse, refl, sym, ap, subst, arith, append_assoc, length-append, inl, inr}
 use Rattle.std.proofs.lemmas.List.{append-nil}
 use Rattle.nd_history.specs.declared.entry.Entry.{Entry}
 use Rattle.nd_history.specs.declared.rule.Rule.{Rule}
@@ -8,6 +8,8 @@ use Rattle.nd_history.specs.Legal.{IsLegal, IsAllowed}
 use Rattle.nd_history.specs.Audit.{IsFirstRule}
 use Rattle.nd_ledger.specs.Worlds.{World}
 use Rattle.nd_ledger.specs.Admitting.{IsAdmitRefused}
+use Rattle.nd_ledger.specs.Judging.{IsNotAdmitted}
+use Rattle.nd_ledger.specs.declared.judging.Unadmitted.{Unadmitted}
 use Rattle.nd_ledger.specs.declared.refusal.AdmitError.{AdmitError}
 use Rattle.nd_ledger.specs.declared.refusal.AdmitError.TheVariants.{Illegal as Refused, Memory as NoMemory}
 use Rattle.nd_report.specs.declared.audit_error.AuditError.{AuditError}
@@ -130,3 +132,29 @@ audit_refused i earlier later entries inputs none (Illegal index rule) h =
           (subst (λ (l : List Entry). IsFirstRule earlier.inputs (reverse l) h.entry rule) first h.refused);
     }
 audit_refused i earlier later entries inputs none Memory h = tt
+
+-- ---- an audit by two threads
+
+beside_right : (i : Premises) (entries : List Entry) (u : Unadmitted) (error : AdmitError) → u.error ≡ error → IsNotAdmitted i entries u → IsAuditRefused i entries (answer_at u.index error)
+beside_right i entries u (Refused rule) is h = elim h [
+  | inl first ↦ record {
+    before = first.before;
+    entry = first.entry;
+    after = first.after;
+    whole = first.whole;
+    place = first.place;
+    legal = first.legal;
+    refused = subst (λ (x : AdmitError). IsAdmitRefused i (reverse first.before) first.entry x) is first.refused;
+  }
+  | inr short ↦ (let no_way : ⊥ = cc in absurd no_way)
+]
+beside_right i entries u NoMemory is h = tt
+
+-- what is refused beside another thread is refused so by an audit
+pub beside_refused : (i : Premises) (entries : List Entry) (u : Unadmitted) (answer : AuditError) → IsNotAdmitted i entries u → answer ≡ answer_at u.index u.error → IsAuditRefused i entries answer
+beside_refused i entries u answer h is = subst (IsAuditRefused i entries) (sym is) (beside_right i entries u u.error refl h)
+
+-- .. and a legal history only for want of memory
+pub refused_alone : (i : Premises) (entries : List Entry) (answer : AuditError) → IsAuditRefused i entries answer → IsLegal i (reverse entries) → answer ≡ Memory
+refused_alone i entries (Illegal index rule) h legal = absurd (none_illegal i entries index rule h legal)
+refused_alone i entries Memory h legal = refl

@@ -2,6 +2,7 @@
 
 ghost use Rattle.std.specs.Prelude.{◌≡◌, ◌≤◌, [], ◌∷◌, ◌++◌, length, reverse, IfErr, OnOk, OnErr};
 ghost use Rattle.nd_history.specs.Legal.{IsAllowed, IsLegal};
+ghost use Rattle.nd_history.specs.Premises.{premises_of};
 ghost use Rattle.nd_report.specs.declared.audit_error.AuditError.{AuditError};
 ghost use Rattle.nd_report.specs.Audits.{IsAuditRefused, IsAdmissionRefused, IsRefusedAt, answer_at, premises};
 
@@ -9,10 +10,11 @@ use crate::audit_error::AuditError;
 use nd_closure::RefTable;
 use nd_eligible::Local;
 use nd_graph::Graph;
-use nd_history::Entry;
-use nd_ledger::{AdmitError, Dispatch};
+use nd_history::{Entry, Inputs};
+use nd_ledger::{AdmitError, Audited, Dispatch};
 use nd_machines::Machine;
 use std::alloc::Global;
+use std::thread::Threads;
 
 /// Whether a history is a legal one of these five inputs: each entry is allowed after those before
 /// it. There are at most 1,024 builders. Inputs and entries are taken over, and nothing of them is copied.
@@ -44,6 +46,26 @@ pub fn audit(
     let answer = admit_all(alloc, &mut dispatch, entries);
     drop(dispatch);
     answer
+}
+
+/// The same as [`audit`] over inputs that stay with the caller, by two threads. What was kept for it is handed back where
+/// the history is legal.
+#[tactic(auto, using(crate::proofs::Admissions::beside_refused, crate::proofs::Admissions::refused_alone))]
+pub fn audit_side_by_side(
+    rt: &(impl Threads + Sync),
+    alloc: Global,
+    inputs: &Inputs,
+    entries: Vec<Entry>,
+) -> Result<Audited, AuditError>
+    requires { length inputs.now.machines ≤ 1024 }
+    ensures legal { OnOk result (IsLegal (premises_of inputs.now) (reverse entries.items)) }
+    ensures refused { IfErr result (IsAuditRefused (premises_of inputs.now) entries.items) }
+    ensures exactly { IsLegal (premises_of inputs.now) (reverse entries.items) → IfErr result (λ e. e ≡ AuditError.Memory) }
+{
+    match nd_ledger::audit_side_by_side(rt, alloc, inputs, entries) {
+        Ok(audited) => Ok(audited),
+        Err(unadmitted) => Err(refusal_at(unadmitted.index, unadmitted.error)),
+    }
 }
 
 /// Appends these entries to the history of a dispatch, each if it is allowed after those before it. The

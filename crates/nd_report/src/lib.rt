@@ -7,6 +7,6 @@ mod report_writing;
 mod status;
 
 pub use audit_error::AuditError;
-pub use auditing::{admit_all, audit};
+pub use auditing::{admit_all, audit, audit_side_by_side};
 pub use report_writing::write_report;
 pub use status::exit_status;
