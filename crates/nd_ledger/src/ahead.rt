@@ -15,8 +15,8 @@ use nd_provision::{PathsError, Stores};
 use std::alloc::{AllocError, Global};
 use std::vec::IntoIter;
 
-/// How many entries a batch has at most. Of fewer there would be more threads to start.
-const BATCH: usize = 16_384;
+/// How many entries a batch has at most: each costs the start of a thread.
+const BATCH: usize = 4_096;
 
 /// What is kept of references and holdings after the entries that were gone through, and for each derivation the machine
 /// of its last choice, which is that of its lease. Nothing else is known of leases here.

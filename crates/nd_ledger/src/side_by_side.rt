@@ -1,5 +1,5 @@
-//! The audit of a whole history by two threads: one goes through entries with what is kept of references and holdings, and the
-//! other one judges them by the other rules.
+//! The audit of a whole history by two threads: this one goes through entries with what is kept of references and holdings,
+//! which asks for memory for each, and another one judges them by the other rules.
 
 ghost use Rattle.std.specs.Prelude.{◌≡◌, ◌<◌, ◌≤◌, ◌++◌, length, reverse, IfOk, OnOk, IfErr};
 ghost use Rattle.std.specs.Vec.Iter.{into_iter_items};
@@ -44,8 +44,8 @@ type Begun = (Ahead, IntoIter<Entry>, Batch);
 type Advance = (Ahead, IntoIter<Entry>, Result<Batch, AllocError>);
 
 /// Whether a history is a legal one of these inputs: each entry is allowed after those before it. There are at most 1,024
-/// builders. The entries are taken over. One thread goes through them with what is kept of references and holdings alone;
-/// the other one judges those that were gone through by the rules that take no memory, and records them.
+/// builders. The entries are taken over. This thread goes through them with what is kept of references and holdings alone;
+/// another one judges those that were gone through by the rules that take no memory, and records them.
 ///
 /// Refuses the first entry that isn't allowed with its place and `Illegal` (1), the first rule that refuses it, and with
 /// `Memory` (2) where an allocation is refused.
@@ -72,7 +72,7 @@ pub fn audit_side_by_side(
     finish(inputs, way)
 }
 
-/// Judges a batch while another thread goes through the next one.
+/// Another thread judges a batch while this one goes through the next one.
 #[tactic(auto, using(crate::proofs::Judged::ways))]
 fn step(
     rt: &(impl Threads + Sync),
@@ -86,7 +86,7 @@ fn step(
     ensures less { IfOk result (λ w. work_left w < work_left way) }
     ensures refused { IfErr result (λ u. IsRefusedFor inputs.now way u) }
 {
-    let (advanced, judged) = step_halves(rt, alloc, inputs, way);
+    let (judged, advanced) = step_halves(rt, alloc, inputs, way);
     let (ahead, left, next) = advanced;
     let state = match judged {
         Ok(state) => state,
@@ -103,20 +103,20 @@ fn step(
     })
 }
 
-/// The two halves of that: another thread goes through the next batch, and this one judges.
+/// The two halves of that.
 #[tactic(auto, using(crate::proofs::Judged::ways))]
 fn step_halves(
     rt: &(impl Threads + Sync),
     alloc: Global,
     inputs: &Inputs,
     way: UnderWay,
-) -> (Advance, Result<State, Unadmitted>)
+) -> (Result<State, Unadmitted>, Advance)
     requires audit { IsSomeAudit inputs.now way }
-    ensures sized { IsSizedFor (premises_of inputs.now) result.0.0 }
-    ensures next { IfOk result.0.2 (IsNext (premises_of inputs.now) way.ahead result.0.0 (into_iter_items way.left) (into_iter_items result.0.1)) }
-    ensures followed { IfOk result.1 (λ s. IsFollowed inputs.now s) }
-    ensures recorded { IfOk result.1 (AreRecorded way.state way.batch) }
-    ensures refused { IfErr result.1 (IsRefusedIn (premises_of inputs.now) way.state.book.entries way.batch) }
+    ensures sized { IsSizedFor (premises_of inputs.now) result.1.0 }
+    ensures next { IfOk result.1.2 (IsNext (premises_of inputs.now) way.ahead result.1.0 (into_iter_items way.left) (into_iter_items result.1.1)) }
+    ensures followed { IfOk result.0 (λ s. IsFollowed inputs.now s) }
+    ensures recorded { IfOk result.0 (AreRecorded way.state way.batch) }
+    ensures refused { IfErr result.0 (IsRefusedIn (premises_of inputs.now) way.state.book.entries way.batch) }
 {
     let UnderWay {
         ahead,
@@ -126,8 +126,8 @@ fn step_halves(
     } = way;
     join(
         rt,
-        || advance(alloc, inputs, ahead, left),
         || judge(inputs, state, batch),
+        || advance(alloc, inputs, ahead, left),
     )
 }
 
@@ -162,7 +162,7 @@ fn out_of_memory() -> Unadmitted
     }
 }
 
-/// The empty history, and the first batch of these entries, which another thread goes through.
+/// The empty history, which another thread makes, and the first batch of these entries.
 #[tactic(auto, using(crate::proofs::Judged::way_begun))]
 fn begin(
     rt: &(impl Threads + Sync),
@@ -174,7 +174,7 @@ fn begin(
     ensures { IfOk result (λ way. IsAuditOf inputs.now entries.items way) }
 {
     learn_jobs(inputs.machines.as_slice(), &inputs.local);
-    let (begun, state) = begin_halves(rt, alloc, inputs, entries);
+    let (state, begun) = begin_halves(rt, alloc, inputs, entries);
     let Ok((ahead, left, batch)) = begun else {
         return Err(AllocError);
     };
@@ -189,21 +189,20 @@ fn begin(
     })
 }
 
-/// The two halves of that: the one is made by another thread, and the other by this one.
+/// The two halves of that.
 fn begin_halves(
     rt: &(impl Threads + Sync),
     alloc: Global,
     inputs: &Inputs,
     entries: Vec<Entry>,
-) -> (Result<Begun, AllocError>, Result<State, AllocError>)
+) -> (Result<State, AllocError>, Result<Begun, AllocError>)
     requires { length inputs.now.machines ≤ 1024 }
-    ensures begun { IfOk result.0 (λ r. IsBegun (premises_of inputs.now) entries.items r.0 (into_iter_items r.1) r.2) }
-    ensures fresh { IfOk result.1 (IsFresh inputs.now.graph inputs.now.machines inputs.now.local inputs.now.keep_going) }
+    ensures begun { IfOk result.1 (λ r. IsBegun (premises_of inputs.now) entries.items r.0 (into_iter_items r.1) r.2) }
+    ensures fresh { IfOk result.0 (IsFresh inputs.now.graph inputs.now.machines inputs.now.local inputs.now.keep_going) }
     ensures sound { IsSound inputs.now.graph }
 {
     join(
         rt,
-        || begin_ahead(alloc, inputs, entries),
         || State::new(
             alloc,
             &inputs.graph,
@@ -211,6 +210,7 @@ fn begin_halves(
             &inputs.local,
             inputs.keep_going,
         ),
+        || begin_ahead(alloc, inputs, entries),
     )
 }
 
