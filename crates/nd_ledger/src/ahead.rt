@@ -4,14 +4,13 @@ ghost use Rattle.std.specs.Prelude.{◌≡◌, ◌≤◌, [], length, IfOk, OnOk
 ghost use Rattle.std.specs.Vec.Iter.{into_iter_items};
 ghost use Rattle.nd_history.specs.Premises.{premises_of};
 ghost use Rattle.nd_ledger.specs.Ahead.{IsSizedFor, IsKeptAfter, HasCleared, HasHeldUp, HasStayed, IsNext};
-ghost use Rattle.nd_ledger.specs.Admitting.{admit_error_for};
-ghost use Rattle.nd_ledger.specs.Moves.{refusal_for};
 
-use crate::refusal::AdmitError;
+use crate::moving::refusal_of;
+use crate::refusal::{AdmitError, admit_error};
 use nd_closure::Refs;
 use nd_history::{Entry, Inputs, Rule};
 use nd_path::PathSet;
-use nd_provision::{PathsError, Stores};
+use nd_provision::Stores;
 use std::alloc::{AllocError, Global};
 use std::vec::IntoIter;
 
@@ -147,7 +146,7 @@ impl Ahead {
         let machine = *machine as usize;
         let numbers = match self.stores.check_paths(alloc, inputs, drv, machine, paths) {
             Ok(numbers) => numbers,
-            Err(fault) => return Err(paths_error(fault)),
+            Err(fault) => return Err(admit_error(refusal_of(fault))),
         };
         let additions = self.stores.prepare_start(alloc, machine, paths, numbers)?;
         self.stores.take_in(additions);
@@ -186,15 +185,5 @@ impl Ahead {
             .prepare_built(alloc, inputs, drv, machine, refs)?;
         self.stores.take_in(additions);
         Ok(())
-    }
-}
-
-/// What an entry whose paths aren't right is refused with.
-fn paths_error(fault: PathsError) -> AdmitError
-    ensures { result ≡ admit_error_for (refusal_for fault) }
-{
-    match fault {
-        PathsError::Uncovered | PathsError::Extra => AdmitError::Illegal(Rule::Paths),
-        PathsError::Memory => AdmitError::Memory,
     }
 }

@@ -1,6 +1,7 @@
-use Rattle.std.proofs.Common.{refl}
+use Rattle.std.proofs.Common.{refl, ap, ◌∙◌}
 use Rattle.nd_history.specs.declared.entry.Entry.TheVariants.{Started}
 use Rattle.nd_history.specs.Premises.{premises_of}
+use Rattle.nd_ledger.specs.Admitting.{admit_error_for}
 use Rattle.nd_ledger.proofs.Clearing.{cleared_out, cleared_start, got_at, held_paths, held_residual, machine_there, on_any_error, out_at, stores_stayed}
 use Rattle.nd_ledger.proofs.ahead.Ahead.clear_start.Goals as goal
 
@@ -16,9 +17,9 @@ check_paths-requires-clause-machine c =
 
 pub returns-in-Err-clause-held_up : goal.returns-in-Err-clause-held_up
 returns-in-Err-clause-held_up c =
-    held_paths (premises_of c.args.inputs.now) c.args.self.now c.args.drv c.in-Some.machine.now c.args.paths.now c.in-Err.fault c.paths_error.result
+    held_paths (premises_of c.args.inputs.now) c.args.self.now c.args.drv c.in-Some.machine.now c.args.paths.now c.in-Err.fault c.admit_error.result
     (got_at c.args.self.now c.deref.result.now c.args.drv c.in-Some.machine.now c.deref.ensures.value c.in-Some.ensures.lookup.0 c.in-Some.ensures.lookup.1)
-    c.in-Err.ensures.refused c.paths_error.ensures
+    c.in-Err.ensures.refused (c.admit_error.ensures ∙ ap admit_error_for c.refusal_of.ensures)
 
 pub prepare_start-requires-clause-machine : goal.prepare_start-requires-clause-machine
 prepare_start-requires-clause-machine c =
