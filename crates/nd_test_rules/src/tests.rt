@@ -5,5 +5,6 @@ mod choices;
 mod derivation_texts;
 mod eligibility;
 mod replies;
+mod spellings;
 mod store_paths;
 mod values;

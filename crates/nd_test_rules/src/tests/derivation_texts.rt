@@ -88,7 +88,12 @@ fn escaped(alloc: Global) -> Result<Vec<u8>, AllocError> {
 }
 
 /// Three texts, one behind the other.
-fn joined(alloc: Global, first: &[u8], middle: &[u8], last: &[u8]) -> Result<Vec<u8>, AllocError> {
+pub(crate) fn joined(
+    alloc: Global,
+    first: &[u8],
+    middle: &[u8],
+    last: &[u8],
+) -> Result<Vec<u8>, AllocError> {
     let mut text = Vec::new(alloc);
     match put_three(&mut text, first, middle, last) {
         Ok(()) => Ok(text),
