@@ -30,13 +30,13 @@ use Rattle.nd_provision.specs.declared.copying.PathsError.TheVariants.{Uncovered
 use Rattle.nd_provision.proofs.Storing.{stored_quiet, stored_same, stored_start, stored_built}
 use Rattle.nd_ledger.specs.declared.refusal.AdmitError.{AdmitError}
 use Rattle.nd_ledger.specs.declared.refusal.AdmitError.TheVariants.{Illegal, Memory as NoMemory}
-use Rattle.nd_ledger.specs.declared.ahead.Ahead.{Ahead}
-use Rattle.nd_ledger.specs.declared.ahead.Batch.{Batch}
-use Rattle.nd_ledger.specs.declared.ahead.End.{End}
-use Rattle.nd_ledger.specs.declared.ahead.End.TheVariants.{More, Last, Stopped as StoppedAt}
+use Rattle.nd_audit.specs.declared.ahead.Ahead.{Ahead}
+use Rattle.nd_audit.specs.declared.ahead.Batch.{Batch}
+use Rattle.nd_audit.specs.declared.ahead.End.{End}
+use Rattle.nd_audit.specs.declared.ahead.End.TheVariants.{More, Last, Stopped as StoppedAt}
 use Rattle.nd_ledger.specs.Admitting.{PassesFreely, IsAdmitRefused, admit_error_for}
 use Rattle.nd_ledger.specs.Moves.{refusal_for}
-use Rattle.nd_ledger.specs.Ahead.{IsSizedFor, AreOn, IsKeptAfter, IsStoredSomehow, IsCleared, AreCleared, HasCleared, HaveCleared, HasStayed, HasHeldUp, IsEnd, IsNext}
+use Rattle.nd_audit.specs.Ahead.{IsSizedFor, AreOn, IsKeptAfter, IsStoredSomehow, IsCleared, AreCleared, HasCleared, HaveCleared, HasStayed, HasHeldUp, IsEnd, IsNext}
 use Rattle.nd_ledger.proofs.Tickets.{right_then, wrong_then}
 
 -- ---- what is kept of leases

@@ -1,5 +1,5 @@
 -- Entries that are judged by the rules which take no memory, and recorded.
-use Rattle.std.proofs.Common.{◌≡◌, ◌∙◌, ℕ, ◌+◌, ◌<◌, ◌≤◌, inl, inr, Bool, true, false, ◌==◌, ◌||◌, cond, Option, Some, is_some, List, [], ◌∷◌, ◌++◌, length, reverse, refl, sym, ap, subst, append_assoc, arith, Result, Ok, Err, MatchResult}
+use Rattle.std.proofs.Common.{◌≡◌, ◌∙◌, ℕ, ◌+◌, ◌<◌, ◌≤◌, inl, inr, Bool, true, false, ◌==◌, ◌||◌, cond, Option, Some, is_some, List, [], ◌∷◌, ◌++◌, length, reverse, refl, sym, ap, subst, append_assoc, arith, Result, Ok, Err}
 use Rattle.std.proofs.lemmas.List.{append-nil, length-append, reverse-append}
 use Rattle.nd_history.specs.declared.entry.Entry.{Entry}
 use Rattle.nd_history.specs.declared.entry.Entry.TheVariants.{Started as Starting, Down, Built, Failed, Stop, Drain, Enable}
@@ -8,7 +8,6 @@ use Rattle.nd_history.specs.declared.inputs.Inputs.{Inputs}
 use Rattle.nd_history.specs.declared.rule.Rule.{Rule}
 use Rattle.nd_history.specs.declared.rule.Rule.TheVariants.{Live, Started as StartedRule, Stopped}
 use Rattle.nd_history.specs.Premises.{Premises, premises_of}
-use Rattle.nd_history.specs.Fitting.{FitTogether}
 use Rattle.std.specs.List.{find, list_any}
 use Rattle.nd_leases.specs.declared.ticket.Ticket.{Ticket}
 use Rattle.nd_history.specs.History.{live, lease_of, is_leased, is_started, has_stop}
@@ -16,88 +15,40 @@ use Rattle.nd_history.specs.Standing.{drvs_in}
 use Rattle.nd_history.specs.Choices.{machines_in}
 use Rattle.nd_history.specs.Legal.{IsAllowed, IsLegal}
 use Rattle.nd_history.specs.Audit.{IsFirstRule, IsJudged}
-use Rattle.nd_history.specs.Marks.{AreMarked, CanFollow}
-use Rattle.nd_history.specs.Books.{MayRecord}
-use Rattle.nd_history.proofs.Following.{newest_first, may_record}
+use Rattle.nd_history.proofs.Following.{newest_first}
 use Rattle.nd_history.proofs.Rules.{started_unleased, started_twice, down_unleased, down_late, built_unleased, built_early, failed_unleased, stopped_twice}
-use Rattle.nd_pump.specs.Turned.{Turned, AreTurns, HasSearched}
-use Rattle.nd_pump.proofs.Taking.{turns_searched}
-use Rattle.nd_ledger.specs.declared.dispatch.Dispatch.TheInside.{Inside}
 use Rattle.nd_ledger.specs.declared.state.State.{State}
-use Rattle.nd_ledger.specs.States.{IsAppended, IsFresh, CanTurn}
-use Rattle.nd_ledger.specs.Inner.{room_for}
-use Rattle.nd_ledger.specs.declared.ahead.Ahead.{Ahead}
-use Rattle.nd_provision.specs.Stored.{Stored, AreStored}
+use Rattle.nd_ledger.specs.Followed.{IsFollowed}
+use Rattle.nd_ledger.specs.States.{IsAppended, IsFresh}
+use Rattle.nd_audit.specs.declared.ahead.Ahead.{Ahead}
 use Rattle.nd_choose.specs.Best.{jobs_at}
 use Rattle.nd_graph.specs.Graphs.{IsSound}
-use Rattle.nd_failure.specs.Progress.{Progress}
-use Rattle.nd_history.proofs.Marking.{marked_first}
-use Rattle.nd_pump.proofs.Following.{turns_fresh}
-use Rattle.nd_ledger.proofs.Tickets.{small_park}
 use Rattle.nd_ledger.specs.Admitting.{PassesFreely, IsAdmitRefused}
 use Rattle.nd_ledger.specs.declared.refusal.AdmitError.{AdmitError}
 use Rattle.nd_ledger.specs.declared.refusal.AdmitError.TheVariants.{Memory}
-use Rattle.nd_ledger.specs.declared.judging.Unadmitted.{Unadmitted}
-use Rattle.nd_ledger.specs.declared.ahead.Batch.{Batch}
-use Rattle.nd_ledger.specs.declared.ahead.End.{End}
-use Rattle.nd_ledger.specs.declared.ahead.End.TheVariants.{More, Last, Stopped as Held}
-use Rattle.nd_ledger.specs.Ahead.{IsCleared, AreCleared, IsStoredSomehow, IsHeldUp, IsEnd, IsSizedFor, IsKeptAfter, IsNext}
-use Rattle.nd_ledger.specs.Judging.{IsFollowed, IsFreelyJudged, IsUnadmitted, IsHeldEnd, AwaitsJudge, AreRecorded, IsFree, IsRefusedIn, IsNotAdmitted, IsBegun, IsUnderWay, batches_behind, work_left, IsAuditOf, IsSomeAudit, HasStepped, IsRefusedFor, IsDoneWith}
-use Rattle.nd_ledger.specs.declared.side_by_side.UnderWay.{UnderWay}
+use Rattle.nd_audit.specs.declared.judging.Unadmitted.{Unadmitted}
+use Rattle.nd_audit.specs.declared.ahead.Batch.{Batch}
+use Rattle.nd_audit.specs.declared.ahead.End.{End}
+use Rattle.nd_audit.specs.declared.ahead.End.TheVariants.{More, Last, Stopped as Held}
+use Rattle.nd_audit.specs.Ahead.{IsCleared, AreCleared, IsHeldUp, IsEnd, IsSizedFor, IsKeptAfter, IsNext}
+use Rattle.nd_audit.specs.Judging.{IsFreelyJudged, IsUnadmitted, IsHeldEnd, AwaitsJudge, AreRecorded, IsFree, IsRefusedIn, IsNotAdmitted, IsBegun, IsUnderWay, batches_behind, work_left, IsAuditOf, IsSomeAudit, HasStepped, IsRefusedFor, IsDoneWith}
+use Rattle.nd_audit.specs.declared.side_by_side.UnderWay.{UnderWay}
 use Rattle.std.specs.Vec.Iter.{into_iter_items}
-use Rattle.nd_ledger.proofs.Admitting.{freely, free_allowed, free_start, free_end}
-use Rattle.nd_ledger.proofs.Keeping.{fit_kept, kept_turns, kept_behind, can_mark, can_turn}
-
--- ---- what a state that follows a legal history is
-
-abbrev inside_of : (j : Inputs) (s : State) → IsFollowed j s → Inside
-inside_of j s f = record { inputs = j; state = s; stores = f.stores }
-
-pub followed_fit : (j : Inputs) (s : State) → IsFollowed j s → FitTogether (premises_of j) s.book
-followed_fit j s f = fit_kept (inside_of j s f) f.kept
-
-pub followed_marked : (j : Inputs) (s : State) → IsFollowed j s → AreMarked (premises_of j) (reverse s.book.entries) s.board
-followed_marked j s f = f.kept.marked
-
-pub followed_turns : (j : Inputs) (s : State) → IsFollowed j s → AreTurns (premises_of j) (reverse s.book.entries) s.board s.turns
-followed_turns j s f = f.kept.turns
-
--- .. it is still so once builders were looked at
-pub followed_searched : (j : Inputs) (s : State) (t : Turned) → IsFollowed j s → HasSearched (premises_of j) (reverse s.book.entries) s.turns t → IsFollowed j (record s { turns = t })
-followed_searched j s t f searched = record {
-  stores = f.stores;
-  kept = kept_turns (inside_of j s f) t (turns_searched (premises_of j) (reverse s.book.entries) s.board s.turns t searched f.kept.turns) f.kept;
-}
-
--- .. what is allowed can be recorded
-pub followed_may : (j : Inputs) (s : State) (e : Entry) → IsFollowed j s → IsAllowed (premises_of j) e (reverse s.book.entries) → MayRecord s.book e
-followed_may j s e f allowed = may_record (premises_of j) s.book e (followed_fit j s f) allowed
-
-pub followed_can : (j : Inputs) (s : State) (e : Entry) → IsFollowed j s → IsAllowed (premises_of j) e (reverse s.book.entries) → CanFollow s.board e
-followed_can j s e f allowed = can_mark (inside_of j s f) e f.kept allowed
-
-pub followed_turn : (j : Inputs) (s : State) (e : Entry) → IsFollowed j s → IsAllowed (premises_of j) e (reverse s.book.entries) → CanTurn s e
-followed_turn j s e f allowed = can_turn (inside_of j s f) e f.kept allowed
-
--- .. and it follows the longer history then
-pub followed_behind : (j : Inputs) (s after : State) (e : Entry) → IsFollowed j s → IsAppended s after e → IsAllowed (premises_of j) e (reverse s.book.entries)
-    → IsStoredSomehow (premises_of j) (e ∷ reverse s.book.entries) → IsFollowed j after
-followed_behind j s after e f rec allowed some = record {
-  stores = some.stores;
-  kept = kept_behind (inside_of j s f) after some.stores e rec f.kept allowed some.stored;
-}
+use Rattle.nd_ledger.proofs.Admitting.{freely, free_allowed}
+use Rattle.nd_ledger.proofs.Followed.{followed_legal, followed_fit, followed_marked, followed_turns, followed_searched, followed_behind, followed_fresh}
 
 -- ---- an entry that was gone through
 
 pub cleared_allowed : (j : Inputs) (s : State) (e : Entry) → IsFollowed j s → IsCleared (premises_of j) (reverse s.book.entries) e → PassesFreely (premises_of j) (reverse s.book.entries) e
     → IsAllowed (premises_of j) e (reverse s.book.entries)
-cleared_allowed j s e f cleared free = cleared.allowed f.kept.legal free
+cleared_allowed j s e f cleared free = cleared.allowed (followed_legal j s f) free
 
 pub cleared_behind : (j : Inputs) (s after : State) (e : Entry) → IsFollowed j s → IsCleared (premises_of j) (reverse s.book.entries) e → PassesFreely (premises_of j) (reverse s.book.entries) e
     → IsAppended s after e → IsFollowed j after
 cleared_behind j s after e f cleared free rec =
     let allowed = cleared_allowed j s e f cleared free in
-    followed_behind j s after e f rec allowed (cleared.stored (allowed, f.kept.legal))
+    let some = cleared.stored (allowed, followed_legal j s f) in
+    followed_behind j s after some.stores e f rec allowed some.stored
 
 -- ---- tests by the rules that take no memory
 
@@ -199,7 +150,7 @@ recorded_refused j first s seen rest entries e error u h whole refused place is 
       ap (λ (l : List Entry). first.book.entries ++ l) whole ∙ (sym (append_assoc first.book.entries seen (e ∷ rest))
       ∙ ap (λ (l : List Entry). l ++ e ∷ rest) (sym h.same));
   place = place;
-  legal = h.followed.kept.legal;
+  legal = followed_legal j s h.followed;
   refused = subst (λ (x : AdmitError). IsAdmitRefused (premises_of j) (reverse s.book.entries) e x) (sym is) refused;
 }
 
@@ -241,7 +192,7 @@ refused_held j s done batch e error u f same held place refused = record {
         after = after;
         whole = ap (λ (l : List Entry). l ++ rest) (sym same) ∙ ap (λ (l : List Entry). s.book.entries ++ l) left;
         place = place;
-        legal = f.kept.legal;
+        legal = followed_legal j s f;
         refused = refused;
       };
 }
@@ -257,36 +208,9 @@ held_there j s done batch e error awaited same held =
 -- .. so it is refused, if it passes the rules that take no memory
 pub held_refused : (j : Inputs) (s : State) (e : Entry) (error : AdmitError) → IsFollowed j s → IsHeldUp (premises_of j) (reverse s.book.entries) e error → PassesFreely (premises_of j) (reverse s.book.entries) e
     → IsAdmitRefused (premises_of j) (reverse s.book.entries) e error
-held_refused j s e error f held free = held.refused f.kept.legal free
+held_refused j s e error f held free = held.refused (followed_legal j s f) free
 
 -- ---- an audit by two threads
-
--- the empty history is followed
-pub followed_fresh : (j : Inputs) (s : State) (stores : Stored) → length j.machines ≤ 1024 → IsSound j.graph → ((p : ℕ) → jobs_at j.machines p ≤ 65535) → j.local.jobs ≤ 65535
-    → IsFresh j.graph j.machines j.local j.keep_going s → AreStored (premises_of j) [] stores → IsFollowed j s
-followed_fresh j s stores few sound builders home fresh stored =
-    let i = premises_of j in
-    let empty = fresh.entries in
-    let P : List Entry → Type 0 = λ es. IsLegal i (reverse es) in
-    let Q : List Entry → Type 0 = λ es. room_for (reverse es) ≤ s.book.room in
-    let S : List Entry → Type 0 = λ es. AreMarked i (reverse es) s.board in
-    let T : Progress → Type 0 = λ p. AreMarked i [] p in
-    let R : List Entry → Type 0 = λ es. AreStored i (reverse es) stores in
-    record {
-      stores = stores;
-      kept = record {
-        legal = subst P (sym empty) tt;
-        room = subst Q (sym empty) fresh.room;
-        sound = sound;
-        drvs = fresh.drvs;
-        park = fresh.park;
-        few = few;
-        small = small_park i builders home;
-        stores = subst R (sym empty) stored;
-        marked = subst S (sym empty) (subst T (sym fresh.board) (marked_first i));
-        turns = turns_fresh i (reverse s.book.entries) s.board s.turns fresh.whole fresh.kinds fresh.listed fresh.parked fresh.vacant;
-      };
-    }
 
 pub begun_by : (i : Premises) (entries all left : List Entry) (first ahead : Ahead) (batch : Batch) → IsKeptAfter i [] first → IsSizedFor i ahead → IsNext i first ahead all left batch → all ≡ entries → IsBegun i entries ahead left batch
 begun_by i entries all left first ahead batch kept sized next is = record {
@@ -386,7 +310,7 @@ way_done j entries left ahead s later batch h off free f same =
     h.whole
     ∙ (ap (λ (l : List Entry). s.book.entries ++ batch.entries.items ++ l) none
     ∙ (append-nil (s.book.entries ++ batch.entries.items) ∙ sym same)) in
-    subst (λ (l : List Entry). IsLegal i (reverse l)) (sym whole) f.kept.legal
+    subst (λ (l : List Entry). IsLegal i (reverse l)) (sym whole) (followed_legal j later f)
 
 -- .. whatever entries it is the audit of
 pub for_awaits : (j : Inputs) (w : UnderWay) → IsSomeAudit j w → AwaitsJudge (premises_of j) (reverse w.state.book.entries) w.batch

@@ -11,10 +11,10 @@ use Rattle.nd_history.specs.Legal.{IsAllowed, IsLegal}
 use Rattle.nd_provision.specs.Stored.{Stored, AreStored}
 use Rattle.nd_ledger.specs.Admitting.{PassesFreely, IsAdmitRefused}
 use Rattle.nd_ledger.specs.declared.refusal.AdmitError.{AdmitError}
-use Rattle.nd_ledger.specs.declared.ahead.Ahead.{Ahead}
-use Rattle.nd_ledger.specs.declared.ahead.End.{End}
-use Rattle.nd_ledger.specs.declared.ahead.End.TheVariants.{More, Last, Stopped}
-use Rattle.nd_ledger.specs.declared.ahead.Batch.{Batch}
+use Rattle.nd_audit.specs.declared.ahead.Ahead.{Ahead}
+use Rattle.nd_audit.specs.declared.ahead.End.{End}
+use Rattle.nd_audit.specs.declared.ahead.End.TheVariants.{More, Last, Stopped}
+use Rattle.nd_audit.specs.declared.ahead.Batch.{Batch}
 
 -- what is kept fits the inputs in its sizes
 pub record IsSizedFor (i : Premises) (a : Ahead) : Type 0 where

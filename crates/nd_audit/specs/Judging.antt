@@ -8,23 +8,17 @@ use Rattle.nd_history.specs.declared.rule.Rule.{Rule}
 use Rattle.nd_history.specs.Premises.{Premises, premises_of}
 use Rattle.nd_history.specs.Legal.{IsLegal}
 use Rattle.nd_history.specs.Audit.{IsFirstRule}
-use Rattle.nd_provision.specs.Stored.{Stored}
 use Rattle.nd_ledger.specs.Admitting.{PassesFreely, IsAdmitRefused}
-use Rattle.nd_ledger.specs.Ahead.{AreCleared, IsHeldUp, IsEnd, IsSizedFor, IsKeptAfter, IsNext}
-use Rattle.nd_ledger.specs.Inner.{IsKept}
-use Rattle.nd_ledger.specs.declared.ahead.Ahead.{Ahead}
-use Rattle.nd_ledger.specs.declared.ahead.Batch.{Batch}
-use Rattle.nd_ledger.specs.declared.ahead.End.{End}
-use Rattle.nd_ledger.specs.declared.ahead.End.TheVariants.{More, Last, Stopped}
-use Rattle.nd_ledger.specs.declared.judging.Unadmitted.{Unadmitted}
+use Rattle.nd_audit.specs.Ahead.{AreCleared, IsHeldUp, IsEnd, IsSizedFor, IsKeptAfter, IsNext}
+use Rattle.nd_ledger.specs.Followed.{IsFollowed}
+use Rattle.nd_audit.specs.declared.ahead.Ahead.{Ahead}
+use Rattle.nd_audit.specs.declared.ahead.Batch.{Batch}
+use Rattle.nd_audit.specs.declared.ahead.End.{End}
+use Rattle.nd_audit.specs.declared.ahead.End.TheVariants.{More, Last, Stopped}
+use Rattle.nd_audit.specs.declared.judging.Unadmitted.{Unadmitted}
 use Rattle.nd_ledger.specs.declared.refusal.AdmitError.TheVariants.{Memory}
-use Rattle.nd_ledger.specs.declared.side_by_side.UnderWay.{UnderWay}
+use Rattle.nd_audit.specs.declared.side_by_side.UnderWay.{UnderWay}
 use Rattle.nd_ledger.specs.declared.state.State.{State}
-
--- the state follows a legal history of these inputs, after which something says what is referred to and held
-pub record IsFollowed (inputs : Inputs) (s : State) : Type 0 where
-  pub stores : Stored
-  pub kept : IsKept (record { inputs = inputs; state = s; stores = stores })
 
 -- a test of the entry says that no rule that takes no memory refuses it, or names the first rule that refuses it
 abbrev pub IsFreelyJudged : {T : Type 0} → Premises → List Entry → Entry → Result T Rule → Type 0

@@ -3,12 +3,11 @@
 ghost use Rattle.std.specs.Prelude.{◌≡◌, ◌≤◌, [], length, IfOk, OnOk, OnErr, IfErr};
 ghost use Rattle.std.specs.Vec.Iter.{into_iter_items};
 ghost use Rattle.nd_history.specs.Premises.{premises_of};
-ghost use Rattle.nd_ledger.specs.Ahead.{IsSizedFor, IsKeptAfter, HasCleared, HasHeldUp, HasStayed, IsNext};
+ghost use Rattle.nd_audit.specs.Ahead.{IsSizedFor, IsKeptAfter, HasCleared, HasHeldUp, HasStayed, IsNext};
 
-use crate::moving::refusal_of;
-use crate::refusal::{AdmitError, admit_error};
 use nd_closure::Refs;
 use nd_history::{Entry, Inputs, Rule};
+use nd_ledger::{AdmitError, admit_error, refusal_of};
 use nd_path::PathSet;
 use nd_provision::Stores;
 use std::alloc::{AllocError, Global};

@@ -1,6 +1,6 @@
 //! Entries that are judged by the rules which take no memory, and recorded.
 
-ghost use Rattle.std.specs.Prelude.{◌≡◌, ◌<◌, ◌++◌, ◌∷◌, [], length, reverse, true, false, MatchResult, IfOk, OnOk, IfErr};
+ghost use Rattle.std.specs.Prelude.{◌≡◌, ◌<◌, ◌++◌, ◌∷◌, [], length, reverse, IfOk, OnOk, IfErr};
 ghost use Rattle.nd_history.specs.Fitting.{FitTogether};
 ghost use Rattle.nd_history.specs.History.{is_leased};
 ghost use Rattle.nd_history.specs.Legal.{IsInRange};
@@ -8,16 +8,16 @@ ghost use Rattle.nd_history.specs.Marks.{AreMarked};
 ghost use Rattle.nd_history.specs.Premises.{premises_of};
 ghost use Rattle.nd_history.specs.Standing.{drvs_in};
 ghost use Rattle.nd_ledger.specs.Admitting.{IsAdmitRefused};
-ghost use Rattle.nd_ledger.specs.Ahead.{IsCleared, AreCleared, IsHeldUp};
-ghost use Rattle.nd_ledger.specs.Judging.{IsFollowed, IsFreelyJudged, IsUnadmitted, AwaitsJudge, AreRecorded, IsFree, IsRefusedIn};
+ghost use Rattle.nd_audit.specs.Ahead.{IsCleared, AreCleared, IsHeldUp};
+ghost use Rattle.nd_ledger.specs.Followed.{IsFollowed};
+ghost use Rattle.nd_audit.specs.Judging.{IsFreelyJudged, IsUnadmitted, AwaitsJudge, AreRecorded, IsFree, IsRefusedIn};
 
 use crate::ahead::{Batch, End};
-use crate::refusal::AdmitError;
-use crate::state::State;
 use nd_closure::Refs;
 use nd_failure::Board;
 use nd_history::auditing::{check_ready, is_in_range, judge_ready_choice, judge_ready_no_builder};
 use nd_history::{Book, Entry, Inputs, Rule, Why};
+use nd_ledger::{AdmitError, State};
 use nd_path::PathSet;
 
 /// The first of some entries that isn't admitted behind those before it.
@@ -84,7 +84,7 @@ fn record_all(inputs: &Inputs, state: &mut State, entries: Vec<Entry>) -> Result
 }
 
 /// Records an entry that was gone through, if no rule that takes no memory refuses it.
-#[tactic(auto, using(crate::proofs::Judged::cleared_allowed, crate::proofs::Judged::cleared_behind, crate::proofs::Judged::followed_may, crate::proofs::Judged::followed_can, crate::proofs::Judged::followed_turn))]
+#[tactic(auto, using(crate::proofs::Judged::cleared_allowed, crate::proofs::Judged::cleared_behind, nd_ledger::proofs::Followed::followed_may, nd_ledger::proofs::Followed::followed_can, nd_ledger::proofs::Followed::followed_turn))]
 fn record(inputs: &Inputs, state: &mut State, entry: Entry) -> Result<(), AdmitError>
     requires followed { IsFollowed inputs.now state.old }
     requires cleared { IsCleared (premises_of inputs.now) (reverse state.old.book.entries) entry }
@@ -100,7 +100,7 @@ fn record(inputs: &Inputs, state: &mut State, entry: Entry) -> Result<(), AdmitE
 }
 
 /// Tests an entry by the rules that take no memory, in their order.
-#[tactic(auto, using(crate::proofs::Judged::followed_fit, crate::proofs::Judged::followed_marked, crate::proofs::Judged::drain_free, crate::proofs::Judged::enable_free, nd_history::proofs::Rules::first_range))]
+#[tactic(auto, using(nd_ledger::proofs::Followed::followed_fit, nd_ledger::proofs::Followed::followed_marked, crate::proofs::Judged::drain_free, crate::proofs::Judged::enable_free, nd_history::proofs::Rules::first_range))]
 fn judge_entry(inputs: &Inputs, state: &mut State, entry: &Entry) -> Result<(), Rule>
     requires followed { IsFollowed inputs.now state.old }
     ensures followed { IsFollowed inputs.now state.new }
@@ -169,7 +169,7 @@ fn is_leased(book: &Book, drv: u32) -> bool
 }
 
 /// Tests a start, but for its paths.
-#[tactic(auto, using(crate::proofs::Judged::start_unleased, crate::proofs::Judged::start_begun, crate::proofs::Admitting::free_start))]
+#[tactic(auto, using(crate::proofs::Judged::start_unleased, crate::proofs::Judged::start_begun, nd_ledger::proofs::Admitting::free_start))]
 fn judge_start(inputs: &Inputs, book: &Book, drv: u32, paths: &PathSet) -> Result<(), Rule>
     requires fit { FitTogether (premises_of inputs.now) book.now }
     requires ranged { drv < drvs_in (premises_of inputs.now) }
@@ -201,7 +201,7 @@ fn judge_down(inputs: &Inputs, book: &Book, drv: u32) -> Result<(), Rule>
 }
 
 /// Tests the end of a build, but for its references.
-#[tactic(auto, using(crate::proofs::Judged::end_unleased, crate::proofs::Judged::end_early, crate::proofs::Admitting::free_end))]
+#[tactic(auto, using(crate::proofs::Judged::end_unleased, crate::proofs::Judged::end_early, nd_ledger::proofs::Admitting::free_end))]
 fn judge_end(inputs: &Inputs, book: &Book, drv: u32, refs: &Refs) -> Result<(), Rule>
     requires fit { FitTogether (premises_of inputs.now) book.now }
     requires ranged { drv < drvs_in (premises_of inputs.now) }

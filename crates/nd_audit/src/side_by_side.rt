@@ -1,21 +1,20 @@
 //! The audit of a whole history by two threads: this one goes through entries with what is kept of references and holdings,
 //! which asks for memory for each, and another one judges them by the other rules.
 
-ghost use Rattle.std.specs.Prelude.{◌≡◌, ◌<◌, ◌≤◌, ◌++◌, length, reverse, IfOk, OnOk, IfErr};
+ghost use Rattle.std.specs.Prelude.{◌≡◌, ◌<◌, ◌≤◌, length, reverse, IfOk, OnOk, IfErr};
 ghost use Rattle.std.specs.Vec.Iter.{into_iter_items};
 ghost use Rattle.nd_graph.specs.Graphs.{IsSound};
 ghost use Rattle.nd_history.specs.Legal.{IsLegal};
 ghost use Rattle.nd_history.specs.Premises.{premises_of};
-ghost use Rattle.nd_ledger.specs.Ahead.{IsSizedFor, IsNext};
-ghost use Rattle.nd_ledger.specs.Judging.{IsNotAdmitted, AreRecorded, IsRefusedIn, IsBegun, IsFollowed, IsAuditOf, IsSomeAudit, HasStepped, IsRefusedFor, IsDoneWith, work_left};
+ghost use Rattle.nd_audit.specs.Ahead.{IsSizedFor, IsNext};
+ghost use Rattle.nd_audit.specs.Judging.{IsNotAdmitted, AreRecorded, IsRefusedIn, IsBegun, IsAuditOf, IsSomeAudit, HasStepped, IsRefusedFor, IsDoneWith, work_left};
+ghost use Rattle.nd_ledger.specs.Followed.{IsFollowed};
 ghost use Rattle.nd_ledger.specs.States.{IsFresh};
 
 use crate::ahead::{Ahead, Batch, End};
-use crate::fresh::learn_jobs;
 use crate::judging::{Unadmitted, judge};
-use crate::refusal::AdmitError;
-use crate::state::State;
 use nd_history::{Entry, Inputs};
+use nd_ledger::{AdmitError, State, learn_jobs};
 use std::alloc::{AllocError, Global};
 use std::thread::{Threads, join};
 use std::vec::IntoIter;

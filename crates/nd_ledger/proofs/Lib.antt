@@ -1,5 +1,4 @@
 pub mod Admitting
-pub mod Clearing
-pub mod Judged
+pub mod Followed
 pub mod Keeping
 pub mod Tickets

@@ -1,7 +1,6 @@
 pub mod Admitting
-pub mod Ahead
+pub mod Followed
 pub mod Inner
-pub mod Judging
 pub mod Moves
 pub mod Refusals
 pub mod States

@@ -66,8 +66,8 @@ pub(crate) fn begin(parts: Parts, stores: Stores, state: State) -> Dispatch
     }
 }
 
-/// No machine builds more than 65,535 at once.
-pub(crate) fn learn_jobs(machines: &[Machine], local: &Local)
+/// No machine builds more than 65,535 at once, which is all that this tells.
+pub fn learn_jobs(machines: &[Machine], local: &Local)
     ensures builders { (p : ℕ) → jobs_at machines.now p ≤ 65535 }
     ensures local { local.now.jobs ≤ 65535 }
 {

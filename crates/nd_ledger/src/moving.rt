@@ -93,7 +93,7 @@ pub(crate) fn prepare_end(
 }
 
 /// The refusal of a call with paths that aren't right.
-pub(crate) fn refusal_of(fault: PathsError) -> Refusal
+pub fn refusal_of(fault: PathsError) -> Refusal
     ensures { result ≡ refusal_for fault }
 {
     match fault {

@@ -105,7 +105,7 @@ impl From<AllocError> for AdmitError {
 }
 
 /// The answer to an entry that is legal but for a call's refusal.
-pub(crate) fn admit_error(refusal: Refusal) -> AdmitError
+pub fn admit_error(refusal: Refusal) -> AdmitError
     ensures { result ≡ admit_error_for refusal }
 {
     match refusal {

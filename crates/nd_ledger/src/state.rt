@@ -14,12 +14,15 @@ use nd_machines::Machine;
 use nd_pump::Turns;
 use std::alloc::{AllocError, Global};
 
-/// The entries so far, and the board and the turns, which follow them.
+/// A history with what follows it entry by entry. What is kept of references and holdings is not among it.
 #[derive(Drop)]
-pub(crate) struct State {
-    pub(crate) book: Book,
-    pub(crate) board: Board,
-    pub(crate) turns: Turns,
+pub struct State {
+    /// The entries so far, and the leases.
+    pub book: Book,
+    /// How far each derivation is.
+    pub board: Board,
+    /// Whose turn it is.
+    pub turns: Turns,
 }
 
 /// The machine of the live lease of derivation `drv`.
@@ -63,8 +66,8 @@ fn follow(board: &mut Board, entry: &Entry)
 impl State {
     ghost use Rattle.nd_ledger.specs.States.{CanTurn, IsAppended, IsEntered, IsFresh, IsRoomier};
 
-    /// The empty history over this graph and these machines.
-    pub(crate) fn new(
+    /// The empty history over this graph and these machines. Refuses where an allocation is refused.
+    pub fn new(
         alloc: Global,
         graph: &Graph,
         machines: &[Machine],
@@ -97,7 +100,7 @@ impl State {
 
     /// Records an entry and keeps room behind it: for the end of each lease, and for a stop. Where memory is
     /// refused nothing is recorded.
-    pub(crate) fn append(&mut self, entry: Entry) -> Result<(), AllocError>
+    pub fn append(&mut self, entry: Entry) -> Result<(), AllocError>
         requires can { CanFollow self.old.board entry }
         requires may { MayRecord self.old.book entry }
         requires turn { CanTurn self.old entry }

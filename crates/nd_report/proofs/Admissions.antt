@@ -8,8 +8,8 @@ use Rattle.nd_history.specs.Legal.{IsLegal, IsAllowed}
 use Rattle.nd_history.specs.Audit.{IsFirstRule}
 use Rattle.nd_ledger.specs.Worlds.{World}
 use Rattle.nd_ledger.specs.Admitting.{IsAdmitRefused}
-use Rattle.nd_ledger.specs.Judging.{IsNotAdmitted}
-use Rattle.nd_ledger.specs.declared.judging.Unadmitted.{Unadmitted}
+use Rattle.nd_audit.specs.Judging.{IsNotAdmitted}
+use Rattle.nd_audit.specs.declared.judging.Unadmitted.{Unadmitted}
 use Rattle.nd_ledger.specs.declared.refusal.AdmitError.{AdmitError}
 use Rattle.nd_ledger.specs.declared.refusal.AdmitError.TheVariants.{Illegal as Refused, Memory as NoMemory}
 use Rattle.nd_report.specs.declared.audit_error.AuditError.{AuditError}

@@ -7,11 +7,12 @@ ghost use Rattle.nd_report.specs.declared.audit_error.AuditError.{AuditError};
 ghost use Rattle.nd_report.specs.Audits.{IsAuditRefused, IsAdmissionRefused, IsRefusedAt, answer_at, premises};
 
 use crate::audit_error::AuditError;
+use nd_audit::Audited;
 use nd_closure::RefTable;
 use nd_eligible::Local;
 use nd_graph::Graph;
 use nd_history::{Entry, Inputs};
-use nd_ledger::{AdmitError, Audited, Dispatch};
+use nd_ledger::{AdmitError, Dispatch};
 use nd_machines::Machine;
 use std::alloc::Global;
 use std::thread::Threads;
@@ -62,7 +63,7 @@ pub fn audit_side_by_side(
     ensures refused { IfErr result (IsAuditRefused (premises_of inputs.now) entries.items) }
     ensures exactly { IsLegal (premises_of inputs.now) (reverse entries.items) → IfErr result (λ e. e ≡ AuditError.Memory) }
 {
-    match nd_ledger::audit_side_by_side(rt, alloc, inputs, entries) {
+    match nd_audit::audit_side_by_side(rt, alloc, inputs, entries) {
         Ok(audited) => Ok(audited),
         Err(unadmitted) => Err(refusal_at(unadmitted.index, unadmitted.error)),
     }

@@ -3,6 +3,7 @@
 mod audits;
 mod devices;
 mod drawing;
+mod long_audits;
 mod refusals;
 mod running;
 mod simulations;

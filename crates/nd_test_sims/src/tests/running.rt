@@ -125,6 +125,23 @@ pub(crate) fn answers<R: Threads + Sync>(
     )
 }
 
+/// The status of a command, and its output. `None` for a fault.
+pub(crate) fn written<R: Threads + Sync>(
+    rt: &R,
+    alloc: Global,
+    place: &Place<'_>,
+    call: Call<'_>,
+) -> Option<(u8, CountedWriter)> {
+    let options = options(alloc, place);
+    let reader = CountedReader::new(place.bundle.as_bytes(), usize::MAX, usize::MAX);
+    let writer = CountedWriter::new(alloc, usize::MAX, usize::MAX, false);
+    let Answered { answer, writer } = answer_of(rt, alloc, &options, call, reader, writer);
+    match answer {
+        Ok(status) => Some((status, writer)),
+        Err(_) => None,
+    }
+}
+
 /// A digest, gone on with by what `sim` writes and its status.
 pub(crate) fn digest_after<R: Threads + Sync>(
     rt: &R,

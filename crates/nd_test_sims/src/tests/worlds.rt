@@ -56,14 +56,8 @@ fn local_words(scribe: &mut Scribe) -> (&'static str, &'static str) {
     (extra, features)
 }
 
-/// A digest gone on with by what is written of a world with this bundle, park, info text and script.
-fn after_texts<R: Threads + Sync>(
-    rt: &R,
-    alloc: Global,
-    world: usize,
-    texts: &Texts,
-    digest: u64,
-) -> u64 {
+/// The place of a world with these texts.
+pub(crate) fn place_of(alloc: Global, world: usize, texts: &Texts) -> Place<'_> {
     let mut scribe = Scribe::new(alloc, world, 4);
     let jobs = match scribe.below(3) {
         0 => 0,
@@ -72,7 +66,7 @@ fn after_texts<R: Threads + Sync>(
     };
     let keep_going = scribe.below(8) > 0;
     let (extra, features) = local_words(&mut scribe);
-    let place = Place {
+    Place {
         bundle: texts.bundle.text(),
         builders: texts.park.text(),
         jobs,
@@ -81,21 +75,27 @@ fn after_texts<R: Threads + Sync>(
         features,
         info: texts.info.text(),
         ..NOWHERE
-    };
-    digest_after(rt, alloc, &place, texts.script.text(), digest)
+    }
 }
 
 /// The texts of a world.
 #[derive(Drop)]
-struct Texts {
+pub(crate) struct Texts {
     bundle: Scribe,
     park: Scribe,
     info: Scribe,
     script: Scribe,
 }
 
+impl Texts {
+    /// The script.
+    pub(crate) fn script(&self) -> &str {
+        self.script.text()
+    }
+}
+
 /// What is drawn of a world.
-fn draw(alloc: Global, world: usize) -> Texts {
+pub(crate) fn draw(alloc: Global, world: usize) -> Texts {
     let mut texts = Texts {
         bundle: Scribe::new(alloc, world, 0),
         park: Scribe::new(alloc, world, 1),
@@ -112,7 +112,8 @@ fn draw(alloc: Global, world: usize) -> Texts {
 /// A digest gone on with by what is written of a world.
 fn after_world<R: Threads + Sync>(rt: &R, alloc: Global, world: usize, digest: u64) -> u64 {
     let texts = draw(alloc, world);
-    after_texts(rt, alloc, world, &texts, digest)
+    let place = place_of(alloc, world, &texts);
+    digest_after(rt, alloc, &place, texts.script(), digest)
 }
 
 /// Whether a block of worlds has this digest.

@@ -1,8 +1,8 @@
 use Rattle.std.proofs.Common.{rules, ◌≡◌, ◌++◌, List, ◌∷◌, length, refl, ap, subst}
 use Rattle.std.specs.Vec.Iter.{into_iter_items}
 use Rattle.nd_history.specs.declared.entry.Entry.{Entry}
-use Rattle.nd_ledger.proofs.Judged.{HasRecorded, recorded_refused}
-use Rattle.nd_ledger.proofs.judging.record_all.Goals as goal
+use Rattle.nd_audit.proofs.Judged.{HasRecorded, recorded_refused}
+use Rattle.nd_audit.proofs.judging.record_all.Goals as goal
 
 pub returns-in-Err-clause-refused : goal.returns-in-Err-clause-refused
 returns-in-Err-clause-refused c =

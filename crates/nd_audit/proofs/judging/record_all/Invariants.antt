@@ -1,7 +1,7 @@
 use Rattle.std.proofs.Common.{◌≡◌, ◌++◌}
 use Rattle.std.specs.Vec.Iter.{into_iter_items}
-use Rattle.nd_ledger.proofs.Judged.{HasRecorded}
-use Rattle.nd_ledger.proofs.judging.record_all.Given as goal
+use Rattle.nd_audit.proofs.Judged.{HasRecorded}
+use Rattle.nd_audit.proofs.judging.record_all.Given as goal
 
 -- the entries so far were recorded
 abbrev pub invariant-recording : goal.invariant-recording

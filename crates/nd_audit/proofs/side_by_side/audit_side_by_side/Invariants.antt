@@ -1,6 +1,5 @@
-use Rattle.std.proofs.Common.{ℕ}
-use Rattle.nd_ledger.specs.Judging.{IsAuditOf, work_left}
-use Rattle.nd_ledger.proofs.side_by_side.audit_side_by_side.Given as goal
+use Rattle.nd_audit.specs.Judging.{IsAuditOf, work_left}
+use Rattle.nd_audit.proofs.side_by_side.audit_side_by_side.Given as goal
 
 -- all before the batch is recorded
 abbrev pub invariant-judging : goal.invariant-judging

@@ -3,10 +3,10 @@ use Rattle.std.specs.Vec.Iter.{into_iter_items}
 use Rattle.nd_choose.specs.Best.{jobs_at}
 use Rattle.nd_machines.specs.Builders.{Builder}
 use Rattle.nd_history.specs.Premises.{premises_of}
-use Rattle.nd_ledger.specs.Judging.{IsBegun}
+use Rattle.nd_audit.specs.Judging.{IsBegun}
 use Rattle.nd_ledger.specs.States.{IsFresh}
-use Rattle.nd_ledger.proofs.Judged.{way_begun}
-use Rattle.nd_ledger.proofs.side_by_side.begin.Goals as goal
+use Rattle.nd_audit.proofs.Judged.{way_begun}
+use Rattle.nd_audit.proofs.side_by_side.begin.Goals as goal
 
 pub returns : goal.returns
 returns g c =

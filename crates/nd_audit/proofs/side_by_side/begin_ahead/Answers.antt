@@ -1,7 +1,7 @@
 use Rattle.std.specs.Vec.Iter.{into_iter_items}
 use Rattle.nd_history.specs.Premises.{premises_of}
-use Rattle.nd_ledger.proofs.Judged.{begun_by}
-use Rattle.nd_ledger.proofs.side_by_side.begin_ahead.Goals as goal
+use Rattle.nd_audit.proofs.Judged.{begun_by}
+use Rattle.nd_audit.proofs.side_by_side.begin_ahead.Goals as goal
 
 pub returns : goal.returns
 returns c =

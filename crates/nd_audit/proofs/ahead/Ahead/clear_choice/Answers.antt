@@ -1,9 +1,9 @@
 use Rattle.std.proofs.Common.{◌≡◌, ◌∙◌, length, refl, arith}
 use Rattle.nd_history.specs.declared.entry.Entry.TheVariants.{Chosen}
 use Rattle.nd_history.specs.Premises.{premises_of}
-use Rattle.nd_ledger.proofs.Clearing.{cleared_choice, cleared_out, drv_there}
-use Rattle.nd_ledger.proofs.ahead.Ahead.clear_choice.Goals.{else-drv-len-via-then-drv-len+else-has_machine, else-drv-len-via-else-drv-len}
-use Rattle.nd_ledger.proofs.ahead.Ahead.clear_choice.Goals as goal
+use Rattle.nd_audit.proofs.Clearing.{cleared_choice, cleared_out, drv_there}
+use Rattle.nd_audit.proofs.ahead.Ahead.clear_choice.Goals.{else-drv-len-via-then-drv-len+else-has_machine, else-drv-len-via-else-drv-len}
+use Rattle.nd_audit.proofs.ahead.Ahead.clear_choice.Goals as goal
 
 pub returns-then-has_machine-clause-cleared : goal.returns-then-has_machine-clause-cleared
 returns-then-has_machine-clause-cleared c =

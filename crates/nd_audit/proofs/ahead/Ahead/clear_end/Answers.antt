@@ -1,8 +1,8 @@
 use Rattle.std.proofs.Common.{refl}
 use Rattle.nd_history.specs.declared.entry.Entry.TheVariants.{Built}
 use Rattle.nd_history.specs.Premises.{premises_of}
-use Rattle.nd_ledger.proofs.Clearing.{cleared_end, cleared_out, got_at, held_residual, machine_there, on_any_error, out_at, stores_stayed}
-use Rattle.nd_ledger.proofs.ahead.Ahead.clear_end.Goals as goal
+use Rattle.nd_audit.proofs.Clearing.{cleared_end, cleared_out, got_at, held_residual, machine_there, on_any_error, out_at, stores_stayed}
+use Rattle.nd_audit.proofs.ahead.Ahead.clear_end.Goals as goal
 
 pub returns-in_default-clause-cleared : goal.returns-in_default-clause-cleared
 returns-in_default-clause-cleared c =

@@ -2,8 +2,8 @@ use Rattle.std.proofs.Common.{refl, ap, ◌∙◌}
 use Rattle.nd_history.specs.declared.entry.Entry.TheVariants.{Started}
 use Rattle.nd_history.specs.Premises.{premises_of}
 use Rattle.nd_ledger.specs.Admitting.{admit_error_for}
-use Rattle.nd_ledger.proofs.Clearing.{cleared_out, cleared_start, got_at, held_paths, held_residual, machine_there, on_any_error, out_at, stores_stayed}
-use Rattle.nd_ledger.proofs.ahead.Ahead.clear_start.Goals as goal
+use Rattle.nd_audit.proofs.Clearing.{cleared_out, cleared_start, got_at, held_paths, held_residual, machine_there, on_any_error, out_at, stores_stayed}
+use Rattle.nd_audit.proofs.ahead.Ahead.clear_start.Goals as goal
 
 pub returns-in_default-clause-cleared : goal.returns-in_default-clause-cleared
 returns-in_default-clause-cleared c =

@@ -1,7 +1,7 @@
 use Rattle.std.proofs.Common.{rules, ◌≡◌, replicate, refl, sym}
 use Rattle.nd_history.specs.Premises.{premises_of}
-use Rattle.nd_ledger.proofs.Clearing.{first_kept, first_sized}
-use Rattle.nd_ledger.proofs.ahead.Ahead.new.Goals as goal
+use Rattle.nd_audit.proofs.Clearing.{first_kept, first_sized}
+use Rattle.nd_audit.proofs.ahead.Ahead.new.Goals as goal
 
 pub returns-clause-sized : goal.returns-clause-sized
 returns-clause-sized c =

@@ -2,9 +2,9 @@ use Rattle.std.proofs.Common.{List, sym, subst}
 use Rattle.std.specs.Vec.Iter.{into_iter_items}
 use Rattle.nd_history.specs.declared.entry.Entry.{Entry}
 use Rattle.nd_history.specs.Premises.{premises_of}
-use Rattle.nd_ledger.specs.Ahead.{HaveCleared}
-use Rattle.nd_ledger.proofs.Clearing.{one_cleared, one_counted, whole_longer}
-use Rattle.nd_ledger.proofs.ahead.Ahead.next.Goals as goal
+use Rattle.nd_audit.specs.Ahead.{HaveCleared}
+use Rattle.nd_audit.proofs.Clearing.{one_cleared, one_counted, whole_longer}
+use Rattle.nd_audit.proofs.ahead.Ahead.next.Goals as goal
 
 pub going-preserved : goal.going-preserved
 going-preserved c =

@@ -1,8 +1,8 @@
 use Rattle.std.proofs.Common.{◌≡◌, ◌++◌, length}
 use Rattle.std.specs.Vec.Iter.{into_iter_items}
 use Rattle.nd_history.specs.Premises.{premises_of}
-use Rattle.nd_ledger.specs.Ahead.{IsSizedFor, HaveCleared}
-use Rattle.nd_ledger.proofs.ahead.Ahead.next.Given as goal
+use Rattle.nd_audit.specs.Ahead.{IsSizedFor, HaveCleared}
+use Rattle.nd_audit.proofs.ahead.Ahead.next.Given as goal
 
 -- the entries so far were gone through
 abbrev pub invariant-going : goal.invariant-going
