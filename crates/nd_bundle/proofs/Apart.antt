@@ -6,9 +6,9 @@ use Rattle.std.proofs.lemmas.List.{get_or_append_left, get_or_at}
 use Rattle.std.specs.List.{AllZip}
 use Rattle.nd_graph.specs.Graphs.{needed, node_limit, nodes_of, IsAt}
 use Rattle.nd_graph.specs.Walks.{AreDistinct, IsAcyclic}
-use Rattle.nd_bundle.specs.Whole.{AllNumbered, AreInputsThere, AreNumbered, AreOutputsThere, HasInputs, HasOutputs, IsMissingInput, IsMissingOutput, IsNumbered, IsRepeat, IsWholeFault, LacksInput, LacksOutput, Links}
-use Rattle.nd_bundle.specs.declared.fault.GraphError.{GraphError}
-use Rattle.nd_bundle.specs.declared.fault.GraphError.TheVariants.{Duplicate, MissingInput, MissingOutput, Cycle, TooMany, Memory}
+use Rattle.nd_links.specs.Whole.{AllNumbered, AreInputsThere, AreNumbered, AreOutputsThere, HasInputs, HasOutputs, IsMissingInput, IsMissingOutput, IsNumbered, IsRepeat, IsWholeFault, LacksInput, LacksOutput, Links}
+use Rattle.nd_links.specs.declared.fault.GraphError.{GraphError}
+use Rattle.nd_links.specs.declared.fault.GraphError.TheVariants.{Duplicate, MissingInput, MissingOutput, Cycle, TooMany, Memory}
 use Rattle.nd_graph.specs.declared.graph.Input.{Input}
 use Rattle.nd_line.specs.declared.line.NamedInput.{NamedInput}
 

@@ -3,21 +3,21 @@ use Rattle.std.proofs.Common.{◌≡◌, ℕ, zero, suc, ◌<◌, ◌≤◌, Boo
 use Rattle.std.proofs.lemmas.Bool.{cases_lt}
 use Rattle.std.proofs.lemmas.List.{get_or_default, get_or_past, get_or-map, length-map}
 use Rattle.nd_eligible.specs.declared.need.Need.{Need}
-use Rattle.nd_bundle.specs.Columned.{HasDetails}
+use Rattle.nd_links.specs.Columned.{HasDetails}
 use Rattle.nd_graph.specs.Graphs.{nodes_of, nodes_with, needed, node_limit, IsOrderFault, IsSound, NamesOutputs, IsAt}
-use Rattle.nd_bundle.specs.Numbered.{of_order}
-use Rattle.nd_bundle.specs.Settled.{AreFit, AreLinksSized, AreSized, IsFit, IsResolved, ArePaired, AllNamesRise, NamesRise}
+use Rattle.nd_links.specs.Numbered.{of_order}
+use Rattle.nd_links.specs.Settled.{AreFit, AreLinksSized, AreSized, IsFit, IsResolved, ArePaired, AllNamesRise, NamesRise}
 use Rattle.nd_graph.specs.Walks.{AreDistinct, AreInRange, IsAcyclic}
-use Rattle.nd_bundle.specs.Whole.{AllNumbered, AreNumbered, IsNumbered, IsTooMany, IsWholeFault}
-use Rattle.nd_bundle.specs.declared.details.Details.{Details}
+use Rattle.nd_links.specs.Whole.{AllNumbered, AreNumbered, IsNumbered, IsTooMany, IsWholeFault}
+use Rattle.nd_links.specs.declared.details.Details.{Details}
 use Rattle.nd_graph.specs.declared.fault.OrderError.{OrderError}
 use Rattle.nd_graph.specs.declared.fault.OrderError.TheVariants.{Cycle, Memory}
 use Rattle.nd_graph.specs.declared.graph.Input.{Input}
 use Rattle.nd_line.specs.declared.line.LineNode.{LineNode}
 use Rattle.nd_line.specs.declared.line.NamedInput.{NamedInput}
-use Rattle.nd_bundle.proofs.Linked.{rows_have}
+use Rattle.nd_links.proofs.Linked.{rows_have}
 use Rattle.nd_graph.proofs.Rows.{row_of, rows_length}
-use Rattle.nd_bundle.proofs.Zipped.{zip_at, zip_length}
+use Rattle.nd_links.proofs.Zipped.{zip_at, zip_length}
 
 -- each input by number is that of an input derivation
 pub each_input : (paths : List (List ℕ)) (names : List (List (List ℕ))) (wants : List (List NamedInput)) (rows : List (List Input)) → AllNumbered paths names wants rows → (d : ℕ) (i : Input) → Contains (get_or rows d []) i → (w : NamedInput) × IsNumbered paths names w i

@@ -7,26 +7,26 @@ use Rattle.std.specs.List.Sorted.{IsStrictlySortedBy}
 use Rattle.nd_bytes.specs.Compared.{bytes_cmp}
 use Rattle.nd_bundle.specs.Bundles.{IsBundle, IsBundleRefused, IsFirstFault, IsLineRefused, IsWholeRefused}
 use Rattle.nd_bundle.specs.Needed.{HasNeeds}
-use Rattle.nd_bundle.specs.Placing.{ArePlaced, Placed}
+use Rattle.nd_links.specs.Placing.{ArePlaced, Placed}
 use Rattle.nd_graph.specs.Graphs.{Nodes, node_limit, IsAt}
 use Rattle.nd_bundle.specs.Lines.{lines}
-use Rattle.nd_bundle.specs.Numbered.{fault_at}
+use Rattle.nd_links.specs.Numbered.{fault_at}
 use Rattle.nd_bundle.specs.OneBundle.{NeverBoth, OneBundle, OneGraph}
 use Rattle.nd_line.specs.Reads.{IsLine, IsFaulty}
 use Rattle.nd_graph.specs.Walks.{AreDistinct}
-use Rattle.nd_bundle.specs.Whole.{links_of, AllNumbered, AreNumbered, IsNumbered, IsWholeFault}
-use Rattle.nd_bundle.specs.declared.fault.GraphError.{GraphError}
-use Rattle.nd_bundle.specs.declared.fault.GraphError.TheVariants as bundle
+use Rattle.nd_links.specs.Whole.{links_of, AllNumbered, AreNumbered, IsNumbered, IsWholeFault}
+use Rattle.nd_links.specs.declared.fault.GraphError.{GraphError}
+use Rattle.nd_links.specs.declared.fault.GraphError.TheVariants as bundle
 use Rattle.nd_graph.specs.declared.graph.Input.{Input}
 use Rattle.nd_line.specs.declared.line.LineNode.{LineNode}
 use Rattle.nd_line.specs.declared.line.NamedInput.{NamedInput}
 use Rattle.nd_line.specs.declared.refusal.LineError.{LineError}
 use Rattle.nd_line.specs.declared.refusal.LineError.TheVariants.{BadLine, BadPath, BadDerivation, UnknownOutput, BadAttribute, WrongPath, Memory}
 use Rattle.nd_bundle.proofs.Apart.{one_place, Passes, fails_its_own, same_whole}
-use Rattle.nd_bundle.proofs.Linked.{rows_have, rows_reach}
+use Rattle.nd_links.proofs.Linked.{rows_have, rows_reach}
 use Rattle.nd_line.proofs.Once.{below, no_node, not_both, same_fault, same_node}
 use Rattle.nd_line.proofs.Rising.{names_rise}
-use Rattle.nd_bundle.proofs.Zipped.{zip_once}
+use Rattle.nd_links.proofs.Zipped.{zip_once}
 
 -- ---- one text, one graph
 

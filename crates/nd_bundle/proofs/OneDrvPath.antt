@@ -4,8 +4,8 @@ use Rattle.nd_aterm.specs.declared.records.Parts.{Parts}
 use Rattle.nd_line.specs.Derived.{IsOwnPath, IsPathOfText}
 use Rattle.nd_bundle.specs.DrvPaths.{is_drv_name, IsDrvPath, HasNoDrvPath}
 use Rattle.nd_line.specs.Kinds.{references}
-use Rattle.nd_bundle.specs.declared.fault.GraphError.{GraphError}
-use Rattle.nd_bundle.specs.declared.fault.GraphError.TheVariants.{BadPath, BadDerivation, Memory}
+use Rattle.nd_links.specs.declared.fault.GraphError.{GraphError}
+use Rattle.nd_links.specs.declared.fault.GraphError.TheVariants.{BadPath, BadDerivation, Memory}
 use Rattle.nd_line.proofs.Once.{one_path, same_parts}
 
 -- the path of a text whose name is a derivation's

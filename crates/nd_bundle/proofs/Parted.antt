@@ -7,27 +7,29 @@ use Rattle.nd_graph.specs.Walks.{AreDistinct}
 use Rattle.nd_line.specs.declared.line.LineNode.{LineNode}
 use Rattle.nd_line.specs.declared.refusal.LineError.{LineError}
 use Rattle.nd_bundle.specs.Bundles.{IsFirstFault}
-use Rattle.nd_bundle.specs.Columned.{HasDetails, SayNumbered, SayNumbers}
+use Rattle.nd_links.specs.Columned.{HasDetails}
+use Rattle.nd_bundle.specs.Said.{SayNumbered, SayNumbers}
 use Rattle.nd_bundle.specs.Lines.{lines, lines_in}
-use Rattle.nd_bundle.specs.Numbered.{fault_at}
-use Rattle.nd_bundle.specs.Numbering.{AddsPaths, AreNoNumbers, HasNumbers, LacksNumbers}
+use Rattle.nd_links.specs.Numbered.{fault_at}
+use Rattle.nd_links.specs.Numbering.{AddsPaths, AreNoNumbers, HasNumbers, LacksNumbers}
 use Rattle.nd_bundle.specs.Parts.{ArePieces, GoesOn, HasWholeLines, IsFaultBy, IsFaultOf, IsFoundFault, IsFoundIn, IsFoundNowhere, IsFoundNumbered, IsFoundTo, IsLineEnd, IsReadAsFar, IsReadBehind, IsReadFault, IsReadIn, IsReading, IsReadNowhere, IsReadNumbered, IsReadTo, IsReadUntil, IsRefusedAsFar, IsSpent, IsToldBy, IsUnread, ReadsLines, Takes, TakesAll}
-use Rattle.nd_bundle.specs.Pieces.{HasSameNodes, IsAppended, IsReadText}
+use Rattle.nd_links.specs.Columned.{HasSameNodes, IsAppended}
+use Rattle.nd_bundle.specs.Pieces.{IsReadText}
 use Rattle.nd_bundle.specs.ReadingLines.{ReadingLines}
 use Rattle.nd_bundle.specs.declared.ahead.Ahead.{Ahead}
-use Rattle.nd_bundle.specs.declared.columns.Columns.{Columns}
-use Rattle.nd_bundle.specs.declared.details.Details.{Details}
-use Rattle.nd_bundle.specs.declared.fault.GraphError.{GraphError}
-use Rattle.nd_bundle.specs.declared.fault.GraphError.TheVariants as bundle
+use Rattle.nd_links.specs.declared.columns.Columns.{Columns}
+use Rattle.nd_links.specs.declared.details.Details.{Details}
+use Rattle.nd_links.specs.declared.fault.GraphError.{GraphError}
+use Rattle.nd_links.specs.declared.fault.GraphError.TheVariants as bundle
 use Rattle.nd_bundle.specs.declared.found.Found.{Found}
 use Rattle.nd_bundle.specs.declared.found.Numbered.{Numbered}
 use Rattle.nd_bundle.specs.declared.manner.Manner.{Manner}
-use Rattle.nd_bundle.specs.declared.number.Numbers.{Numbers}
+use Rattle.nd_links.specs.declared.number.Numbers.{Numbers}
 use Rattle.nd_bundle.specs.declared.piece.Piece.{Piece}
 use Rattle.nd_bundle.specs.declared.progress.Progress.{Progress}
 use Rattle.nd_bundle.proofs.Newlines.{line_ends, lines_in-append}
 use Rattle.nd_bundle.proofs.Pieced.{fault_here}
-use Rattle.nd_bundle.proofs.Taken.{many_numbered, says_more}
+use Rattle.nd_bundle.proofs.Said.{many_numbered, says_more}
 use Rattle.nd_bundle.proofs.Told.{twice_fault}
 
 -- ---- one piece

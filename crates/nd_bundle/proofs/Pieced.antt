@@ -7,16 +7,17 @@ use Rattle.nd_line.specs.Reads.{IsFaulty, IsLine}
 use Rattle.nd_line.specs.declared.line.LineNode.{LineNode}
 use Rattle.nd_line.specs.declared.refusal.LineError.{LineError}
 use Rattle.nd_bundle.specs.Bundles.{IsFirstFault}
-use Rattle.nd_bundle.specs.Columned.{HasColumns, SayColumns}
+use Rattle.nd_links.specs.Columned.{HasColumns}
+use Rattle.nd_bundle.specs.Said.{SayColumns}
 use Rattle.nd_bundle.specs.Lines.{lines}
-use Rattle.nd_bundle.specs.Numbered.{fault_at}
+use Rattle.nd_links.specs.Numbered.{fault_at}
 use Rattle.nd_bundle.specs.Pieces.{IsReadText, IsReadUpTo}
-use Rattle.nd_bundle.specs.declared.columns.Columns.{Columns}
-use Rattle.nd_bundle.specs.declared.fault.GraphError.{GraphError}
+use Rattle.nd_links.specs.declared.columns.Columns.{Columns}
+use Rattle.nd_links.specs.declared.fault.GraphError.{GraphError}
 use Rattle.nd_bundle.specs.declared.manner.Manner.{Manner}
 use Rattle.nd_bundle.specs.declared.piece.Piece.{Piece}
 use Rattle.nd_bundle.proofs.Newlines.{shown}
-use Rattle.nd_bundle.proofs.Taken.{many_lines, says_push}
+use Rattle.nd_bundle.proofs.Said.{many_lines, says_push}
 use Rattle.nd_bundle.proofs.Told.{line_error}
 
 -- ---- one piece

@@ -4,13 +4,13 @@ use Rattle.nd_graph.specs.Graphs.{Nodes, needed, node_limit, nodes_with, IsSound
 use Rattle.nd_graph.specs.Walks.{AreDistinct, AreInRange}
 use Rattle.nd_graph.specs.declared.fault.OrderError.TheVariants as order
 use Rattle.nd_graph.specs.declared.graph.Input.{Input}
-use Rattle.nd_bundle.specs.Settled.{links_in, ArePaired, AreSized, IsGraphOfRows, IsLinkFault, IsOrderedFault, IsResolved}
-use Rattle.nd_bundle.specs.Whole.{AllNumbered, IsWholeFault}
-use Rattle.nd_bundle.specs.declared.details.Details.{Details}
-use Rattle.nd_bundle.specs.declared.fault.GraphError.{GraphError}
-use Rattle.nd_bundle.specs.declared.fault.GraphError.TheVariants as bundle
+use Rattle.nd_links.specs.Settled.{links_in, ArePaired, AreSized, IsGraphOfRows, IsLinkFault, IsOrderedFault, IsResolved}
+use Rattle.nd_links.specs.Whole.{AllNumbered, IsWholeFault}
+use Rattle.nd_links.specs.declared.details.Details.{Details}
+use Rattle.nd_links.specs.declared.fault.GraphError.{GraphError}
+use Rattle.nd_links.specs.declared.fault.GraphError.TheVariants as bundle
 use Rattle.nd_bundle.proofs.Assembled.{is_sound, numbered_ranged, order_fault, too_many}
-use Rattle.nd_bundle.proofs.Gathered.{link_whole}
+use Rattle.nd_links.proofs.Gathered.{link_whole}
 
 -- the numbers of the nodes' inputs, found among keys that are their paths and names that are theirs
 pub record AreNumbers (paths : List (List ℕ)) (details : Details) (keys : List (List ℕ)) (rows : List (List Input)) : Type 0 where

@@ -8,7 +8,7 @@ use Rattle.nd_bundle.specs.Lines.{lines, lines_in}
 use Rattle.nd_bundle.specs.Parts.{IsEndOf, IsFaultOf, IsFoundFault, IsFoundIn, IsFoundNowhere, IsFoundNumbered, IsFoundTo, IsReadFault, IsReadIn, IsReadInParts, IsReadNowhere, IsReadNumbered, IsReadTo, IsTask, ReadsLines, ReadsTask, StaysRead, Takes}
 use Rattle.nd_bundle.specs.Pieces.{IsReadPiece, IsReadText, IsReadTo as IsPieceTo}
 use Rattle.nd_bundle.specs.declared.ahead.Ahead.{Ahead}
-use Rattle.nd_bundle.specs.declared.fault.GraphError.{GraphError}
+use Rattle.nd_links.specs.declared.fault.GraphError.{GraphError}
 use Rattle.nd_bundle.specs.declared.found.Found.{Found}
 use Rattle.nd_bundle.specs.declared.found.Numbered.{Numbered}
 use Rattle.nd_bundle.specs.declared.manner.Manner.{Manner}

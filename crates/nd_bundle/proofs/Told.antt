@@ -6,31 +6,31 @@ use Rattle.nd_aterm.specs.declared.records.Output.{Output}
 use Rattle.nd_bundle.specs.Bundles.{IsBundle, IsFirstFault, IsLineRefused}
 use Rattle.nd_graph.specs.Graphs.{Nodes, node_limit, nodes_with, rows_of, IsSound}
 use Rattle.nd_graph.specs.Walks.{AreDistinct, IsAcyclic}
-use Rattle.nd_bundle.specs.declared.columns.Columns.{Columns}
+use Rattle.nd_links.specs.declared.columns.Columns.{Columns}
 use Rattle.nd_bundle.specs.Lines.{lines}
 use Rattle.nd_bundle.specs.Needed.{HasNeeds}
-use Rattle.nd_bundle.specs.Numbered.{fault_at}
-use Rattle.nd_bundle.specs.Placing.{ArePlaced, Placed}
+use Rattle.nd_links.specs.Numbered.{fault_at}
+use Rattle.nd_links.specs.Placing.{ArePlaced, Placed}
 use Rattle.nd_eligible.specs.declared.need.Need.{Need}
 use Rattle.nd_line.specs.Reads.{IsLine}
-use Rattle.nd_bundle.specs.Columned.{for_graph, for_needs, SayColumns, SayNumbered, SayRows}
-use Rattle.nd_bundle.specs.Numbering.{IsNumberFault}
-use Rattle.nd_bundle.specs.declared.details.Details.{Details}
+use Rattle.nd_bundle.specs.Said.{for_graph, for_needs, SayColumns, SayNumbered, SayRows}
+use Rattle.nd_links.specs.Numbering.{IsNumberFault}
+use Rattle.nd_links.specs.declared.details.Details.{Details}
 use Rattle.nd_bundle.specs.declared.found.Numbered.{Numbered}
 use Rattle.nd_bundle.specs.declared.manner.Manner.{Manner}
 use Rattle.nd_bundle.specs.Reading.{Reading}
 use Rattle.nd_bundle.specs.ReadingLines.{ReadingLines}
 use Rattle.nd_bundle.specs.Told.{reading_of}
-use Rattle.nd_bundle.specs.Settled.{links_in, AllNamesRise, AreFit, AreLinksSized, AreNeedsOfRows, ArePaired, AreSized, IsFit, IsGraphOfRows}
-use Rattle.nd_bundle.specs.Whole.{links_of, AllNumbered, IsWholeFault, Links}
-use Rattle.nd_bundle.specs.declared.fault.GraphError.{GraphError}
-use Rattle.nd_bundle.specs.declared.fault.GraphError.TheVariants as bundle
+use Rattle.nd_links.specs.Settled.{links_in, AllNamesRise, AreFit, AreLinksSized, AreNeedsOfRows, ArePaired, AreSized, IsFit, IsGraphOfRows}
+use Rattle.nd_links.specs.Whole.{links_of, AllNumbered, IsWholeFault, Links}
+use Rattle.nd_links.specs.declared.fault.GraphError.{GraphError}
+use Rattle.nd_links.specs.declared.fault.GraphError.TheVariants as bundle
 use Rattle.nd_line.specs.declared.line.LineNode.{LineNode}
 use Rattle.nd_line.specs.declared.refusal.LineError.{LineError}
 use Rattle.nd_line.specs.declared.refusal.LineError.TheVariants.{BadLine, BadPath, BadDerivation, UnknownOutput, BadAttribute, WrongPath, Memory}
 use Rattle.nd_bundle.proofs.Assembled.{links_sized, nodes_sound, rows_paired, rows_rising, rows_sized}
 use Rattle.nd_line.proofs.Rising.{names_rise}
-use Rattle.nd_bundle.proofs.Zipped.{zip_at, zip_length}
+use Rattle.nd_links.proofs.Zipped.{zip_at, zip_length}
 
 -- a line's node has as many output names as output paths, and its output names rise
 node_fit : (check : Bool) (line : List ℕ) (node : LineNode) → IsLine check line node → IsFit node

@@ -5,13 +5,13 @@ use Rattle.std.specs.List.{AllZip}
 use Rattle.nd_line.specs.declared.line.LineNode.{LineNode}
 use Rattle.nd_line.specs.declared.refusal.LineError.{LineError}
 use Rattle.nd_line.specs.declared.refusal.LineError.TheVariants as line_error
-use Rattle.nd_bundle.specs.declared.fault.GraphError.{GraphError}
-use Rattle.nd_bundle.specs.declared.fault.GraphError.TheVariants.{BadLine, BadPath, BadDerivation, UnknownOutput, BadAttribute, WrongPath, Duplicate, MissingInput, MissingOutput, Cycle, TooMany, Memory}
+use Rattle.nd_links.specs.declared.fault.GraphError.{GraphError}
+use Rattle.nd_links.specs.declared.fault.GraphError.TheVariants.{BadLine, BadPath, BadDerivation, UnknownOutput, BadAttribute, WrongPath, Duplicate, MissingInput, MissingOutput, Cycle, TooMany, Memory}
 use Rattle.nd_graph.specs.Graphs.{Nodes, rows_of, IsSound}
 use Rattle.nd_bundle.specs.Lines.{lines}
 use Rattle.nd_line.specs.Reads.{IsLine, IsFaulty}
 use Rattle.nd_graph.specs.Walks.{IsAcyclic}
-use Rattle.nd_bundle.specs.Whole.{links_of, IsGraphOf, IsWholeFault}
+use Rattle.nd_links.specs.Whole.{links_of, IsGraphOf, IsWholeFault}
 
 -- The graph of the bundle with this text; with the check each line's path is its own text path. No two lines have one
 -- path, each input and named output is there, there are at most 65,536 lines, and none needs itself.

@@ -5,8 +5,8 @@ use Rattle.nd_aterm.specs.declared.records.Parts.{Parts}
 use Rattle.nd_path.specs.StorePath.{is_name, ends_in_drv}
 use Rattle.nd_line.specs.Derived.{Derives, IsOwnPath}
 use Rattle.nd_line.specs.Kinds.{references}
-use Rattle.nd_bundle.specs.declared.fault.GraphError.{GraphError}
-use Rattle.nd_bundle.specs.declared.fault.GraphError.TheVariants.{BadLine, BadPath, BadDerivation, UnknownOutput, BadAttribute, WrongPath, Duplicate, MissingInput, MissingOutput, Cycle, TooMany, Memory}
+use Rattle.nd_links.specs.declared.fault.GraphError.{GraphError}
+use Rattle.nd_links.specs.declared.fault.GraphError.TheVariants.{BadLine, BadPath, BadDerivation, UnknownOutput, BadAttribute, WrongPath, Duplicate, MissingInput, MissingOutput, Cycle, TooMany, Memory}
 
 -- a store path's name that ends in `.drv`
 abbrev pub is_drv_name : List ℕ → Bool

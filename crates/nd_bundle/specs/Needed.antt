@@ -1,7 +1,7 @@
 -- What the derivations of a bundle need. Cited by the clauses of `NeedsReader`.
 use Rattle.std.specs.Prelude.{ℕ, Bool, List}
 use Rattle.nd_bundle.specs.Bundles.{IsBundle}
-use Rattle.nd_bundle.specs.Placing.{ArePlaced, Placed}
+use Rattle.nd_links.specs.Placing.{ArePlaced, Placed}
 use Rattle.nd_graph.specs.Graphs.{Nodes}
 
 -- the text is the bundle of a graph, whose derivations have these needs, in their order

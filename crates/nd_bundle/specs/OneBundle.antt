@@ -2,8 +2,8 @@
 use Rattle.std.specs.Prelude.{◌≡◌, ℕ, Bool, List, ◌⊎◌, Result, Err}
 use Rattle.nd_bundle.specs.Bundles.{IsBundle, IsBundleRefused, ReadsBundle}
 use Rattle.nd_graph.specs.Graphs.{Nodes}
-use Rattle.nd_bundle.specs.declared.fault.GraphError.{GraphError}
-use Rattle.nd_bundle.specs.declared.fault.GraphError.TheVariants as bundle
+use Rattle.nd_links.specs.declared.fault.GraphError.{GraphError}
+use Rattle.nd_links.specs.declared.fault.GraphError.TheVariants as bundle
 
 -- Two readings of a bundle are the same answer, unless one of them wants memory: the refusals exclude one another and
 -- the graph, and a bundle has one graph.

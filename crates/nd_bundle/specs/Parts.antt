@@ -3,16 +3,16 @@ use Rattle.std.specs.Prelude.{◌≡◌, ℕ, List, [], ◌∷◌, ◌++◌, Opt
 use Rattle.std.specs.List.{AllZip}
 use Rattle.std.specs.declared.alloc.AllocError.{AllocError}
 use Rattle.nd_bundle.specs.Bundles.{IsFirstFault}
-use Rattle.nd_bundle.specs.Columned.{SayNumbered, SayNumbers}
+use Rattle.nd_bundle.specs.Said.{SayNumbered, SayNumbers}
 use Rattle.nd_bundle.specs.Lines.{lines, lines_in}
 use Rattle.nd_bundle.specs.Pieces.{IsReadPiece, IsReadText}
 use Rattle.nd_bundle.specs.declared.ahead.Ahead.{Ahead}
-use Rattle.nd_bundle.specs.declared.details.Details.{Details}
-use Rattle.nd_bundle.specs.declared.fault.GraphError.{GraphError}
+use Rattle.nd_links.specs.declared.details.Details.{Details}
+use Rattle.nd_links.specs.declared.fault.GraphError.{GraphError}
 use Rattle.nd_bundle.specs.declared.found.Found.{Found}
 use Rattle.nd_bundle.specs.declared.found.Numbered.{Numbered}
 use Rattle.nd_bundle.specs.declared.manner.Manner.{Manner}
-use Rattle.nd_bundle.specs.declared.number.Numbers.{Numbers}
+use Rattle.nd_links.specs.declared.number.Numbers.{Numbers}
 use Rattle.nd_bundle.specs.declared.piece.Piece.{Piece}
 use Rattle.nd_bundle.specs.declared.progress.Progress.{Progress}
 use Rattle.nd_bundle.specs.declared.task.Task.{Task}

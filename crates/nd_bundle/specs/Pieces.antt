@@ -1,13 +1,11 @@
 -- What is read of the pieces of a bundle, and how it is put together. Serves proofs alone.
-use Rattle.std.specs.Prelude.{◌≡◌, ℕ, Bool, List, ◌∷◌, ◌++◌, Result, Ok, Err, Option, Some, None}
+use Rattle.std.specs.Prelude.{◌≡◌, ℕ, List, ◌∷◌, ◌++◌, Result, Ok, Err, Option, Some, None}
 use Rattle.std.specs.declared.alloc.AllocError.{AllocError}
 use Rattle.nd_line.specs.Reads.{IsFaulty}
-use Rattle.nd_line.specs.declared.line.LineNode.{LineNode}
 use Rattle.nd_line.specs.declared.refusal.LineError.{LineError}
-use Rattle.nd_bundle.specs.Columned.{HasDetails, SayColumns}
+use Rattle.nd_bundle.specs.Said.{SayColumns}
 use Rattle.nd_bundle.specs.Lines.{lines}
-use Rattle.nd_bundle.specs.declared.columns.Columns.{Columns}
-use Rattle.nd_bundle.specs.declared.details.Details.{Details}
+use Rattle.nd_links.specs.declared.columns.Columns.{Columns}
 use Rattle.nd_bundle.specs.declared.manner.Manner.{Manner}
 use Rattle.nd_bundle.specs.declared.piece.Piece.{Piece}
 
@@ -33,11 +31,3 @@ IsReadPiece manner ls (Err refused) = Unit {0}
 -- .. with this text
 abbrev pub IsReadText : Manner → List ℕ → Result Piece AllocError → Type 0
 IsReadText manner text piece = IsReadPiece manner (lines text) piece
-
--- the nodes are as they were
-pub record HasSameNodes (old new : Details) : Type 0 where
-  pub has : (whole : Bool) (nodes : List LineNode) → HasDetails whole nodes old → HasDetails whole nodes new
-
--- the nodes of the others stand behind the old ones
-pub record IsAppended (old others new : Details) : Type 0 where
-  pub has : (whole : Bool) (some more : List LineNode) → HasDetails whole some old → HasDetails whole more others → HasDetails whole (some ++ more) new

@@ -1,6 +1,6 @@
 -- What readers of a bundle whose text comes in parts show of the reader of its lines, and how they have it read. Serves proofs alone.
 use Rattle.std.specs.Prelude.{◌≡◌}
-use Rattle.nd_bundle.specs.Columned.{for_graph, for_needs}
+use Rattle.nd_bundle.specs.Said.{for_graph, for_needs}
 use Rattle.nd_bundle.specs.Reading.{Reading}
 use Rattle.nd_bundle.specs.ReadingLines.{ReadingLines}
 

@@ -5,11 +5,11 @@ ghost use Rattle.std.specs.VecDeque.{deque_len};
 ghost use Rattle.nd_bundle.specs.Parts.{IsReadFault, IsReadNowhere, IsReadNumbered, ReadsLines, ReadsTask, StaysRead};
 
 use crate::collect::{is_short, read_piece};
-use crate::fault::GraphError;
 use crate::found::{Found, Numbered};
 use crate::manner::Manner;
 use crate::part::Part;
 use crate::task::Task;
+use nd_links::GraphError;
 use rayon::current_num_threads;
 use std::alloc::{AllocError, Global};
 use std::collections::VecDeque;

@@ -1,15 +1,15 @@
 //! The reader of bundles.
 
 ghost use Rattle.std.specs.Prelude.{◌≡◌, IfOk, IfErr, MatchResult};
-ghost use Rattle.nd_bundle.specs.declared.fault.GraphError.{GraphError};
+ghost use Rattle.nd_links.specs.declared.fault.GraphError.{GraphError};
 ghost use Rattle.nd_bundle.specs.Bundles.{IsBundle, IsFirstFault};
 ghost use Rattle.nd_graph.specs.Graphs.{Nodes};
 
-use crate::fault::GraphError;
 use crate::found::read_lines_side_by_side;
 use crate::manner::Manner;
 use crate::whole::graph_side_by_side;
 use nd_graph::Graph;
+use nd_links::GraphError;
 use std::alloc::Global;
 use std::thread::Threads;
 

@@ -3,18 +3,16 @@
 ghost use Rattle.std.specs.Prelude.{map, IfErr, IfOk};
 ghost use Rattle.std.specs.List.{AllZip};
 ghost use Rattle.nd_bundle.specs.Bundles.{IsFirstFault};
-ghost use Rattle.nd_bundle.specs.Columned.{SayColumns};
+ghost use Rattle.nd_bundle.specs.Said.{SayColumns};
 ghost use Rattle.nd_bundle.specs.Lines.{lines};
 ghost use Rattle.nd_bundle.specs.Parts.{ArePieces};
 ghost use Rattle.nd_bundle.specs.Pieces.{IsReadText, IsReadTo};
 
-use crate::columns::Columns;
 use crate::cutting::{cut_lines, cut_pieces};
-use crate::fault::GraphError;
 use crate::manner::Manner;
 use crate::piece::Piece;
-use crate::pool::Pool;
 use nd_line::read_line;
+use nd_links::{Columns, GraphError, Pool};
 use rayon::current_num_threads;
 use rayon::prelude::*;
 use std::alloc::{AllocError, Global};
@@ -51,7 +49,7 @@ fn grow_heap(alloc: Global, size: usize) {
 }
 
 /// What the lines of a piece of a text say, up to the first that is refused.
-#[tactic(auto, using(crate::proofs::Taken::says_none, crate::proofs::Pieced::said_all))]
+#[tactic(auto, using(crate::proofs::Said::says_none, crate::proofs::Pieced::said_all))]
 pub(crate) fn read_piece(alloc: Global, text: &[u8], manner: Manner) -> Result<Piece, AllocError>
     ensures { IfOk result (λ piece. IsReadTo manner (lines text.now) piece.columns piece.refused) }
 {

@@ -1,11 +1,11 @@
 //! The store path of a derivation's text.
 
 ghost use Rattle.std.specs.Prelude.{◌≡◌, ℕ, List, IfOk, IfErr, MatchResult};
-ghost use Rattle.nd_bundle.specs.declared.fault.GraphError.{GraphError};
+ghost use Rattle.nd_links.specs.declared.fault.GraphError.{GraphError};
 ghost use Rattle.nd_bundle.specs.DrvPaths.{is_drv_name, IsDrvPath, HasNoDrvPath};
 
-use crate::fault::GraphError;
 use nd_line::path_of_text;
+use nd_links::GraphError;
 use nd_path::{StorePath, is_path_name};
 use std::alloc::Global;
 

@@ -2,18 +2,15 @@
 
 ghost use Rattle.std.specs.Prelude.{◌≡◌, Ok, None, IfErr, IfOk, OnOk};
 ghost use Rattle.nd_bundle.specs.Bundles.{IsFirstFault};
-ghost use Rattle.nd_bundle.specs.Columned.{SayNumbered};
+ghost use Rattle.nd_bundle.specs.Said.{SayNumbered};
 ghost use Rattle.nd_bundle.specs.Lines.{lines};
 ghost use Rattle.nd_bundle.specs.Parts.{IsFoundFault, IsFoundNowhere, IsFoundNumbered, Takes, TakesAll};
 
 use crate::collect::read_pieces;
-use crate::columns::Columns;
-use crate::details::Details;
-use crate::fault::GraphError;
 use crate::manner::Manner;
-use crate::number::Numbers;
 use crate::piece::Piece;
 use indexmap::IndexSet;
+use nd_links::{Columns, Details, GraphError, Numbers};
 use nd_path::StorePath;
 use std::alloc::{AllocError, Global};
 use std::thread::Threads;

@@ -2,14 +2,14 @@
 
 ghost use Rattle.std.specs.Prelude.{◌≡◌, ◌++◌, ◌≤◌, [], IfOk, IfErr, OnOk, length, take};
 ghost use Rattle.nd_bundle.specs.Bundles.{IsFirstFault};
-ghost use Rattle.nd_bundle.specs.Columned.{SayNumbered};
+ghost use Rattle.nd_bundle.specs.Said.{SayNumbered};
 ghost use Rattle.nd_bundle.specs.Lines.{lines};
 
-use crate::fault::GraphError;
 use crate::found::Numbered;
 use crate::manner::Manner;
 use crate::progress::Progress;
 use crate::so_far::SoFar;
+use nd_links::GraphError;
 use std::alloc::{AllocError, Global};
 use std::marker::Model;
 use std::thread::Threads;

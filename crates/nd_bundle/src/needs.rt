@@ -2,12 +2,11 @@
 
 ghost use Rattle.std.specs.Prelude.{◌≡◌};
 
-use crate::names::Names;
-use crate::shared_needs::SharedNeeds;
 use indexmap::IndexSet;
 use nd_bytes::Items;
 use nd_eligible::Need;
 use nd_graph::Input;
+use nd_links::{Names, SharedNeeds};
 use nd_path::StorePath;
 use std::marker::Model;
 
@@ -29,7 +28,7 @@ pub(crate) struct Unused {
 }
 
 impl Model for Needs {
-    ghost use Rattle.nd_bundle.specs.Placing.{Placed};
+    ghost use Rattle.nd_links.specs.Placing.{Placed};
 
     ghost Value = { Placed };
 

@@ -1,15 +1,15 @@
 //! The sequential reader of bundles: the clearest body of the reader's contract.
 
 ghost use Rattle.std.specs.Prelude.{◌≡◌, IfOk, IfErr, MatchResult};
-ghost use Rattle.nd_bundle.specs.declared.fault.GraphError.{GraphError};
+ghost use Rattle.nd_links.specs.declared.fault.GraphError.{GraphError};
 ghost use Rattle.nd_bundle.specs.Bundles.{IsBundle, IsFirstFault};
 ghost use Rattle.nd_graph.specs.Graphs.{Nodes};
 
 use crate::collect::read_lines;
-use crate::fault::GraphError;
 use crate::manner::Manner;
 use crate::whole::graph_of;
 use nd_graph::Graph;
+use nd_links::GraphError;
 use std::alloc::Global;
 
 /// The graph of a bundle: a line for each derivation, its path, a space and its text, the lines

@@ -6,10 +6,10 @@ ghost use Rattle.nd_bundle.specs.Parts.{GoesOn, IsFaultBy, IsReadBehind, IsSpent
 use crate::ahead::Ahead;
 use crate::collect::LONG;
 use crate::cutting::{cut_line, whole_lines};
-use crate::fault::GraphError;
 use crate::found::Numbered;
 use crate::manner::Manner;
 use crate::part::Part;
+use nd_links::GraphError;
 use std::alloc::{AllocError, Global};
 use std::mem;
 use std::thread::Threads;

@@ -1,15 +1,15 @@
 //! The reader of a bundle whose text comes in parts.
 
 ghost use Rattle.std.specs.Prelude.{◌≡◌, ◌++◌, ◌≤◌, [], IfOk, IfErr, MatchResult, OnOk, length, take};
-ghost use Rattle.nd_bundle.specs.declared.fault.GraphError.{GraphError};
+ghost use Rattle.nd_links.specs.declared.fault.GraphError.{GraphError};
 ghost use Rattle.nd_bundle.specs.Bundles.{IsBundle, IsFirstFault};
 ghost use Rattle.nd_graph.specs.Graphs.{Nodes};
 
-use crate::fault::GraphError;
 use crate::lines_reader::LinesReader;
 use crate::manner::Manner;
 use crate::whole::graph_side_by_side;
 use nd_graph::Graph;
+use nd_links::GraphError;
 use std::alloc::{AllocError, Global};
 use std::marker::Model;
 use std::thread::Threads;

@@ -3,26 +3,22 @@
 ghost use Rattle.std.specs.Prelude.{◌≡◌, ◌≤◌, length, IfOk, IfErr, OnOk};
 ghost use Rattle.nd_graph.specs.Graphs.{needed, node_limit, nodes_with, rows_of, IsSound};
 ghost use Rattle.nd_graph.specs.Walks.{AreDistinct, AreInRange, IsAcyclic};
-ghost use Rattle.nd_bundle.specs.Settled.{links_in, AllNamesRise, AreLinksSized, AreNeedsOfRows, AreSized, ArePaired, IsGraphOfRows, IsOrderedFault};
-ghost use Rattle.nd_bundle.specs.Whole.{IsWholeFault};
+ghost use Rattle.nd_links.specs.Settled.{links_in, AllNamesRise, AreLinksSized, AreNeedsOfRows, AreSized, ArePaired, IsGraphOfRows, IsOrderedFault};
+ghost use Rattle.nd_links.specs.Whole.{IsWholeFault};
 
-use crate::columns::Columns;
-use crate::details::Details;
-use crate::fault::GraphError;
 use crate::found::Numbered;
-use crate::linking::{link, link_side_by_side};
 use crate::needs::{Needs, Unused};
-use crate::number::number_all;
 use indexmap::IndexSet;
 use nd_bytes::Items;
 use nd_eligible::Need;
 use nd_graph::{Graph, Input, NODE_LIMIT, find_order};
+use nd_links::{Columns, Details, GraphError, link, link_side_by_side, number_all};
 use nd_path::StorePath;
 use std::alloc::Global;
 use std::thread::Threads;
 
 /// The graph of the nodes with these parts, or the first refusal over the whole.
-#[tactic(auto, using(crate::proofs::Gathered::whole_numbered))]
+#[tactic(auto, using(nd_links::proofs::Gathered::whole_numbered))]
 pub(crate) fn graph_of(alloc: Global, columns: Columns) -> Result<Graph, GraphError>
     requires sized { AreSized columns.paths.items columns.details }
     requires paired { ArePaired columns.details.names.items columns.details.outputs.items }
@@ -48,7 +44,7 @@ pub(crate) fn graph_of(alloc: Global, columns: Columns) -> Result<Graph, GraphEr
 }
 
 /// The same of nodes whose paths are numbered; many inputs are linked by as many threads as there are processors.
-#[tactic(auto, using(crate::proofs::Gathered::whole_numbered))]
+#[tactic(auto, using(nd_links::proofs::Gathered::whole_numbered))]
 pub(crate) fn graph_side_by_side(
     rt: &(impl Threads + Sync),
     alloc: Global,
@@ -78,7 +74,7 @@ pub(crate) fn graph_side_by_side(
 }
 
 /// The needs of nodes whose paths are numbered and of which there is a graph, or the first refusal over the whole.
-#[tactic(auto, using(crate::proofs::Gathered::whole_numbered))]
+#[tactic(auto, using(nd_links::proofs::Gathered::whole_numbered))]
 pub(crate) fn needs_side_by_side(
     rt: &(impl Threads + Sync),
     alloc: Global,

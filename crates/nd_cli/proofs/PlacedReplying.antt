@@ -8,7 +8,7 @@ use Rattle.nd_devices.specs.Written.{WritesPart}
 use Rattle.nd_machines.specs.Builders.{Builder}
 use Rattle.nd_eligible.specs.Settings.{Settings}
 use Rattle.nd_eligible.specs.declared.need.Need.{Need}
-use Rattle.nd_bundle.specs.Placing.{IsPlaced, Placed}
+use Rattle.nd_links.specs.Placing.{IsPlaced, Placed}
 use Rattle.nd_hook.specs.declared.kinds.Reply.{Reply}
 use Rattle.nd_hook.specs.Idle.{IsIdleReply}
 use Rattle.nd_hook.specs.ReplyText.{reply_text, IsInList}

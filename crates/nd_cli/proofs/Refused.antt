@@ -1,7 +1,7 @@
 -- What an input was refused for, by the readers of a bundle and of a park.
 use Rattle.std.proofs.Common.{◌≡◌, ◌⊎◌, ℕ, Bool, true, false, List, Option, Result, Ok, Err, IfErr, MatchResult, refl, sym, ap, inl, inr, true≢false}
 use Rattle.nd_devices.specs.Watched.{Watched}
-use Rattle.nd_bundle.specs.declared.fault.GraphError.{GraphError}
+use Rattle.nd_links.specs.declared.fault.GraphError.{GraphError}
 use Rattle.nd_closure.specs.declared.info_error.InfoError.{InfoError}
 use Rattle.nd_machines.specs.declared.machine_error.MachineError.{MachineError}
 use Rattle.nd_cli.specs.Asked.{RefusesPark, IsAskFault}

@@ -2,7 +2,7 @@
 use Rattle.std.specs.Prelude.{◌≡◌, ℕ, ◌<◌, ◌≤◌, List, length, Option, Some, Result, MatchResult}
 use Rattle.std.specs.Io.KnownBytes.{Consumes, IsAtEnd}
 use Rattle.nd_machines.specs.Builders.{Builder}
-use Rattle.nd_bundle.specs.Placing.{ArePlaced, Placed}
+use Rattle.nd_links.specs.Placing.{ArePlaced, Placed}
 use Rattle.nd_graph.specs.Graphs.{Nodes}
 use Rattle.nd_cli.specs.Inputs.{ReadsWhole}
 use Rattle.nd_cli.specs.Parks.{AreSameParts, HasGraph, HasPark}

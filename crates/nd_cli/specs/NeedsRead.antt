@@ -1,6 +1,6 @@
 -- What `ask` was given, of whose graph it has the needs alone. The clauses of `take_asked` cite this.
 use Rattle.std.specs.Prelude.{ℕ, List, Option}
-use Rattle.nd_bundle.specs.Placing.{ArePlaced}
+use Rattle.nd_links.specs.Placing.{ArePlaced}
 use Rattle.nd_graph.specs.Graphs.{Nodes}
 use Rattle.nd_cli.specs.Asked.{ReadsPark}
 use Rattle.nd_cli.specs.declared.options.ParkOptions.{ParkOptions}

@@ -7,7 +7,7 @@ use Rattle.nd_machines.specs.FeatureSets.{listed}
 use Rattle.nd_eligible.specs.Settings.{Settings}
 use Rattle.nd_graph.specs.Graphs.{Nodes}
 use Rattle.nd_bundle.specs.Bundles.{IsBundle, IsFirstFault}
-use Rattle.nd_bundle.specs.declared.fault.GraphError.{GraphError}
+use Rattle.nd_links.specs.declared.fault.GraphError.{GraphError}
 use Rattle.nd_bytes.specs.Lines.{lines_of}
 use Rattle.nd_closure.specs.Info.{AreListed, IsRefused}
 use Rattle.nd_closure.specs.declared.info_error.InfoError.{InfoError}

@@ -2,7 +2,7 @@
 -- cite this.
 use Rattle.std.specs.Prelude.{◌≡◌, ℕ, ◌<◌, ◌≤◌, Bool, true, List, [], ◌∷◌, ◌++◌, length, Option}
 use Rattle.std.specs.Io.KnownBytes.{Appends}
-use Rattle.nd_bundle.specs.declared.fault.GraphError.{GraphError}
+use Rattle.nd_links.specs.declared.fault.GraphError.{GraphError}
 use Rattle.nd_bundle.specs.DrvPaths.{IsDrvPath, HasNoDrvPath}
 use Rattle.nd_devices.specs.Watched.{Watched}
 use Rattle.nd_devices.specs.Written.{WritesPart}

@@ -4,7 +4,7 @@ use Rattle.std.specs.List.{AllZip}
 use Rattle.nd_machines.specs.Builders.{Builder}
 use Rattle.nd_eligible.specs.Settings.{Settings}
 use Rattle.nd_eligible.specs.declared.need.Need.{Need}
-use Rattle.nd_bundle.specs.Placing.{ArePlaced, Placed}
+use Rattle.nd_links.specs.Placing.{ArePlaced, Placed}
 use Rattle.nd_hook.specs.declared.kinds.Reply.{Reply}
 use Rattle.nd_hook.specs.Idle.{IsIdleReply}
 use Rattle.nd_cli.specs.Asks.{WritesReplies, WritesSomeReplies}

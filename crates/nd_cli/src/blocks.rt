@@ -1,7 +1,7 @@
 //! The graph of a bundle, or its needs, that is read from its input in blocks, so that its text is never in memory whole.
 
 ghost use Rattle.std.specs.Prelude.{◌≡◌, ◌++◌, ◌<◌, ◌≤◌, ◌||◌, ℕ, List, [], false, length, take, IfOk, IfErr, OnOk};
-ghost use Rattle.nd_bundle.specs.Placing.{ArePlaced};
+ghost use Rattle.nd_links.specs.Placing.{ArePlaced};
 ghost use Rattle.nd_graph.specs.Graphs.{Nodes};
 ghost use Rattle.nd_cli.specs.Asked.{IsAskFault};
 ghost use Rattle.nd_cli.specs.Blocks.{AnswersKnownGraph, AnswersKnownNeeds, HasNeedsWithin, ReadsGraph, ReadsNeeds, ReadsPart};

@@ -3,7 +3,7 @@
 use Rattle.std.specs.Prelude.{ℕ, List, codes}
 use Rattle.nd_cli.specs.declared.fault.DerivationError.{DerivationError}
 use Rattle.nd_cli.specs.declared.fault.HistoryTextError.{HistoryTextError}
-use Rattle.nd_bundle.specs.declared.fault.GraphError.{GraphError}
+use Rattle.nd_links.specs.declared.fault.GraphError.{GraphError}
 use Rattle.nd_machines.specs.declared.machine_error.MachineError.{MachineError}
 use Rattle.nd_closure.specs.declared.info_error.InfoError.{InfoError}
 use Rattle.nd_script.specs.declared.script_error.ScriptError.{ScriptError}

@@ -4,7 +4,7 @@ use Rattle.nd_cli.specs.declared.fault.Place.{Place}
 use Rattle.nd_cli.specs.declared.fault.HistoryTextError.{HistoryTextError}
 use Rattle.nd_cli.specs.declared.fault.CliFault.{CliFault}
 use Rattle.nd_cli.specs.declared.fault.CliFault.TheVariants.{Derivation, Drvs, Builders, Info, Script, Stand, History, TooLarge, TooManySlots, Read, Write, Memory, Thread, Receipts}
-use Rattle.nd_bundle.specs.declared.fault.GraphError.{GraphError}
+use Rattle.nd_links.specs.declared.fault.GraphError.{GraphError}
 use Rattle.nd_machines.specs.declared.machine_error.MachineError.{MachineError}
 use Rattle.nd_closure.specs.declared.info_error.InfoError.{InfoError}
 use Rattle.nd_script.specs.declared.script_error.ScriptError.{ScriptError}

@@ -2,8 +2,8 @@ use Rattle.std.proofs.Common.{Err}
 use Rattle.std.proofs.lemmas.Result.{err_from_is_err_and, IfErr-weaker}
 use Rattle.nd_bundle.specs.Bundles.{IsFirstFault}
 use Rattle.nd_bundle.specs.Lines.{lines}
-use Rattle.nd_bundle.specs.Settled.{links_in}
-use Rattle.nd_bundle.specs.Whole.{IsWholeFault}
+use Rattle.nd_links.specs.Settled.{links_in}
+use Rattle.nd_links.specs.Whole.{IsWholeFault}
 use Rattle.nd_bundle.proofs.OneBundle.{read_exactly}
 use Rattle.nd_bundle.proofs.Told.{numbered_bundle_of, numbered_fault, numbered_paired, numbered_rising}
 use Rattle.nd_bundle.proofs.bundle.read_bundle.Goals as goal

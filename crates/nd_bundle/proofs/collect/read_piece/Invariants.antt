@@ -1,5 +1,5 @@
 use Rattle.std.proofs.Common.{map, take}
-use Rattle.nd_bundle.specs.Columned.{SayColumns}
+use Rattle.nd_bundle.specs.Said.{SayColumns}
 use Rattle.nd_bundle.proofs.collect.read_piece.Given as goal
 
 abbrev pub invariant-loop-line : goal.invariant-loop-line

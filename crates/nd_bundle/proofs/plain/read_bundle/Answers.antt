@@ -1,8 +1,8 @@
 use Rattle.std.proofs.Common.{Err}
 use Rattle.std.proofs.lemmas.Result.{err_from_is_err_and, IfErr-weaker}
 use Rattle.nd_bundle.specs.Bundles.{IsFirstFault}
-use Rattle.nd_bundle.specs.Settled.{links_in}
-use Rattle.nd_bundle.specs.Whole.{IsWholeFault}
+use Rattle.nd_links.specs.Settled.{links_in}
+use Rattle.nd_links.specs.Whole.{IsWholeFault}
 use Rattle.nd_bundle.proofs.OneBundle.{read_exactly}
 use Rattle.nd_bundle.proofs.Told.{bundle_of, first_fault}
 use Rattle.nd_bundle.proofs.plain.read_bundle.Goals as goal

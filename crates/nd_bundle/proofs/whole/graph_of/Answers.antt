@@ -1,9 +1,9 @@
 use Rattle.std.proofs.Common.{◌≡◌, ℕ, List}
 use Rattle.std.proofs.lemmas.Result.{err_from_is_err_and, IfErr-weaker, IfOk-weaker}
 use Rattle.nd_graph.specs.Graphs.{nodes_with}
-use Rattle.nd_bundle.specs.Settled.{links_in, IsGraphOfRows, IsOrderedFault}
-use Rattle.nd_bundle.specs.Whole.{IsWholeFault}
-use Rattle.nd_bundle.specs.declared.details.Details.{Details}
+use Rattle.nd_links.specs.Settled.{links_in, IsGraphOfRows, IsOrderedFault}
+use Rattle.nd_links.specs.Whole.{IsWholeFault}
+use Rattle.nd_links.specs.declared.details.Details.{Details}
 use Rattle.nd_bundle.proofs.Placed.{are_numbers, graph_parts, in_range, ordered_fault, sound, unlinked_fault}
 use Rattle.nd_bundle.proofs.whole.graph_of.Goals as goal
 

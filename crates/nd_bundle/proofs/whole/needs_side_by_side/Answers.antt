@@ -1,8 +1,8 @@
 use Rattle.std.proofs.Common.{ℕ, List, refl, subst}
 use Rattle.std.proofs.lemmas.Result.{err_from_is_err_and}
 use Rattle.nd_graph.specs.declared.graph.Input.{Input}
-use Rattle.nd_bundle.specs.Settled.{IsOrderedFault}
-use Rattle.nd_bundle.specs.declared.details.Details.{Details}
+use Rattle.nd_links.specs.Settled.{IsOrderedFault}
+use Rattle.nd_links.specs.declared.details.Details.{Details}
 use Rattle.nd_bundle.proofs.Assembled.{numbered_ranged}
 use Rattle.nd_bundle.proofs.Placed.{are_numbers, ordered_fault}
 use Rattle.nd_bundle.proofs.whole.needs_side_by_side.Goals as goal

@@ -1,5 +1,5 @@
 use Rattle.std.proofs.Common.{◌≡◌, ℕ, List, sym, subst}
-use Rattle.nd_bundle.specs.Placing.{ArePlaced}
+use Rattle.nd_links.specs.Placing.{ArePlaced}
 use Rattle.nd_cli.specs.Parks.{HasGraph}
 use Rattle.nd_cli.proofs.Refused.{known_answer}
 use Rattle.nd_cli.proofs.Whole.{whole_read}

@@ -1,8 +1,8 @@
 use Rattle.std.proofs.Common.{ℕ, Option, Some, Ok, refl, sym, ap, subst, ◌∙◌}
 use Rattle.nd_line.specs.declared.refusal.LineError.{LineError}
-use Rattle.nd_bundle.specs.Numbered.{fault_at}
+use Rattle.nd_links.specs.Numbered.{fault_at}
 use Rattle.nd_bundle.specs.Parts.{Takes}
-use Rattle.nd_bundle.specs.declared.columns.Columns.{Columns}
+use Rattle.nd_links.specs.declared.columns.Columns.{Columns}
 use Rattle.nd_bundle.specs.declared.found.Found.{Found}
 use Rattle.nd_bundle.proofs.Parted.{takes_refused, takes_said}
 use Rattle.nd_bundle.proofs.found.Found.add.Goals as goal

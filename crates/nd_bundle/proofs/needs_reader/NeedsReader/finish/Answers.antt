@@ -1,10 +1,10 @@
 use Rattle.std.proofs.Common.{Err}
 use Rattle.std.proofs.lemmas.Result.{err_from_is_err_and, IfErr-weaker}
 use Rattle.nd_bundle.specs.Bundles.{IsFirstFault}
-use Rattle.nd_bundle.specs.Columned.{for_needs}
+use Rattle.nd_bundle.specs.Said.{for_needs}
 use Rattle.nd_bundle.specs.Lines.{lines}
-use Rattle.nd_bundle.specs.Settled.{links_in}
-use Rattle.nd_bundle.specs.Whole.{IsWholeFault}
+use Rattle.nd_links.specs.Settled.{links_in}
+use Rattle.nd_links.specs.Whole.{IsWholeFault}
 use Rattle.nd_bundle.proofs.OneBundle.{needs_exactly}
 use Rattle.nd_bundle.proofs.Told.{fault_as, has_needs_of, needs_distinct, needs_fault, needs_rising, needs_sized, says_as}
 use Rattle.nd_bundle.proofs.needs_reader.NeedsReader.finish.Goals as goal

@@ -1,5 +1,0 @@
-use Rattle.std.proofs.Common.{◌≡◌, ◌++◌, drop}
-use Rattle.nd_bundle.proofs.pool.Pool.list_names.Given as goal
-
-abbrev pub invariant-loop-leaf : goal.invariant-loop-leaf
-invariant-loop-leaf l = l.names.items ++ drop l.leaf-index l.leaves ≡ l.leaves

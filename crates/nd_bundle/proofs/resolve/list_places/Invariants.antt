@@ -1,6 +1,0 @@
-use Rattle.std.proofs.Common.{take}
-use Rattle.nd_bundle.specs.Whole.{ArePlaces}
-use Rattle.nd_bundle.proofs.resolve.list_places.Given as goal
-
-abbrev pub invariant-loop-name : goal.invariant-loop-name
-invariant-loop-name l = ArePlaces l.names (take l.name-index l.wanted) l.places.items

@@ -1,5 +1,0 @@
-use Rattle.nd_bundle.proofs.Placing.{same_set}
-use Rattle.nd_bundle.proofs.shared_needs.is_same_set.Goals as goal
-
-pub returns : goal.returns
-returns c = same_set c.args.one.now c.args.other.now c.eq.result c.eq.ensures

@@ -1,0 +1,9 @@
+pub mod Columned
+pub mod Linking
+pub mod Names
+pub mod Naming
+pub mod Numbered
+pub mod Numbering
+pub mod Placing
+pub mod Settled
+pub mod Whole
