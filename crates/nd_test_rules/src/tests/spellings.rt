@@ -4,7 +4,8 @@ ghost use Rattle.std.specs.Prelude.{true};
 
 use crate::tests::derivation_texts::joined;
 use nd_aterm::{
-    AtermError, Derivation, PartsView, SelectedView, Selection, parse, parse_selected, parse_view,
+    AtermError, Derivation, EnvEntry, EnvEntryView, PartsView, SelectedView, Selection, parse,
+    parse_selected, parse_view,
 };
 use std::alloc::{AllocError, Global};
 
@@ -101,24 +102,34 @@ fn drawn(alloc: Global, seed: u64) -> Result<Spelled, AllocError> {
     Ok(spelled)
 }
 
+/// Whether there is one variable, borrowed, which has the value.
+fn is_one_view(env: &[EnvEntryView<'_>], value: &[u8]) -> bool {
+    match env {
+        [variable] => variable.value.as_slice() == value,
+        _ => false,
+    }
+}
+
 /// Whether this is a derivation with one variable, which has the value.
 fn is_owned(answer: Result<Derivation, AtermError>, value: &[u8]) -> bool {
     match answer {
-        Ok(derivation) => match derivation.parts.env.as_slice() {
-            [variable] => variable.value.as_slice() == value,
-            _ => false,
-        },
+        Ok(derivation) => is_one(derivation.parts.env.as_slice(), value),
         Err(_) => false,
+    }
+}
+
+/// Whether there is one variable, which has the value.
+fn is_one(env: &[EnvEntry], value: &[u8]) -> bool {
+    match env {
+        [variable] => variable.value.as_slice() == value,
+        _ => false,
     }
 }
 
 /// Whether these are the parts of one.
 fn is_viewed(answer: Result<PartsView<'_>, AtermError>, value: &[u8]) -> bool {
     match answer {
-        Ok(parts) => match parts.env.as_slice() {
-            [variable] => variable.value.as_slice() == value,
-            _ => false,
-        },
+        Ok(parts) => is_one_view(parts.env.as_slice(), value),
         Err(_) => false,
     }
 }
@@ -126,10 +137,7 @@ fn is_viewed(answer: Result<PartsView<'_>, AtermError>, value: &[u8]) -> bool {
 /// Whether this is what is selected of one.
 fn is_selected(answer: Result<SelectedView<'_>, AtermError>, value: &[u8]) -> bool {
     match answer {
-        Ok(selected) => match selected.env.as_slice() {
-            [variable] => variable.value.as_slice() == value,
-            _ => false,
-        },
+        Ok(selected) => is_one_view(selected.env.as_slice(), value),
         Err(_) => false,
     }
 }
