@@ -25,11 +25,12 @@
 #                  full disks, signals, kills and silence; needs what ssh-park.sh needs and a shell `dash`, and takes some
 #                  twenty-five minutes
 # ssh-park.sh      the same graph on machines behind ssh; needs what real-park.sh needs, and OpenSSH's sshd
+# bodies-apply.py  each wrong body can still be applied; needs Python 3
 # allocations.sh   each allocation refused in turn; needs the built program, a C compiler, and the tests of
 #                  `nd_test_ledger` that `rt test` leaves in its folder
 # worlds.py        2,048 random worlds by the plain rules, beside the table of the tests and the program; needs
 #                  the built program and Python 3
-# wrong-bodies.sh  the wrong bodies that the gate leaves out; needs the toolchain, and takes hours, so it is
+# wrong-bodies.sh  the wrong bodies, in the gate and beside it; needs the toolchain, and takes hours, so it is
 #                  run with --long alone
 #
 # `./build` builds the program. Another check that is put beside these is run where the program is built.
@@ -51,6 +52,7 @@ needs_of() {
   case $1 in
     allocations.sh) echo program cc tests ;;
     examples.py|runs.py|worlds.py|serve.sh) echo program python3 ;;
+    bodies-apply.py) echo python3 ;;
     durable.py) echo program python3 strace ;;
     faults.py) echo program python3 cc ;;
     journal.py) echo program python3 cc root ;;
@@ -58,7 +60,7 @@ needs_of() {
     real-park.sh) echo program nix-store busybox python3 root ;;
     bad-day.sh) echo program nix-store busybox python3 root ssh-keygen sshd dash ;;
     ssh-park.sh) echo program nix-store busybox python3 root ssh-keygen sshd ;;
-    wrong-bodies.sh) echo rt git time ;;
+    wrong-bodies.sh) echo rt git tar time ;;
     *) echo program ;;
   esac
 }
