@@ -127,26 +127,27 @@ def side_by_side(folder):
     print(f"64 slots: {len(wrong)} of {size} builds with wrong references, each told as such, and no other")
 
 
+def refuse_thread(folder, library, park, bundle, number, words):
+    """A run with these words more, of which this thread is refused."""
+    ended = program(["run", *park, *words], bundle, LD_PRELOAD=library, REFUSE_THREAD=str(number))
+    history = ended.stdout.decode()
+    if ended.returncode != 5 or ended.stderr.decode() != "nix-dispatch: thread not started\n":
+        sys.exit(f"thread {number}: status {ended.returncode}, {ended.stderr.decode()}")
+    if "\nstop\n" not in history or not is_legal(park, bundle, folder, history):
+        sys.exit(f"thread {number}: its history has no stop or isn't legal")
+
+
 def threads(folder):
-    """A thread that the system refuses: the first of a worker, later ones and the last. With a journal each stand-in has
-    a thread of its own, and the first thread is the scribe's; without one none is started."""
+    """A thread that the system refuses: the first of a worker, later ones and the last. With a journal the first thread
+    is the scribe's."""
     library = os.path.join(folder, "refuse.so")
     subprocess.run(["cc", "-shared", "-fPIC", "-O1", "-o", library, os.path.join(HERE, "refuse.c"), "-ldl"], check=True)
     bundle = written(folder, "bundle", bench.plain(200))
     park = ["--builders", "m - - 8", "--jobs", "0"]
-    for number in (2, 3, 6, 9):
-        journal = os.path.join(folder, f"journal-{number}")
-        words = ["run", *park, "--journal", journal]
-        ended = program(words, bundle, LD_PRELOAD=library, REFUSE_THREAD=str(number))
-        history = ended.stdout.decode()
-        if ended.returncode != 5 or ended.stderr.decode() != "nix-dispatch: thread not started\n":
-            sys.exit(f"thread {number}: status {ended.returncode}, {ended.stderr.decode()}")
-        if "\nstop\n" not in history or not is_legal(park, bundle, folder, history):
-            sys.exit(f"thread {number}: its history has no stop or isn't legal")
-    alone = program(["run", *park], bundle, LD_PRELOAD=library, REFUSE_THREAD="1")
-    if alone.returncode != 0 or alone.stderr or alone.stdout.decode().count("\nbuilt ") != 200:
-        sys.exit(f"without a journal: status {alone.returncode}, {alone.stderr.decode()}")
-    print("threads: four refused ones, each told as such, with a stop in a legal history; none is wanted without a journal")
+    for number in (1, 2, 5, 8):
+        refuse_thread(folder, library, park, bundle, number, [])
+        refuse_thread(folder, library, park, bundle, number + 1, ["--journal", os.path.join(folder, f"journal-{number}")])
+    print("threads: four refused ones, without a journal and with one, each told as such, with a stop in a legal history")
     return library
 
 

@@ -1,8 +1,7 @@
 #!/usr/bin/env python3
 """Runs of the built program whose histories are looked at: the bundled example on its machines, and 2,000
-derivations on 64 slots, by one thread for all stand-ins, twice, and with a journal by one for each, twenty
-times. Each must end without a fault, build everything, and write a history of which `audit` says that it is
-legal; the two by one thread have the same history.
+derivations on 64 slots, twenty times, and four times with a journal. Each must end without a fault, build
+everything, and write a history of which `audit` says that it is legal.
 
     python3 checks/runs.py
 """
@@ -26,7 +25,7 @@ def program(words, bundle):
 
 
 def look_at(name, park, bundle, size, folder, more=()):
-    """One run over the bundle, with these words more, and the audit of its history, which it gives."""
+    """One run over the bundle, with these words more, and the audit of its history: how many entries that has."""
     ended = program(["run", *park, *more], bundle)
     if ended.returncode or ended.stderr:
         sys.exit(f"{name}: status {ended.returncode}, {ended.stderr.decode()}")
@@ -40,7 +39,7 @@ def look_at(name, park, bundle, size, folder, more=()):
     entries = len(ended.stdout.splitlines()) - 1
     if verdict != f"legal {entries}":
         sys.exit(f"{name}: {verdict}")
-    return ended.stdout
+    return entries
 
 
 def main():
@@ -48,19 +47,19 @@ def main():
         farm = os.path.join(ROOT, "examples", "farm")
         # the local machine makes the disk image that no builder can
         park = ["--builders", f"@{farm}/builders", "--extra", "aarch64-linux", "--features", "kvm,nixos-test"]
-        entries = len(look_at("farm", park, f"{farm}/bundle", 21, folder).splitlines()) - 1
+        entries = look_at("farm", park, f"{farm}/bundle", 21, folder)
         print(f"farm: 21 of 21 built, a legal history of {entries} entries")
         bundle = os.path.join(folder, "bundle")
         with open(bundle, "w", encoding="ascii") as out:
             out.write(bench.plain(2_000))
         park = ["--builders", "m - - 64", "--jobs", "0"]
         name = "2,000 on 64 slots"
-        if look_at(name, park, bundle, 2_000, folder) != look_at(name, park, bundle, 2_000, folder):
-            sys.exit(f"{name}: two runs by one thread have two histories")
-        for number in range(20):
+        for _ in range(20):
+            look_at(name, park, bundle, 2_000, folder)
+        for number in range(4):
             journal = os.path.join(folder, f"journal-{number}")
-            look_at(f"{name}, by threads", park, bundle, 2_000, folder, ["--journal", journal])
-        print("2,000 derivations on 64 slots: 2 runs by one thread and 20 by 64, each built all and wrote a legal history")
+            look_at(f"{name}, with a journal", park, bundle, 2_000, folder, ["--journal", journal])
+        print("2,000 derivations on 64 slots: 20 runs, and 4 with a journal, each built all and wrote a legal history")
 
 
 if __name__ == "__main__":

@@ -8,9 +8,9 @@ use nd_commands::{audit_engine, sim_engine};
 use nd_devices::Told;
 use nd_keeping::NoJournal;
 use nd_ledger::Dispatch;
-use nd_run_command::{RunInputs, forgetful_stand_ins, run_alone_engine, run_inputs};
+use nd_run_command::{RunInputs, run_engine, run_inputs, stand_ins};
 use nd_serve_command::{Devices, Opened, open_session, serve_engine};
-use nd_transports::ForgetfulStandIn;
+use nd_transports::StandIn;
 use nd_workers::Seat;
 use std::alloc::Global;
 use std::mem;
@@ -77,7 +77,7 @@ pub(crate) fn run<R: Threads + Wait + Sync>(
         Ok(given) => given,
         Err(_) => return None,
     };
-    match forgetful_stand_ins(alloc, &dispatch, rules) {
+    match stand_ins(alloc, &dispatch, rules) {
         Ok(seats) => run_seated(rt, alloc, dispatch, seats),
         Err(_) => {
             mem::forget(dispatch);
@@ -91,12 +91,12 @@ fn run_seated<R: Threads + Wait + Sync>(
     rt: &R,
     alloc: Global,
     dispatch: Dispatch,
-    seats: Vec<Seat<ForgetfulStandIn>>,
+    seats: Vec<Seat<StandIn>>,
 ) -> Option<Vec<u8>>
     requires manned { AreManned dispatch.inputs (map (λ w. w.place) seats.items) }
 {
     let mut output = Told::new(Vec::new(alloc));
-    match run_alone_engine(rt, dispatch, seats, true, &mut output) {
+    match run_engine(rt, dispatch, seats, true, &mut output) {
         Ok(_) => Some(output.into_inner()),
         Err(_) => None,
     }

@@ -86,7 +86,7 @@ fn run_placed<'a, R: Files<File = File> + Print + AllocGlobal + Threads + Wait +
     requires { AreManned opened.dispatch.inputs places.items }
 {
     match agents_on(rt, alloc, folder, places) {
-        Ok(agents) => run_workers(rt, alloc, opened, agents, journal, false, report),
+        Ok(agents) => run_workers(rt, alloc, opened, agents, journal, report),
         Err(failure) => {
             mem::forget(opened);
             mem::forget(journal);

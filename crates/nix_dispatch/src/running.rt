@@ -10,7 +10,7 @@ use nd_command_line::write_failure;
 use nd_devices::Told;
 use nd_explain::{Failure, Heard};
 use nd_kept_run::{KeptEnd, run_kept_engine};
-use nd_run_command::{run_alone_engine, run_engine};
+use nd_run_command::run_engine;
 use nd_serve_command::{Opened, ServeFault};
 use nd_transports::Transport;
 use nd_workers::Seat;
@@ -22,15 +22,13 @@ use std::sync::Wait;
 use std::thread::Threads;
 
 /// Runs what was opened by these workers, who man its park, with this journal, and writes the history to standard
-/// output, and where asked the report. Where their transports are `prompt`, so that none waits for anything, and there
-/// is no journal to wait for either, this thread does the work of all.
+/// output, and where asked the report.
 pub(crate) fn run_workers<'a, T: Transport, R: Print + AllocGlobal + Threads + Wait + Sync>(
     rt: &R,
     alloc: Global,
     opened: Opened,
     workers: Vec<Seat<T>>,
     journal: Kept<'a, File>,
-    prompt: bool,
     report: bool,
 ) -> Result<u8, Ending<'a>>
     requires manned { AreManned opened.dispatch.inputs (map (λ w. w.place) workers.items) }
@@ -46,11 +44,7 @@ pub(crate) fn run_workers<'a, T: Transport, R: Print + AllocGlobal + Threads + W
     match journal {
         Kept::Nowhere => {
             let Opened { dispatch, kept: _ } = opened;
-            let answer = if prompt {
-                run_alone_engine(rt, dispatch, workers, report, &mut output)
-            } else {
-                run_engine(rt, dispatch, workers, report, &mut output)
-            };
+            let answer = run_engine(rt, dispatch, workers, report, &mut output);
             common(ended(answer, output.into_inner()))
         }
         journal => {

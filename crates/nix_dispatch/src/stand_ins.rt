@@ -6,7 +6,7 @@ use crate::endings::Ending;
 use crate::running::run_workers;
 use clap::ArgMatches;
 use nd_command_line::placed;
-use nd_run_command::forgetful_stand_ins;
+use nd_run_command::stand_ins;
 use std::alloc::Global;
 use std::fs::File;
 use std::mem;
@@ -25,14 +25,13 @@ pub(crate) fn run_stand_ins<
         rules,
         journal,
     } = begin(rt, alloc, options)?;
-    match forgetful_stand_ins(alloc, &opened.dispatch, rules) {
+    match stand_ins(alloc, &opened.dispatch, rules) {
         Ok(seats) => run_workers(
             rt,
             alloc,
             opened,
             seats,
             journal,
-            true,
             options.get_flag("report"),
         ),
         Err(fault) => {
