@@ -1,13 +1,12 @@
 //! The tests, by what they are about, and what they share.
 
 mod agents;
-mod alone;
 mod draws;
 mod meeting;
 mod parks;
 mod punishing;
-mod rehearsing;
 mod rows;
 mod runs;
+mod several;
 mod stand_ins;
 mod worlds;

@@ -1,6 +1,6 @@
 //! Runs whose machines are agents, with the calls and the answers as bytes in memory.
 
-use crate::tests::parks::{By, at, close_refused, close_run, dispatch, ran};
+use crate::tests::parks::{at, close_refused, close_run, dispatch, ran};
 use crate::tests::runs::{blown, has_lines};
 use nd_agents::Agent;
 use nd_ledger::Dispatch;
@@ -77,7 +77,7 @@ fn gives<R: Threads + Wait + Sync>(
     let Some(opened) = opened else {
         return false;
     };
-    match ran(rt, By::Threads, opened, agents(alloc, scripts)) {
+    match ran(rt, opened, agents(alloc, scripts)) {
         Ok(end) => is_end(alloc, end, lines),
         Err(refused) => {
             close_refused(refused);

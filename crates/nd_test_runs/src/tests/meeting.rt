@@ -3,7 +3,7 @@
 ghost use Rattle.std.specs.Prelude.{◌≡◌};
 ghost use Rattle.nd_transports.specs.Calls.{Builds};
 
-use crate::tests::parks::{By, at, dispatch, ran, stand_in};
+use crate::tests::parks::{at, dispatch, ran, stand_in};
 use nd_closure::Refs;
 use nd_ledger::Job;
 use nd_receipts::ParkPlace;
@@ -153,7 +153,7 @@ fn built_in(end: Ran<Meets>) -> Option<usize> {
 /// How many derivations three workers that meet build, where the run ends without a fault.
 fn built<R: Threads + Wait + Sync>(rt: &R, alloc: Global) -> Option<usize> {
     let opened = dispatch(alloc, PLAIN_3, "m - - 2;n")?;
-    match ran(rt, By::Threads, opened, seats(alloc)) {
+    match ran(rt, opened, seats(alloc)) {
         Ok(end) => built_in(end),
         Err(refused) => {
             close(refused.dispatch);

@@ -1,7 +1,7 @@
 //! Two inputs that punish a shortcut, at a small size: each derivation needs a feature of its own, which
 //! one machine of several has; and groups that all wait for one slot while another machine frees many.
 
-use crate::tests::parks::{By, at, close_refused, close_run, dispatch, ran, stand_at};
+use crate::tests::parks::{at, close_refused, close_run, dispatch, ran, stand_at};
 use nd_receipts::ParkPlace;
 use nd_script::Rule;
 use nd_transports::StandIn;
@@ -66,14 +66,13 @@ fn built_in(end: Ran<StandIn>) -> Option<usize> {
 /// How many derivations of a bundle a run by workers on these places builds, where it finishes.
 fn built<R: Threads + Wait + Sync>(
     rt: &R,
-    by: By,
     alloc: Global,
     bundle: &str,
     builders: &str,
     places: &[ParkPlace],
 ) -> Option<usize> {
     let opened = dispatch(alloc, bundle, builders)?;
-    match ran(rt, by, opened, workers(alloc, places)) {
+    match ran(rt, opened, workers(alloc, places)) {
         Ok(end) => built_in(end),
         Err(refused) => {
             close_refused(refused);
@@ -89,17 +88,16 @@ const FEATURES: &str =
 /// How many of sixteen derivations are built of which each needs a feature of its own.
 pub(crate) fn built_by_feature<R: Threads + Wait + Sync>(
     rt: &R,
-    by: By,
     alloc: Global,
 ) -> Option<usize> {
     let text = bundle(alloc, 16, 16)?;
     let places = [at(1, 0), at(2, 0), at(3, 0), at(4, 0)];
-    built(rt, by, alloc, text.as_str(), FEATURES, &places)
+    built(rt, alloc, text.as_str(), FEATURES, &places)
 }
 
 #[test]
 fn a_feature_for_each(rt: HostRuntime) {
-    assert_eq!(rt; built_by_feature(&rt, By::Threads, rt.alloc()), Some(16));
+    assert_eq!(rt; built_by_feature(&rt, rt.alloc()), Some(16));
 }
 
 /// A machine with one slot that alone has eight features, and one with three slots.
@@ -108,15 +106,14 @@ const GROUPS: &str = "a - - 1 1 f0,f1,f2,f3,f4,f5,f6,f7;b - - 3 1000";
 /// How many of 72 derivations are built of which eight wait for one slot.
 pub(crate) fn built_in_groups<R: Threads + Wait + Sync>(
     rt: &R,
-    by: By,
     alloc: Global,
 ) -> Option<usize> {
     let text = bundle(alloc, 72, 8)?;
     let places = [at(1, 0), at(2, 0), at(2, 1), at(2, 2)];
-    built(rt, by, alloc, text.as_str(), GROUPS, &places)
+    built(rt, alloc, text.as_str(), GROUPS, &places)
 }
 
 #[test]
 fn groups_wait_for_one_slot(rt: HostRuntime) {
-    assert_eq!(rt; built_in_groups(&rt, By::Threads, rt.alloc()), Some(72));
+    assert_eq!(rt; built_in_groups(&rt, rt.alloc()), Some(72));
 }

@@ -1,7 +1,7 @@
 //! The worked examples of runs.
 
 use crate::tests::parks::{
-    By, EitherStandIn, close_refused, close_run, dispatch, ran, stand_at, stand_in, stands,
+    close_refused, close_run, dispatch, ran, stand_at, stand_in, stands,
 };
 use nd_closure::Refs;
 use nd_ledger::Dispatch;
@@ -12,7 +12,7 @@ use nd_script::Rule;
 use nd_test_fixtures::bundles::{CHAIN, PLAIN_1, PLAIN_2, S3};
 use nd_test_fixtures::entries::told;
 use nd_test_fixtures::parks::close;
-use nd_transports::{ForgetfulStandIn, StandIn, Transport};
+use nd_transports::{StandIn, Transport};
 use nd_workers::{NotRun, Ran, RunError, Seat};
 use std::alloc::Global;
 use std::sync::Wait;
@@ -96,9 +96,9 @@ fn rule_of(alloc: Global, stand: Stand) -> Option<Rule> {
 }
 
 /// Puts a worker on this place, whose stand-in does so.
-fn push_worker<S: EitherStandIn>(
+fn push_worker(
     alloc: Global,
-    seats: &mut Vec<Seat<S>>,
+    seats: &mut Vec<Seat<StandIn>>,
     place: ParkPlace,
     stand: Stand,
 ) -> Option<()> {
@@ -111,11 +111,7 @@ fn push_worker<S: EitherStandIn>(
 }
 
 /// Workers on these places, whose stand-ins do so; fewer where memory is wanting.
-pub(crate) fn workers<S: EitherStandIn>(
-    alloc: Global,
-    places: &[ParkPlace],
-    stand: Stand,
-) -> Vec<Seat<S>> {
+pub(crate) fn workers(alloc: Global, places: &[ParkPlace], stand: Stand) -> Vec<Seat<StandIn>> {
     let mut seats = Vec::new(alloc);
     for place in places {
         push_worker(alloc, &mut seats, *place, stand);
@@ -142,7 +138,7 @@ pub(crate) const ONE: [ParkPlace; 1] = [FIRST];
 pub(crate) const TWO: [ParkPlace; 2] = [FIRST, SECOND];
 
 /// Whether a run ended without a fault and with these lines.
-pub(crate) fn is_end<S: EitherStandIn>(alloc: Global, end: Ran<S>, lines: &str) -> bool {
+pub(crate) fn is_end(alloc: Global, end: Ran<StandIn>, lines: &str) -> bool {
     let right = end.fault.is_none() && has_lines(alloc, &end.dispatch, lines);
     close_run(end);
     right
@@ -151,20 +147,6 @@ pub(crate) fn is_end<S: EitherStandIn>(alloc: Global, end: Ran<S>, lines: &str) 
 /// Whether a run of this dispatch ends without a fault and with these lines.
 pub(crate) fn gives<R: Threads + Wait + Sync>(
     rt: &R,
-    by: By,
-    alloc: Global,
-    opened: Option<Dispatch>,
-    places: &[ParkPlace],
-    stand: Stand,
-    lines: &str,
-) -> bool {
-    gives_by::<StandIn, R>(rt, by, alloc, opened, places, stand, lines)
-}
-
-/// The same, by stand-ins of this kind.
-fn gives_by<S: EitherStandIn, R: Threads + Wait + Sync>(
-    rt: &R,
-    by: By,
     alloc: Global,
     opened: Option<Dispatch>,
     places: &[ParkPlace],
@@ -174,7 +156,7 @@ fn gives_by<S: EitherStandIn, R: Threads + Wait + Sync>(
     let Some(opened) = opened else {
         return false;
     };
-    match ran(rt, by, opened, workers::<S>(alloc, places, stand)) {
+    match ran(rt, opened, workers(alloc, places, stand)) {
         Ok(end) => is_end(alloc, end, lines),
         Err(refused) => {
             close_refused(refused);
@@ -192,30 +174,16 @@ pub(crate) struct Example {
     pub(crate) lines: &'static str,
 }
 
-/// Whether the runs of these examples by workers on these places end without a fault and with their lines, by stand-ins
-/// that keep their calls and by such that forget them.
-pub(crate) fn are_given<R: Threads + Wait + Sync>(
+/// Whether the runs of these examples by workers on these places end without a fault and with their lines.
+fn are_given<R: Threads + Wait + Sync>(
     rt: &R,
-    by: By,
-    alloc: Global,
-    places: &[ParkPlace],
-    examples: &[Example],
-) -> bool {
-    are_given_by::<StandIn, R>(rt, by, alloc, places, examples)
-        && are_given_by::<ForgetfulStandIn, R>(rt, by, alloc, places, examples)
-}
-
-/// The same, by stand-ins of this kind.
-fn are_given_by<S: EitherStandIn, R: Threads + Wait + Sync>(
-    rt: &R,
-    by: By,
     alloc: Global,
     places: &[ParkPlace],
     examples: &[Example],
 ) -> bool {
     for example in examples {
         let opened = dispatch(alloc, example.bundle, example.builders);
-        if !gives_by::<S, R>(rt, by, alloc, opened, places, example.stand, example.lines) {
+        if !gives(rt, alloc, opened, places, example.stand, example.lines) {
             return false;
         }
     }
@@ -239,7 +207,6 @@ pub(crate) fn are_receipts(
 /// Whether these are the receipts of the two workers of a run of this dispatch.
 pub(crate) fn gives_receipts<R: Threads + Wait + Sync>(
     rt: &R,
-    by: By,
     opened: Option<Dispatch>,
     seats: Vec<Seat<StandIn>>,
     first: &[(usize, u8)],
@@ -248,7 +215,7 @@ pub(crate) fn gives_receipts<R: Threads + Wait + Sync>(
     let Some(opened) = opened else {
         return false;
     };
-    match ran(rt, by, opened, seats) {
+    match ran(rt, opened, seats) {
         Ok(end) => {
             let right = are_receipts(end.receipts.as_slice(), first, second);
             close_run(end);
@@ -265,7 +232,6 @@ pub(crate) fn gives_receipts<R: Threads + Wait + Sync>(
 /// those of a build.
 fn builds_elsewhere<R: Threads + Wait + Sync>(
     rt: &R,
-    by: By,
     alloc: Global,
     stand: Stand,
     first: &[(usize, u8)],
@@ -273,7 +239,6 @@ fn builds_elsewhere<R: Threads + Wait + Sync>(
     let plain = dispatch(alloc, PLAIN_1, "m;n");
     gives_receipts(
         rt,
-        by,
         plain,
         workers(alloc, &TWO, stand),
         first,
@@ -284,11 +249,10 @@ fn builds_elsewhere<R: Threads + Wait + Sync>(
 /// Whether the worker of machine 1 has a receipt of its one call or its two where these are refused.
 pub(crate) fn gives_refused_receipts<R: Threads + Wait + Sync>(
     rt: &R,
-    by: By,
     alloc: Global,
 ) -> bool {
-    builds_elsewhere(rt, by, alloc, Stand::NoConnect(1), &[(1, 1)])
-        && builds_elsewhere(rt, by, alloc, Stand::NoCopy(1), &[(1, 2)])
+    builds_elsewhere(rt, alloc, Stand::NoConnect(1), &[(1, 1)])
+        && builds_elsewhere(rt, alloc, Stand::NoCopy(1), &[(1, 2)])
 }
 
 /// The history of the stored run.
@@ -322,14 +286,13 @@ fn is_stored(alloc: Global, end: Ran<AnyTransport>) -> bool {
 /// Whether the stored run by this worker gives its history, and the receipts that belong to it.
 pub(crate) fn gives_stored<R: Threads + Wait + Sync>(
     rt: &R,
-    by: By,
     alloc: Global,
     workers: Vec<Seat<AnyTransport>>,
 ) -> bool {
     let Some(opened) = dispatch(alloc, CHAIN, "m") else {
         return false;
     };
-    match ran(rt, by, opened, workers) {
+    match ran(rt, opened, workers) {
         Ok(end) => is_stored(alloc, end),
         Err(refused) => {
             close(refused.dispatch);
@@ -352,7 +315,7 @@ pub(crate) fn stored_worker(alloc: Global) -> Result<Vec<Seat<AnyTransport>>, Fa
 #[test]
 fn stored_run(rt: HostRuntime) -> Result<(), Fail> {
     let workers = stored_worker(rt.alloc())?;
-    assert!(rt; gives_stored(&rt, By::Threads, rt.alloc(), workers));
+    assert!(rt; gives_stored(&rt, rt.alloc(), workers));
     Ok(())
 }
 
@@ -410,20 +373,20 @@ pub(crate) const UNMANNED: [Example; 1] = [Example {
 #[test]
 fn refused_connect(rt: HostRuntime) {
     let alloc = rt.alloc();
-    assert!(rt; are_given(&rt, By::Threads, alloc, &TWO, &REFUSED));
-    assert!(rt; gives_refused_receipts(&rt, By::Threads, alloc));
+    assert!(rt; are_given(&rt, alloc, &TWO, &REFUSED));
+    assert!(rt; gives_refused_receipts(&rt, alloc));
 }
 
 #[test]
 fn lost_build(rt: HostRuntime) {
-    assert!(rt; are_given(&rt, By::Threads, rt.alloc(), &ONE, &LOST));
+    assert!(rt; are_given(&rt, rt.alloc(), &ONE, &LOST));
 }
 
 #[test]
 fn empty_run(rt: HostRuntime) {
     let alloc = rt.alloc();
-    assert!(rt; are_given(&rt, By::Threads, alloc, &ONE, &EMPTY));
-    assert!(rt; are_given(&rt, By::Threads, alloc, &[], &UNMANNED));
+    assert!(rt; are_given(&rt, alloc, &ONE, &EMPTY));
+    assert!(rt; are_given(&rt, alloc, &[], &UNMANNED));
 }
 
 /// Whether a refused run hands back so many workers and a dispatch without entries, and this cause.
@@ -438,7 +401,6 @@ fn is_refused(alloc: Global, refused: NotRun<StandIn>, count: usize, why: RunErr
 /// Whether a run is refused so, and hands back the dispatch and so many workers.
 fn refuses<R: Threads + Wait + Sync>(
     rt: &R,
-    by: By,
     alloc: Global,
     builders: &str,
     seats: Vec<Seat<StandIn>>,
@@ -448,7 +410,7 @@ fn refuses<R: Threads + Wait + Sync>(
         return false;
     };
     let count = seats.len();
-    match ran(rt, by, opened, seats) {
+    match ran(rt, opened, seats) {
         Ok(end) => {
             close_run(end);
             false
@@ -458,14 +420,13 @@ fn refuses<R: Threads + Wait + Sync>(
 }
 
 /// Whether a run without a worker, one by two workers on one place and one by more than 1,024 workers are refused.
-pub(crate) fn refuses_workers<R: Threads + Wait + Sync>(rt: &R, by: By, alloc: Global) -> bool {
+pub(crate) fn refuses_workers<R: Threads + Wait + Sync>(rt: &R, alloc: Global) -> bool {
     let none = workers(alloc, &[], Stand::Plain);
     let twice = workers(alloc, &[FIRST, FIRST], Stand::Plain);
-    refuses(rt, by, alloc, "m", none, RunError::Slots)
-        && refuses(rt, by, alloc, "m", twice, RunError::Slots)
+    refuses(rt, alloc, "m", none, RunError::Slots)
+        && refuses(rt, alloc, "m", twice, RunError::Slots)
         && refuses(
             rt,
-            by,
             alloc,
             "m - - 1025",
             stands(alloc, 1025),
@@ -475,7 +436,7 @@ pub(crate) fn refuses_workers<R: Threads + Wait + Sync>(rt: &R, by: By, alloc: G
 
 #[test]
 fn refused_run(rt: HostRuntime) {
-    assert!(rt; refuses_workers(&rt, By::Threads, rt.alloc()));
+    assert!(rt; refuses_workers(&rt, rt.alloc()));
 }
 
 /// Whether two calls of `abandon` leave these lines after a pump.
@@ -527,7 +488,6 @@ fn drained_run(rt: HostRuntime) {
     assert!(rt;
         gives(
             &rt,
-            By::Threads,
             alloc,
             drained(alloc),
             &TWO,
@@ -576,7 +536,6 @@ fn is_taken_up(alloc: Global, end: Ran<StandIn>, calls: u8, lines: &str) -> bool
 /// Whether a run that goes on from a started lease ends so.
 fn takes_up<R: Threads + Wait + Sync>(
     rt: &R,
-    by: By,
     alloc: Global,
     stand: Stand,
     calls: u8,
@@ -585,7 +544,7 @@ fn takes_up<R: Threads + Wait + Sync>(
     let Some(opened) = leased(alloc, true) else {
         return false;
     };
-    match ran(rt, by, opened, workers(alloc, &ONE, stand)) {
+    match ran(rt, opened, workers(alloc, &ONE, stand)) {
         Ok(end) => is_taken_up(alloc, end, calls, lines),
         Err(refused) => {
             close_refused(refused);
@@ -596,12 +555,12 @@ fn takes_up<R: Threads + Wait + Sync>(
 
 /// Whether a lease that was started is taken up: its build is asked for again, and it is lost where its machine isn't
 /// reached.
-pub(crate) fn takes_up_started<R: Threads + Wait + Sync>(rt: &R, by: By, alloc: Global) -> bool {
+pub(crate) fn takes_up_started<R: Threads + Wait + Sync>(rt: &R, alloc: Global) -> bool {
     let lost = "chosen 0 1 0\nstarted 0\nfailed 0 lost\n";
-    takes_up(rt, by, alloc, Stand::Plain, 3, BUILT)
-        && takes_up(rt, by, alloc, Stand::Lose, 3, lost)
-        && takes_up(rt, by, alloc, Stand::NoCopy(1), 2, lost)
-        && takes_up(rt, by, alloc, Stand::NoConnect(1), 1, lost)
+    takes_up(rt, alloc, Stand::Plain, 3, BUILT)
+        && takes_up(rt, alloc, Stand::Lose, 3, lost)
+        && takes_up(rt, alloc, Stand::NoCopy(1), 2, lost)
+        && takes_up(rt, alloc, Stand::NoConnect(1), 1, lost)
 }
 
 /// The history of one derivation that is built on machine 1.
@@ -612,8 +571,8 @@ pub(crate) const BUILT: &str = "chosen 0 1 0\nstarted 0\nbuilt 0 o\n";
 fn taken_up(rt: HostRuntime) {
     let alloc = rt.alloc();
     let live = leased(alloc, false);
-    assert!(rt; gives(&rt, By::Threads, alloc, live, &ONE, Stand::Plain, BUILT));
-    assert!(rt; takes_up_started(&rt, By::Threads, alloc));
+    assert!(rt; gives(&rt, alloc, live, &ONE, Stand::Plain, BUILT));
+    assert!(rt; takes_up_started(&rt, alloc));
 }
 
 /// The history of the stored run where so many calls pass.
@@ -634,12 +593,11 @@ pub(crate) fn blown(passes: u32) -> &'static str {
 }
 
 /// Whether a run of the chain on one slot gives what belongs to each fuse, up to one that isn't blown.
-pub(crate) fn blows<R: Threads + Wait + Sync>(rt: &R, by: By, alloc: Global) -> bool {
+pub(crate) fn blows<R: Threads + Wait + Sync>(rt: &R, alloc: Global) -> bool {
     for passes in 0..10u32 {
         let chain = dispatch(alloc, CHAIN, "m");
         if !gives(
             rt,
-            by,
             alloc,
             chain,
             &ONE,
@@ -654,7 +612,7 @@ pub(crate) fn blows<R: Threads + Wait + Sync>(rt: &R, by: By, alloc: Global) -> 
 
 #[test]
 fn blown_fuse(rt: HostRuntime) {
-    assert!(rt; blows(&rt, By::Threads, rt.alloc()));
+    assert!(rt; blows(&rt, rt.alloc()));
 }
 
 /// The history of the chain where its first build reports what it may not have.
@@ -681,7 +639,7 @@ pub(crate) fn dishonest() -> [Example; 3] {
 
 #[test]
 fn dishonest_transports(rt: HostRuntime) {
-    assert!(rt; are_given(&rt, By::Threads, rt.alloc(), &ONE, &dishonest()));
+    assert!(rt; are_given(&rt, rt.alloc(), &ONE, &dishonest()));
 }
 
 /// What a run by one worker has of the references of its one build: how many lists were refused, and how many its
@@ -702,12 +660,11 @@ fn refused_lists(end: &Ran<StandIn>) -> Option<(usize, usize)> {
 /// The refused lists of a run over the chain, whose worker does so.
 fn judged<R: Threads + Wait + Sync>(
     rt: &R,
-    by: By,
     alloc: Global,
     stand: Stand,
 ) -> Option<(usize, usize)> {
     let opened = dispatch(alloc, CHAIN, "m")?;
-    match ran(rt, by, opened, workers(alloc, &ONE, stand)) {
+    match ran(rt, opened, workers(alloc, &ONE, stand)) {
         Ok(end) => {
             let lists = refused_lists(&end);
             close_run(end);
@@ -721,15 +678,15 @@ fn judged<R: Threads + Wait + Sync>(
 }
 
 /// Whether references that a build may not have are handed back, as they were reported, and no other ones are.
-pub(crate) fn judges<R: Threads + Wait + Sync>(rt: &R, by: By, alloc: Global) -> bool {
-    judged(rt, by, alloc, Stand::Stranger) == Some((1, 1))
-        && judged(rt, by, alloc, Stand::Lists(0)) == Some((0, 0))
-        && judged(rt, by, alloc, Stand::Lists(2)) == Some((2, 2))
-        && judged(rt, by, alloc, Stand::Plain).is_none()
-        && judged(rt, by, alloc, Stand::Lose).is_none()
+pub(crate) fn judges<R: Threads + Wait + Sync>(rt: &R, alloc: Global) -> bool {
+    judged(rt, alloc, Stand::Stranger) == Some((1, 1))
+        && judged(rt, alloc, Stand::Lists(0)) == Some((0, 0))
+        && judged(rt, alloc, Stand::Lists(2)) == Some((2, 2))
+        && judged(rt, alloc, Stand::Plain).is_none()
+        && judged(rt, alloc, Stand::Lose).is_none()
 }
 
 #[test]
 fn judged_references(rt: HostRuntime) {
-    assert!(rt; judges(&rt, By::Threads, rt.alloc()));
+    assert!(rt; judges(&rt, rt.alloc()));
 }

@@ -1,9 +1,7 @@
-//! Random worlds: a small graph, a small park, and stand-ins that fail, lose and refuse. Each is run by the calling
-//! thread alone, twice with receipts, the second time with stand-ins that forget their calls, and once without receipts,
-//! and by a thread for each worker.
+//! Random worlds: a small graph, a small park, and stand-ins that fail, lose and refuse. Each is run twice.
 
 use crate::tests::draws::Draws;
-use crate::tests::parks::{By, EitherStandIn, at, close_refused, close_run, dispatch_where, ran};
+use crate::tests::parks::{at, close_refused, close_run, dispatch_where, ran};
 use crate::tests::punishing::{input, line};
 use nd_closure::Refs;
 use nd_history::Entry;
@@ -11,7 +9,7 @@ use nd_ledger::Dispatch;
 use nd_script::Rule;
 use nd_test_fixtures::entries::told;
 use nd_test_fixtures::parks::close;
-use nd_transports::{ForgetfulStandIn, RuleBook, StandIn};
+use nd_transports::{RuleBook, StandIn};
 use nd_workers::{Ran, Seat};
 use std::alloc::Global;
 use std::sync::Wait;
@@ -196,7 +194,7 @@ impl World {
     }
 
     /// The workers of all slots.
-    fn seats<S: EitherStandIn>(&self, alloc: Global) -> Option<Vec<Seat<S>>> {
+    fn seats(&self, alloc: Global) -> Option<Vec<Seat<StandIn>>> {
         let rules = self.rules(alloc)?;
         let mut seats = Vec::new(alloc);
         for (number, machine) in self.machines.iter().enumerate() {
@@ -349,15 +347,15 @@ fn push_way(alloc: Global, rules: &mut Vec<Rule>, drv: u32, way: Way) -> Option<
 }
 
 /// Puts the workers of a machine.
-fn push_seats<S: EitherStandIn>(
+fn push_seats(
     alloc: Global,
-    seats: &mut Vec<Seat<S>>,
+    seats: &mut Vec<Seat<StandIn>>,
     machine: u32,
     slots: u32,
     rules: &RuleBook,
 ) -> Option<()> {
     for slot in 0..slots {
-        let transport = S::following(alloc, machine, rules.try_clone().ok()?);
+        let transport = StandIn::new(alloc, machine, rules.try_clone().ok()?);
         let seat = Seat {
             place: at(machine, slot),
             transport,
@@ -448,7 +446,7 @@ fn seen(alloc: Global, world: &World, history: &[Entry]) -> Option<Outcome> {
 }
 
 /// What a run of a world came to that ended without a fault.
-fn outcome_of<S: EitherStandIn>(alloc: Global, world: &World, end: Ran<S>) -> Option<Outcome> {
+fn outcome_of(alloc: Global, world: &World, end: Ran<StandIn>) -> Option<Outcome> {
     let outcome = if end.fault.is_none() {
         seen(alloc, world, end.dispatch.history())
     } else {
@@ -458,19 +456,14 @@ fn outcome_of<S: EitherStandIn>(alloc: Global, world: &World, end: Ran<S>) -> Op
     outcome
 }
 
-/// What the run of a world by stand-ins of this kind comes to.
-fn run_world<S: EitherStandIn, R: Threads + Wait + Sync>(
-    rt: &R,
-    by: By,
-    alloc: Global,
-    world: &World,
-) -> Option<Outcome> {
-    let seats = world.seats::<S>(alloc)?;
+/// What a run of a world comes to.
+fn run_world<R: Threads + Wait + Sync>(rt: &R, alloc: Global, world: &World) -> Option<Outcome> {
+    let seats = world.seats(alloc)?;
     let Some(opened) = world.opened(alloc) else {
         drop(seats);
         return None;
     };
-    match ran(rt, by, opened, seats) {
+    match ran(rt, opened, seats) {
         Ok(end) => outcome_of(alloc, world, end),
         Err(refused) => {
             close_refused(refused);
@@ -479,36 +472,30 @@ fn run_world<S: EitherStandIn, R: Threads + Wait + Sync>(
     }
 }
 
-/// What a run of a world by the calling thread comes to, and what one by a thread for each worker. Nothing where a second
-/// one by the calling thread, whose stand-ins forget their calls, or one that keeps no receipts either, has another
-/// history, or where there is one slot alone and the last one has.
+/// What two runs of a world come to. Nothing where one doesn't come to anything, or where there is one slot alone and they
+/// have two histories.
 fn outcomes<R: Threads + Wait + Sync>(
     rt: &R,
     alloc: Global,
     world: &World,
 ) -> Option<(Outcome, Outcome)> {
-    let alone = run_world::<StandIn, R>(rt, By::Alone, alloc, world)?;
-    let again = run_world::<ForgetfulStandIn, R>(rt, By::Alone, alloc, world)?;
-    let rehearsed = run_world::<ForgetfulStandIn, R>(rt, By::Rehearsed, alloc, world)?;
-    let many = run_world::<StandIn, R>(rt, By::Threads, alloc, world)?;
-    if alone.lines != again.lines || alone.lines != rehearsed.lines {
+    let once = run_world(rt, alloc, world)?;
+    let again = run_world(rt, alloc, world)?;
+    if world.is_narrow() && once.lines != again.lines {
         return None;
     }
-    if world.is_narrow() && alone.lines != many.lines {
-        return None;
-    }
-    Some((alone, many))
+    Some((once, again))
 }
 
 /// Whether the runs of a world come to what its derivations say.
 fn agrees<R: Threads + Wait + Sync>(rt: &R, alloc: Global, seed: u64) -> Option<bool> {
     let world = World::new(alloc, seed, false)?;
     let ends = world.ends(alloc)?;
-    let (alone, many) = outcomes(rt, alloc, &world)?;
-    Some(alone.ends == ends && many.ends == ends)
+    let (once, again) = outcomes(rt, alloc, &world)?;
+    Some(once.ends == ends && again.ends == ends)
 }
 
-/// Whether the runs of a world whose machines may refuse end without a fault, and those by the calling thread alike.
+/// Whether the runs of a world whose machines may refuse end without a fault.
 fn goes_through<R: Threads + Wait + Sync>(rt: &R, alloc: Global, seed: u64) -> bool {
     match World::new(alloc, seed, true) {
         Some(world) => outcomes(rt, alloc, &world).is_some(),
@@ -526,8 +513,8 @@ fn first_open<R: Threads + Wait + Sync>(rt: &R, alloc: Global) -> Option<u64> {
     (0..150u64).find(|seed| !goes_through(rt, alloc, *seed))
 }
 
-/// Whoever serves the leases, what is built, has failed and is cancelled is the same where the rules are about
-/// derivations alone and the rest goes on after a failure.
+/// In whatever order the leases are served, what is built, has failed and is cancelled is the same where the rules are
+/// about derivations alone and the rest goes on after a failure.
 #[test]
 fn worlds_of_failures(rt: HostRuntime) {
     assert_eq!(rt; first_disagreeing(&rt, rt.alloc()), None);
