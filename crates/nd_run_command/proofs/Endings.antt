@@ -7,12 +7,10 @@ use Rattle.nd_history.specs.History.{is_stop}
 use Rattle.nd_history.specs.Premises.{Premises}
 use Rattle.nd_ledger.specs.Worlds.{World}
 use Rattle.nd_receipts.specs.Made.{is_quiet}
-use Rattle.nd_work.specs.declared.rehearsing.Amiss.{Amiss}
 use Rattle.nd_workers.specs.declared.run_end.RunFault.{RunFault}
 use Rattle.nd_workers.specs.declared.run_end.RunFault.TheVariants.{Thread as NoThread, Memory as NoMemory, Receipts as OtherReceipts, Journal as NoJournal}
 use Rattle.nd_workers.specs.declared.run_end.RunError.{RunError}
 use Rattle.nd_workers.specs.declared.run_end.RunError.TheVariants.{Slots, TooManySlots as TooManyWorkers, Memory as NoRoom}
-use Rattle.nd_workers.specs.Rehearsed.{HasEndedBy}
 use Rattle.nd_workers.specs.Runs.{AreManned, IsRunRefused, IsOver}
 use Rattle.nd_run_desk.specs.Steps.{RunsOn}
 use Rattle.nd_cli.specs.declared.fault.CliFault.{CliFault}
@@ -81,16 +79,3 @@ refused_fault before places workers report text out NoRoom e refused sized told 
 -- there are as many places as workers
 pub so_many : {X : Type 0} (place : X → ℕ × ℕ) (workers : List X) (n : ℕ) → n ≡ length workers → length (map place workers) ≡ n
 so_many place workers n counted = length-map workers place ∙ sym counted
-
--- ---- the clauses of `run`, of a run that kept no receipts
-
-pub quiet_of_end : (opened : ℕ) (now : World) (amiss : Amiss) (fault : Option RunFault) → HasEndedBy opened now amiss fault → fault ≡ None → list_all is_quiet (drop opened now.history) ≡ true
-quiet_of_end opened now amiss fault ends none =
-    let P : Option RunFault → Type 0 = λ f. HasEndedBy opened now amiss f in
-    (subst P none ends).1
-
-pub never_thread : (opened : ℕ) (now : World) (amiss : Amiss) (fault : Option RunFault) → HasEndedBy opened now amiss fault → fault ≡ Some NoThread → ⊥
-never_thread opened now amiss fault ends thread = subst (λ (f : Option RunFault). HasEndedBy opened now amiss f) thread ends
-
-pub never_journal : (opened : ℕ) (now : World) (amiss : Amiss) (fault : Option RunFault) → HasEndedBy opened now amiss fault → fault ≡ Some NoJournal → ⊥
-never_journal opened now amiss fault ends journal = subst (λ (f : Option RunFault). HasEndedBy opened now amiss f) journal ends

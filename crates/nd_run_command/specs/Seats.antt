@@ -1,5 +1,5 @@
--- The places of a park that a run has a stand-in for, and the stand-in on each. The contracts of `places`, `stand_ins`
--- and `forgetful_stand_ins` cite what stands here. This project's own choice.
+-- The places of a park that a run has a stand-in for, and the stand-in on each. The contracts of `places` and `stand_ins`
+-- cite what stands here. This project's own choice.
 use Rattle.std.specs.Prelude.{ℕ, ◌<◌, List, [], length, None}
 use Rattle.nd_script.specs.declared.rule.Rule.{Rule}
 use Rattle.nd_transports.specs.declared.kinds.Phase.{Phase}

@@ -4,12 +4,10 @@
 
 mod ending;
 mod engine;
-mod forgetful;
 mod given;
 mod seating;
 
 pub use ending::{refusal, write_end};
-pub use engine::{run_alone_engine, run_engine};
-pub use forgetful::forgetful_stand_ins;
+pub use engine::run_engine;
 pub use given::{RunInputs, run_inputs};
 pub use seating::{places, stand_ins};

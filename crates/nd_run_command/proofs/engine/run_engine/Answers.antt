@@ -1,7 +1,7 @@
 use Rattle.std.proofs.Common.{vec_len, arith}
 use Rattle.std.proofs.lemmas.Result.{IfErr-weaker, IfOk-weaker}
 use Rattle.nd_run_command.proofs.Endings.{came_back, runs_to, run_fault, refused_fault, so_many}
-use Rattle.nd_run_command.proofs.engine.engine.Goals as goal
+use Rattle.nd_run_command.proofs.engine.run_engine.Goals as goal
 
 pub returns-in-Ok-clause-fault : goal.returns-in-Ok-clause-fault
 returns-in-Ok-clause-fault g c =
