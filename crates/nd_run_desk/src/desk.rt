@@ -244,11 +244,6 @@ impl<L: Opened> Desk<L> {
         if self.dispatch.finished() {
             return Next::Finished;
         }
-        self.due(alloc, place)
-    }
-
-    /// What there is to do for the worker of this place by the choices that were made.
-    pub fn due(&self, alloc: Global, place: ParkPlace) -> Next {
         let Some(ticket) = self.dispatch.current(place.machine, place.slot) else {
             return Next::Wait;
         };

@@ -2,20 +2,16 @@
 //! entries, and with the lock free they call a transport, or make lines durable.
 #![tactic(auto)]
 
-mod alone;
 mod bells;
 mod calling;
 mod floor;
 mod hand;
 mod leasing;
-mod rehearsing;
 mod scribing;
 mod working;
 
-pub use alone::Post;
 pub use bells::Bells;
 pub use calling::Guarded;
 pub use floor::{Floor, Shared};
 pub use hand::Hand;
-pub use rehearsing::{Amiss, Stand};
 pub use working::End;

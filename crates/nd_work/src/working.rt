@@ -57,7 +57,7 @@ impl<'a, L: Opened, R: Wait> Floor<'a, L, R> {
     }
 
     /// The worker of this place leaves, and nothing more is begun.
-    pub(crate) fn leave(&self, place: ParkPlace) {
+    fn leave(&self, place: ParkPlace) {
         let mut desk = self.shared.desk.lock(self.rt);
         desk.leave(place);
         self.shared.bells.ring_all();
@@ -85,20 +85,6 @@ impl<'a, L: Opened, R: Wait> Floor<'a, L, R> {
             return End::Left;
         }
         let next = self.take(place);
-        self.attend_or_leave(hand, transport, place, next)
-    }
-
-    /// Does what there is to do for the worker of this place, which leaves where it can't go on.
-    pub(crate) fn attend_or_leave<T: Transport>(
-        &self,
-        hand: &mut Hand<L>,
-        transport: &mut Guarded<T>,
-        place: ParkPlace,
-        next: Next,
-    ) -> End
-        requires { 1 < hand.old.notes.room }
-        ensures { EndsWell result (track_of hand.old.notes transport.old) (track_of hand.new.notes transport.new) }
-    {
         let end = self.attend(hand, transport, next);
         if end == End::Refused || end == End::Left {
             self.leave(place);

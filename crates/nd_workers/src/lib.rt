@@ -2,12 +2,9 @@
 //! its own, and what comes back of them.
 #![tactic(auto)]
 
-mod alone;
-mod crew;
 mod faults;
 mod manning;
 mod preparing;
-mod rehearsing;
 mod run_end;
 mod running;
 mod seat;
@@ -15,8 +12,6 @@ mod settling;
 mod threads;
 mod writing;
 
-pub use alone::run_alone;
-pub use rehearsing::{Rehearsal, rehearse};
 pub use run_end::{Evidence, NotRun, NotWritten, Ran, RunError, RunFault, Written};
 pub use running::{MOST_SLOTS, run};
 pub use seat::Seat;

@@ -20,7 +20,7 @@ use std::alloc::{AllocError, Global};
 
 /// The places that workers serve, and the bells of all places.
 #[derive(Drop)]
-pub(crate) struct Posts {
+pub(crate) struct Stations {
     pub(crate) manned: Vec<ParkPlace>,
     pub(crate) bells: Bells,
 }
@@ -89,14 +89,14 @@ fn make_tables(alloc: Global, drvs: usize, workers: usize) -> Result<(Tables, St
 }
 
 /// The places that workers serve, with the bells.
-fn make_posts<T>(
+fn make_stations<T>(
     alloc: Global,
     dispatch: &Dispatch,
     seats: &[Seat<T>],
-) -> Result<Posts, AllocError> {
+) -> Result<Stations, AllocError> {
     let manned = places_of(alloc, seats)?;
     match Bells::new(alloc, dispatch) {
-        Ok(bells) => Ok(Posts { manned, bells }),
+        Ok(bells) => Ok(Stations { manned, bells }),
         Err(error) => {
             drop(manned);
             Err(error)
@@ -104,38 +104,12 @@ fn make_posts<T>(
     }
 }
 
-/// The workers' posts, and the places that they serve, where there is one worker for each slot of the park, and they
-/// aren't too many.
-pub(crate) fn prepare_places<T>(
-    alloc: Global,
-    dispatch: &Dispatch,
-    seats: &[Seat<T>],
-) -> Result<(Posts, Vec<ParkPlace>), RunError>
-    ensures refused { IfErr result (IsRunRefused dispatch.now.inputs (places_served seats.now)) }
-    ensures manned { OnOk result (AreManned dispatch.now.inputs (places_served seats.now)) }
-    ensures few { OnOk result (length seats.now ≤ 1024) }
-    ensures places { IfOk result (λ p. p.1.items ≡ places_served seats.now) }
-    ensures apart { IfOk result (λ p. AreApart p.1.items) }
-{
-    let places = match accepted_places(alloc, dispatch, seats) {
-        Ok(places) => places,
-        Err(why) => return Err(why),
-    };
-    match make_posts(alloc, dispatch, seats) {
-        Ok(posts) => Ok((posts, places)),
-        Err(_) => {
-            drop(places);
-            Err(RunError::Memory)
-        }
-    }
-}
-
-/// The workers' posts, and what the end of the run is compared with.
+/// The workers' stations, and what the end of the run is compared with.
 pub(crate) fn prepare<T>(
     alloc: Global,
     dispatch: &Dispatch,
     seats: &[Seat<T>],
-) -> Result<(Posts, Plan), RunError>
+) -> Result<(Stations, Plan), RunError>
     ensures refused { IfErr result (IsRunRefused dispatch.now.inputs (places_served seats.now)) }
     ensures manned { OnOk result (AreManned dispatch.now.inputs (places_served seats.now)) }
     ensures few { OnOk result (length seats.now ≤ 1024) }
@@ -144,14 +118,18 @@ pub(crate) fn prepare<T>(
     ensures choices { IfOk result (λ p. AreUnknown (length p.1.places.items) p.1.tables.choices.items) }
     ensures sized { IfOk result (λ p. length p.1.tables.choices.items ≡ drvs_in dispatch.now.inputs) }
 {
-    let (posts, places) = match prepare_places(alloc, dispatch, seats) {
-        Ok(prepared) => prepared,
+    let places = match accepted_places(alloc, dispatch, seats) {
+        Ok(places) => places,
         Err(why) => return Err(why),
     };
+    let Ok(stations) = make_stations(alloc, dispatch, seats) else {
+        drop(places);
+        return Err(RunError::Memory);
+    };
     match make_plan(alloc, dispatch, places) {
-        Ok(plan) => Ok((posts, plan)),
+        Ok(plan) => Ok((stations, plan)),
         Err(_) => {
-            drop(posts);
+            drop(stations);
             Err(RunError::Memory)
         }
     }

@@ -9,7 +9,6 @@ ghost use Rattle.nd_receipts.specs.Judged.{AreMisreports};
 ghost use Rattle.nd_receipts.specs.Dealt.{AreApart};
 ghost use Rattle.nd_receipts.specs.Standing.{IsIdle};
 ghost use Rattle.nd_receipts.specs.Walks.{AreUnknown};
-ghost use Rattle.nd_workers.specs.Crews.{crew_room, crew_size};
 ghost use Rattle.nd_workers.specs.Faults.{IsFaultFrom, IsFaultOf, AreAllWrong};
 ghost use Rattle.nd_workers.specs.Runs.{AreManned, IsRunRefused, Agrees, IsOver, AreServed, AreReceiptedSince, since};
 ghost use Rattle.nd_workers.specs.Served.{places_served, HaveServed, is_refused, receipts_in};
@@ -17,15 +16,14 @@ ghost use Rattle.nd_run_desk.specs.Leaves.{IsFrontOf};
 ghost use Rattle.nd_run_desk.specs.Steps.{RunsOn, StopsAreTold};
 ghost use Rattle.nd_run_desk.specs.Written.{IsWritten, IsWrittenWhole};
 
-use crate::crew::{Crew, Staff, serve_by};
-use crate::preparing::{Posts, prepare};
+use crate::preparing::{Stations, prepare};
 use crate::run_end::{NotRun, NotWritten, Ran, RunError, RunFault, Written};
 use crate::seat::Seat;
 use crate::settling::{Back, Plan, Served, make_back, settle};
-use crate::threads::{Ended, Joined, Stint};
+use crate::threads::{Ended, Joined, Ready, Running, Stint, in_scope};
 use nd_keeping::{Journal, NoJournal, Scribe};
 use nd_ledger::Dispatch;
-use nd_receipts::{ParkPlace, count_made};
+use nd_receipts::count_made;
 use nd_run_desk::{Closed, Desk, Opened, Writing};
 use nd_transports::Transport;
 use nd_work::Shared;
@@ -41,20 +39,16 @@ pub const MOST_SLOTS: usize = 1024;
 /// Room for what comes back of a run.
 #[derive(Drop)]
 struct Room<L: Opened, T: Transport> {
-    crew: Crew<L, T>,
+    running: Vec<Running<L, T>>,
     stints: Vec<Stint<T>>,
     back: Back<T>,
-    ghost no_crew: { crew_size crew ≡ 0 },
+    ghost no_threads: { vec_len running ≡ 0 },
     ghost no_stints: { vec_len stints ≡ 0 },
 }
 
-/// Room for so many workers, whom the calling thread serves where they have to do with it `alone`.
-fn make_room<L: Opened, T: Transport>(
-    alloc: Global,
-    count: usize,
-    alone: bool,
-) -> Result<Room<L, T>, AllocError>
-    ensures crew { IfOk result (λ r. count ≤ crew_room r.crew) }
+/// Room for so many workers.
+fn make_room<L: Opened, T: Transport>(alloc: Global, count: usize) -> Result<Room<L, T>, AllocError>
+    ensures running { IfOk result (λ r. count ≤ vec_capacity r.running) }
     ensures stints { IfOk result (λ r. count ≤ vec_capacity r.stints) }
     ensures workers { IfOk result (λ r. count ≤ vec_capacity r.back.workers) }
     ensures receipts { IfOk result (λ r. count ≤ vec_capacity r.back.receipts) }
@@ -68,8 +62,12 @@ fn make_room<L: Opened, T: Transport>(
             return Err(error);
         }
     };
-    match Crew::with_capacity(alloc, count, alone) {
-        Ok(crew) => Ok(Room { crew, stints, back }),
+    match Vec::with_capacity(alloc, count) {
+        Ok(running) => Ok(Room {
+            running,
+            stints,
+            back,
+        }),
         Err(error) => {
             drop(back);
             drop(stints);
@@ -126,9 +124,8 @@ fn serve_leases<
     alloc: Global,
     dispatch: Dispatch,
     seats: Vec<Seat<T>>,
-    posts: Posts,
-    places: &[ParkPlace],
-    crew: Crew<L, T>,
+    stations: Stations,
+    running: Vec<Running<L, T>>,
     stints: Vec<Stint<T>>,
     blank: Blank,
     paper: Paper<J>,
@@ -141,9 +138,8 @@ fn serve_leases<
     requires keeps { paper.keeps ≡ L.keeping.keeps }
     requires handed { IsFrontOf paper.scribe.handed.entries dispatch.history }
     requires durable { IsFrontOf paper.scribe.kept.entries dispatch.history }
-    requires placed { length places.now ≡ vec_len seats }
-    requires no_crew { crew_size crew ≡ 0 }
-    requires crew_room { vec_len seats ≤ crew_room crew }
+    requires no_threads { vec_len running ≡ 0 }
+    requires running_room { vec_len seats ≤ vec_capacity running }
     requires no_stints { vec_len stints ≡ 0 }
     requires stints_room { vec_len seats ≤ vec_capacity stints }
     ensures runs { RunsOn dispatch result.served.dispatch }
@@ -154,27 +150,20 @@ fn serve_leases<
     ensures each { HaveServed T.state seats.items result.served.stints.items }
     ensures written { IsWritten paper.keeps result.served.kept result.scribe result.served.dispatch.history }
 {
-    let Posts { manned, bells } = posts;
+    let Stations { manned, bells } = stations;
     let Paper { scribe, keeps } = paper;
     let (mut book, mut rest) = blank.open::<L>();
     book.add(&mut rest, count_made(dispatch.history()) as u64);
     let mut desk = Desk::open(alloc, dispatch, manned, book, &scribe);
     desk.begin(seats.len());
     let shared = Shared::new(desk, bells, keeps, scribe.kept());
-    let staff = Staff {
+    let ready = Ready {
         seats,
         rest,
+        running,
         stints,
     };
-    let Joined { ended, writing } = serve_by(
-        rt,
-        alloc,
-        &shared,
-        places,
-        crew,
-        staff,
-        Writing::new(scribe),
-    );
+    let Joined { ended, writing } = in_scope(rt, alloc, &shared, ready, Writing::new(scribe));
     let Ended { all, stints } = ended;
     let closed = shared.into_desk().close(all, keeps, &writing);
     let Writing { scribe, .. } = writing;
@@ -203,7 +192,7 @@ fn run_in<
     alloc: Global,
     dispatch: Dispatch,
     seats: Vec<Seat<T>>,
-    posts: Posts,
+    stations: Stations,
     plan: Plan,
     room: Room<L, T>,
     blank: Blank,
@@ -219,8 +208,7 @@ fn run_in<
     requires durable { IsFrontOf paper.scribe.kept.entries dispatch.history }
     requires opened { plan.opened ≡ length dispatch.history }
     requires choices { AreUnknown (length plan.places.items) plan.tables.choices.items }
-    requires placed { length plan.places.items ≡ vec_len seats }
-    requires crew { vec_len seats ≤ crew_room room.crew }
+    requires running { vec_len seats ≤ vec_capacity room.running }
     requires stints { vec_len seats ≤ vec_capacity room.stints }
     requires workers { vec_len seats ≤ vec_capacity room.back.workers }
     requires receipts { vec_len seats ≤ vec_capacity room.back.receipts }
@@ -242,10 +230,13 @@ fn run_in<
     ensures misreports { AreMisreports result.run.dispatch.inputs result.run.dispatch.history result.run.evidence.misreports }
     ensures fault { IsFaultOf dispatch result.run.dispatch plan.places.items result.run.receipts.items result.run.evidence result.run.fault }
 {
-    let Room { crew, stints, back } = room;
-    let places = plan.places.as_slice();
+    let Room {
+        running,
+        stints,
+        back,
+    } = room;
     let brought = serve_leases(
-        rt, alloc, dispatch, seats, posts, places, crew, stints, blank, paper,
+        rt, alloc, dispatch, seats, stations, running, stints, blank, paper,
     );
     let Brought { served, scribe } = brought;
     let run = settle(rt, served, plan, back);
@@ -263,11 +254,10 @@ fn run_named<
     alloc: Global,
     dispatch: Dispatch,
     seats: Vec<Seat<T>>,
-    posts: Posts,
+    stations: Stations,
     plan: Plan,
     blank: Blank,
     paper: Paper<J>,
-    alone: bool,
 ) -> Result<Written<T, J>, NotWritten<T, J>>
     requires name { blank.name ≡ L.name }
     requires parts { blank.parts ≡ L.parts }
@@ -279,7 +269,6 @@ fn run_named<
     requires durable { IsFrontOf paper.scribe.kept.entries dispatch.history }
     requires opened { plan.opened ≡ length dispatch.history }
     requires choices { AreUnknown (length plan.places.items) plan.tables.choices.items }
-    requires placed { length plan.places.items ≡ vec_len seats }
     requires sized { length plan.tables.choices.items ≡ drvs_in dispatch.inputs }
     ensures why { IfErr result (λ r. r.run.why ≡ RunError.Memory) }
     ensures dispatch { IfErr result (λ r. r.run.dispatch ≡ dispatch) }
@@ -301,25 +290,23 @@ fn run_named<
     ensures misreports { IfOk result (λ e. AreMisreports e.run.dispatch.inputs e.run.dispatch.history e.run.evidence.misreports) }
     ensures fault { IfOk result (λ e. IsFaultOf dispatch e.run.dispatch plan.places.items e.run.receipts.items e.run.evidence e.run.fault) }
 {
-    let Ok(room) = make_room::<L, T>(alloc, seats.len(), alone) else {
-        drop(posts);
+    let Ok(room) = make_room::<L, T>(alloc, seats.len()) else {
+        drop(stations);
         drop(plan);
         drop(blank);
         let Paper { scribe, keeps: _ } = paper;
         return refused(RunError::Memory, dispatch, seats, scribe);
     };
-    Ok(run_in(rt, alloc, dispatch, seats, posts, plan, room, blank, paper))
+    Ok(run_in(rt, alloc, dispatch, seats, stations, plan, room, blank, paper))
 }
 
-/// As [`run`], where a run that `keeps` its history does so by the scribe; or where the calling thread is `alone` as
-/// [`run_alone`](crate::run_alone).
+/// As [`run`], where a run that `keeps` its history does so by the scribe.
 pub(crate) fn run_by<T: Transport, J: Journal + Send + Drop, R: Threads + Wait + Sync>(
     rt: &R,
     dispatch: Dispatch,
     workers: Vec<Seat<T>>,
     scribe: Scribe<J>,
     keeps: bool,
-    alone: bool,
 ) -> Result<Written<T, J>, NotWritten<T, J>>
     requires handed { IsFrontOf scribe.handed.entries dispatch.history }
     requires durable { IsFrontOf scribe.kept.entries dispatch.history }
@@ -348,12 +335,10 @@ pub(crate) fn run_by<T: Transport, J: Journal + Send + Drop, R: Threads + Wait +
     let alloc = *workers.allocator();
     match prepare(alloc, &dispatch, workers.as_slice()) {
         Ok(prepared) => {
-            let (posts, plan) = prepared;
+            let (stations, plan) = prepared;
             let blank = Blank::new(workers.len() as u64 + 1);
             let paper = Paper { scribe, keeps };
-            run_named::<Brand, T, J, R>(
-                rt, alloc, dispatch, workers, posts, plan, blank, paper, alone,
-            )
+            run_named::<Brand, T, J, R>(rt, alloc, dispatch, workers, stations, plan, blank, paper)
         }
         Err(why) => refused(why, dispatch, workers, scribe),
     }
@@ -406,7 +391,7 @@ pub fn run<T: Transport, R: Threads + Wait + Sync>(
     ensures fault { IfOk result (λ e. IsFaultOf dispatch e.dispatch (places_served workers.items) e.receipts.items e.evidence e.fault) }
 {
     let scribe = Scribe::fresh(*workers.allocator(), NoJournal);
-    match run_by(rt, dispatch, workers, scribe, false, false) {
+    match run_by(rt, dispatch, workers, scribe, false) {
         Ok(Written { run, scribe }) => {
             drop(scribe);
             Ok(run)

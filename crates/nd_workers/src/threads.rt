@@ -161,7 +161,7 @@ fn start_all<'s, E, L: Opened + Send + Sync + 's, T: Transport + 's, R: Wait + S
 }
 
 /// What a worker handed back that had a thread, or hadn't, with its share given to `all`.
-pub(crate) fn take_in<L: Opened, T: Transport>(
+fn take_in<L: Opened, T: Transport>(
     done: Done<L, T>,
     threaded: bool,
     all: &mut Share<L>,

@@ -61,5 +61,5 @@ pub fn run_kept<T: Transport, J: Journal + Send + Drop, R: Threads + Wait + Sync
     ensures misreports { IfOk result (λ e. AreMisreports e.run.dispatch.inputs e.run.dispatch.history e.run.evidence.misreports) }
     ensures fault { IfOk result (λ e. IsFaultOf dispatch e.run.dispatch (places_served workers.items) e.run.receipts.items e.run.evidence e.run.fault) }
 {
-    run_by(rt, dispatch, workers, scribe, true, false)
+    run_by(rt, dispatch, workers, scribe, true)
 }

@@ -5,12 +5,12 @@ use Rattle.nd_run_desk.specs.Steps.{RunsOn, StopsAreTold}
 use Rattle.nd_workers.proofs.running.serve_leases.Goals as goal
 
 pub close-closed-requires : goal.close-closed-requires
-close-closed-requires g c = c.serve_by-ended.ensures.parts ∙ sym c.requires.one_more ∙ c.requires.parts
+close-closed-requires g c = c.in_scope-ended.ensures.parts ∙ sym c.requires.one_more ∙ c.requires.parts
 
 pub returns-clause-total : goal.returns-clause-total
 returns-clause-total g c =
     let closed = c.close-closed.ensures.total in
-    let joined = c.serve_by-ended.ensures.amount in
+    let joined = c.in_scope-ended.ensures.amount in
     let opened = c.open-book.ensures.amount in
     let first = c.count_made.ensures ∙ ap made c.history.ensures.value in
     let added = c.add.ensures.amount in

@@ -1,7 +1,0 @@
-use Rattle.nd_workers.proofs.alone.run_alone.Goals as goal
-
-pub returns-in-Ok-clause-receipted : goal.returns-in-Ok-clause-receipted
-returns-in-Ok-clause-receipted g c = c.in-Ok.ensures.receipted
-
-pub returns-in-Ok-clause-calls : goal.returns-in-Ok-clause-calls
-returns-in-Ok-clause-calls g c = c.in-Ok.ensures.calls
