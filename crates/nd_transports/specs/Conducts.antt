@@ -1,5 +1,5 @@
 -- What a stand-in goes by, beside the transport that it is. No public clause cites these definitions: they serve the proofs
--- of `StandIn` and `ForgetfulStandIn` alone.
+-- of `StandIn` alone.
 use Rattle.std.specs.Prelude.{ℕ, List, Option}
 use Rattle.nd_script.specs.declared.rule.Rule.{Rule}
 use Rattle.nd_transports.specs.Calls.{State}

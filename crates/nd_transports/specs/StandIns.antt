@@ -1,4 +1,4 @@
--- What a stand-in answers. The clauses of `StandIn` and `ForgetfulStandIn` cite these definitions. This project's own choice.
+-- What a stand-in answers. The clauses of `StandIn` cite these definitions. This project's own choice.
 use Rattle.std.specs.Prelude.{◌≡◌, ℕ, Bool, true, false, not, ◌&&◌, ◌==◌, ◌-◌, List, [], Option, Some, None, replicate, ◌⊎◌}
 use Rattle.std.specs.List.{find, list_any}
 use Rattle.nd_transports.specs.declared.kinds.Answer.{Answer}

@@ -13,8 +13,8 @@ use nd_script::Rule;
 use std::alloc::{AllocError, Global};
 use std::marker::Model;
 
-/// What a stand-in goes by, whatever it keeps of its calls: its machine, the rules, its fuse, and the number of
-/// outputs of the job that was prepared last.
+/// What a stand-in goes by: its machine, the rules, its fuse, and the number of outputs of the job that was
+/// prepared last.
 #[derive(Drop, Debug)]
 pub(crate) struct Conduct {
     alloc: Global,

@@ -6,7 +6,6 @@ mod boxed;
 mod call_log;
 mod calls_so_far;
 mod conduct;
-mod forgetful;
 mod kinds;
 mod last_call;
 mod rule_book;
@@ -15,7 +14,6 @@ mod stand_in;
 mod transport;
 
 pub use call_log::CallLog;
-pub use forgetful::ForgetfulStandIn;
 pub use kinds::{Answer, Call, Ended, Phase};
 pub use last_call::LastCall;
 pub use rule_book::RuleBook;

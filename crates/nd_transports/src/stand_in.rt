@@ -4,9 +4,9 @@ ghost use Rattle.std.specs.Prelude.{◌≡◌, ℕ, List, Option, Some, IfOk, On
 ghost use Rattle.nd_transports.specs.Calls.{prepared, connected, copied, built, Reports, IsIdleAgain};
 ghost use Rattle.nd_transports.specs.StandIns.{fresh, readied, burnt, connects, copies, StandInBuilds};
 
-use crate::call_log::CallLog;
 use crate::conduct::Conduct;
 use crate::kinds::{Ended, Phase};
+use crate::last_call::LastCall;
 use crate::rule_book::RuleBook;
 use crate::transport::Transport;
 use nd_closure::Refs;
@@ -17,12 +17,14 @@ use std::marker::Model;
 /// A transport without a machine behind it, which follows rules. Of several rules about a build the
 /// first decides. Where none fits, a connect and a copy answer yes, and a build reports an empty list
 /// for each output. A build that is to end with its outputs, and for whose references no memory is found,
-/// is lost; one that is to end otherwise takes no memory.
+/// is lost; one that is to end otherwise takes no memory. Of its calls it keeps the last one alone: contracts
+/// see the list of all of them, and no memory holds it, however many leases it served. To prepare a job wants
+/// memory for a copy of its paths alone.
 #[derive(Drop, Debug)]
 pub struct StandIn {
     alloc: Global,
     conduct: Conduct,
-    log: CallLog,
+    log: LastCall,
 }
 
 impl Model for StandIn {
@@ -44,7 +46,7 @@ impl StandIn {
         StandIn {
             alloc,
             conduct: Conduct::new(alloc, machine, rules),
-            log: CallLog::new(alloc),
+            log: LastCall::new(alloc),
         }
     }
 
@@ -54,13 +56,6 @@ impl StandIn {
         ensures { self.new ≡ record self.old { fuse = Some passes } }
     {
         self.conduct.fuse(passes);
-    }
-
-    /// The calls so far and how far it is.
-    pub fn log(&self) -> &CallLog
-        ensures { result.now ≡ self.now.state }
-    {
-        &self.log
     }
 }
 
