@@ -297,7 +297,9 @@ fn run_named<
         let Paper { scribe, keeps: _ } = paper;
         return refused(RunError::Memory, dispatch, seats, scribe);
     };
-    Ok(run_in(rt, alloc, dispatch, seats, stations, plan, room, blank, paper))
+    Ok(run_in(
+        rt, alloc, dispatch, seats, stations, plan, room, blank, paper,
+    ))
 }
 
 /// As [`run`], where a run that `keeps` its history does so by the scribe.

@@ -86,10 +86,7 @@ const FEATURES: &str =
     "a - - 1 1 f0,f4,f8,f12;b - - 1 1 f1,f5,f9,f13;c - - 1 1 f2,f6,f10,f14;d - - 1 1 f3,f7,f11,f15";
 
 /// How many of sixteen derivations are built of which each needs a feature of its own.
-pub(crate) fn built_by_feature<R: Threads + Wait + Sync>(
-    rt: &R,
-    alloc: Global,
-) -> Option<usize> {
+fn built_by_feature<R: Threads + Wait + Sync>(rt: &R, alloc: Global) -> Option<usize> {
     let text = bundle(alloc, 16, 16)?;
     let places = [at(1, 0), at(2, 0), at(3, 0), at(4, 0)];
     built(rt, alloc, text.as_str(), FEATURES, &places)
@@ -104,10 +101,7 @@ fn a_feature_for_each(rt: HostRuntime) {
 const GROUPS: &str = "a - - 1 1 f0,f1,f2,f3,f4,f5,f6,f7;b - - 3 1000";
 
 /// How many of 72 derivations are built of which eight wait for one slot.
-pub(crate) fn built_in_groups<R: Threads + Wait + Sync>(
-    rt: &R,
-    alloc: Global,
-) -> Option<usize> {
+fn built_in_groups<R: Threads + Wait + Sync>(rt: &R, alloc: Global) -> Option<usize> {
     let text = bundle(alloc, 72, 8)?;
     let places = [at(1, 0), at(2, 0), at(2, 1), at(2, 2)];
     built(rt, alloc, text.as_str(), GROUPS, &places)

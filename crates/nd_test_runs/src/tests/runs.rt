@@ -1,8 +1,6 @@
 //! The worked examples of runs.
 
-use crate::tests::parks::{
-    close_refused, close_run, dispatch, ran, stand_at, stand_in, stands,
-};
+use crate::tests::parks::{close_refused, close_run, dispatch, ran, stand_at, stand_in, stands};
 use nd_closure::Refs;
 use nd_ledger::Dispatch;
 use nd_path::{PathSet, StorePath};
@@ -132,20 +130,20 @@ pub(crate) const SECOND: ParkPlace = ParkPlace {
 };
 
 /// The one place of a park with one slot.
-pub(crate) const ONE: [ParkPlace; 1] = [FIRST];
+const ONE: [ParkPlace; 1] = [FIRST];
 
 /// The places of two machines with a slot each.
 pub(crate) const TWO: [ParkPlace; 2] = [FIRST, SECOND];
 
 /// Whether a run ended without a fault and with these lines.
-pub(crate) fn is_end(alloc: Global, end: Ran<StandIn>, lines: &str) -> bool {
+fn is_end(alloc: Global, end: Ran<StandIn>, lines: &str) -> bool {
     let right = end.fault.is_none() && has_lines(alloc, &end.dispatch, lines);
     close_run(end);
     right
 }
 
 /// Whether a run of this dispatch ends without a fault and with these lines.
-pub(crate) fn gives<R: Threads + Wait + Sync>(
+fn gives<R: Threads + Wait + Sync>(
     rt: &R,
     alloc: Global,
     opened: Option<Dispatch>,
@@ -167,11 +165,11 @@ pub(crate) fn gives<R: Threads + Wait + Sync>(
 
 /// A run over a bundle and these builders alone, by workers whose stand-ins do so, and the lines of its history.
 #[derive(Clone, Copy)]
-pub(crate) struct Example {
-    pub(crate) bundle: &'static str,
-    pub(crate) builders: &'static str,
-    pub(crate) stand: Stand,
-    pub(crate) lines: &'static str,
+struct Example {
+    bundle: &'static str,
+    builders: &'static str,
+    stand: Stand,
+    lines: &'static str,
 }
 
 /// Whether the runs of these examples by workers on these places end without a fault and with their lines.
@@ -191,11 +189,7 @@ fn are_given<R: Threads + Wait + Sync>(
 }
 
 /// Whether these are the receipts of the two workers of a run.
-pub(crate) fn are_receipts(
-    receipts: &[Vec<Receipt>],
-    first: &[(usize, u8)],
-    second: &[(usize, u8)],
-) -> bool {
+fn are_receipts(receipts: &[Vec<Receipt>], first: &[(usize, u8)], second: &[(usize, u8)]) -> bool {
     match (receipts.get(0), receipts.get(1)) {
         (Some(one), Some(two)) => {
             has_receipts(one.as_slice(), first) && has_receipts(two.as_slice(), second)
@@ -205,7 +199,7 @@ pub(crate) fn are_receipts(
 }
 
 /// Whether these are the receipts of the two workers of a run of this dispatch.
-pub(crate) fn gives_receipts<R: Threads + Wait + Sync>(
+fn gives_receipts<R: Threads + Wait + Sync>(
     rt: &R,
     opened: Option<Dispatch>,
     seats: Vec<Seat<StandIn>>,
@@ -247,20 +241,17 @@ fn builds_elsewhere<R: Threads + Wait + Sync>(
 }
 
 /// Whether the worker of machine 1 has a receipt of its one call or its two where these are refused.
-pub(crate) fn gives_refused_receipts<R: Threads + Wait + Sync>(
-    rt: &R,
-    alloc: Global,
-) -> bool {
+fn gives_refused_receipts<R: Threads + Wait + Sync>(rt: &R, alloc: Global) -> bool {
     builds_elsewhere(rt, alloc, Stand::NoConnect(1), &[(1, 1)])
         && builds_elsewhere(rt, alloc, Stand::NoCopy(1), &[(1, 2)])
 }
 
 /// The history of the stored run.
-pub(crate) const STORED: &str =
+const STORED: &str =
     "chosen 0 1 0\nstarted 0 s1\nbuilt 0 o\nchosen 1 1 0\nstarted 1\nbuilt 1 o\nchosen 2 1 0\nstarted 2\nbuilt 2 o\n";
 
 /// A transport of whatever type.
-pub(crate) type AnyTransport = Box<dyn Transport + Send>;
+type AnyTransport = Box<dyn Transport + Send>;
 
 /// Whether a run ended with the stored run's history, and with the receipts that belong to it.
 fn is_stored(alloc: Global, end: Ran<AnyTransport>) -> bool {
@@ -284,7 +275,7 @@ fn is_stored(alloc: Global, end: Ran<AnyTransport>) -> bool {
 }
 
 /// Whether the stored run by this worker gives its history, and the receipts that belong to it.
-pub(crate) fn gives_stored<R: Threads + Wait + Sync>(
+fn gives_stored<R: Threads + Wait + Sync>(
     rt: &R,
     alloc: Global,
     workers: Vec<Seat<AnyTransport>>,
@@ -302,7 +293,7 @@ pub(crate) fn gives_stored<R: Threads + Wait + Sync>(
 }
 
 /// The worker of the stored run.
-pub(crate) fn stored_worker(alloc: Global) -> Result<Vec<Seat<AnyTransport>>, Fail> {
+fn stored_worker(alloc: Global) -> Result<Vec<Seat<AnyTransport>>, Fail> {
     let stand = stand_in(alloc, 1, Vec::new(alloc))?;
     let transport: AnyTransport = Box::new(alloc, stand)?;
     let worker = Seat {
@@ -323,7 +314,7 @@ fn stored_run(rt: HostRuntime) -> Result<(), Fail> {
 const ELSEWHERE: &str = "chosen 0 1 0\ndown 0\nchosen 0 2 0\nstarted 0\nbuilt 0 o\n";
 
 /// A connect, and a copy, that machine 1 refuses.
-pub(crate) const REFUSED: [Example; 2] = [
+const REFUSED: [Example; 2] = [
     Example {
         bundle: PLAIN_1,
         builders: "m;n",
@@ -339,7 +330,7 @@ pub(crate) const REFUSED: [Example; 2] = [
 ];
 
 /// A build that is lost, and one that reports what it may not have.
-pub(crate) const LOST: [Example; 2] = [
+const LOST: [Example; 2] = [
     Example {
         bundle: PLAIN_1,
         builders: "m",
@@ -355,7 +346,7 @@ pub(crate) const LOST: [Example; 2] = [
 ];
 
 /// A run over no derivation.
-pub(crate) const EMPTY: [Example; 1] = [Example {
+const EMPTY: [Example; 1] = [Example {
     bundle: "",
     builders: "m",
     stand: Stand::Plain,
@@ -363,7 +354,7 @@ pub(crate) const EMPTY: [Example; 1] = [Example {
 }];
 
 /// A run without a machine.
-pub(crate) const UNMANNED: [Example; 1] = [Example {
+const UNMANNED: [Example; 1] = [Example {
     bundle: PLAIN_1,
     builders: "",
     stand: Stand::Plain,
@@ -420,7 +411,7 @@ fn refuses<R: Threads + Wait + Sync>(
 }
 
 /// Whether a run without a worker, one by two workers on one place and one by more than 1,024 workers are refused.
-pub(crate) fn refuses_workers<R: Threads + Wait + Sync>(rt: &R, alloc: Global) -> bool {
+fn refuses_workers<R: Threads + Wait + Sync>(rt: &R, alloc: Global) -> bool {
     let none = workers(alloc, &[], Stand::Plain);
     let twice = workers(alloc, &[FIRST, FIRST], Stand::Plain);
     refuses(rt, alloc, "m", none, RunError::Slots)
@@ -470,7 +461,7 @@ fn drain_first(opened: &mut Dispatch) -> bool {
 }
 
 /// The dispatch of one plain node and two machines, of which the first is drained.
-pub(crate) fn drained(alloc: Global) -> Option<Dispatch> {
+fn drained(alloc: Global) -> Option<Dispatch> {
     let mut opened = dispatch(alloc, PLAIN_1, "m;n")?;
     if !drain_first(&mut opened) {
         close(opened);
@@ -480,21 +471,12 @@ pub(crate) fn drained(alloc: Global) -> Option<Dispatch> {
 }
 
 /// The history where machine 1 is drained before the run.
-pub(crate) const DRAINED: &str = "drain 1\nchosen 0 2 0\nstarted 0\nbuilt 0 o\n";
+const DRAINED: &str = "drain 1\nchosen 0 2 0\nstarted 0\nbuilt 0 o\n";
 
 #[test]
 fn drained_run(rt: HostRuntime) {
     let alloc = rt.alloc();
-    assert!(rt;
-        gives(
-            &rt,
-            alloc,
-            drained(alloc),
-            &TWO,
-            Stand::Plain,
-            DRAINED
-        )
-    );
+    assert!(rt; gives(&rt, alloc, drained(alloc), &TWO, Stand::Plain, DRAINED));
 }
 
 /// Leases the one node of a dispatch on slot 0 of machine 1, and starts the lease where asked to.
@@ -512,7 +494,7 @@ fn lease_first(alloc: Global, opened: &mut Dispatch, started: bool) -> bool {
 }
 
 /// The dispatch of one plain node whose lease is live, and started where asked.
-pub(crate) fn leased(alloc: Global, started: bool) -> Option<Dispatch> {
+fn leased(alloc: Global, started: bool) -> Option<Dispatch> {
     let mut opened = dispatch(alloc, PLAIN_1, "m")?;
     if !lease_first(alloc, &mut opened, started) {
         close(opened);
@@ -555,7 +537,7 @@ fn takes_up<R: Threads + Wait + Sync>(
 
 /// Whether a lease that was started is taken up: its build is asked for again, and it is lost where its machine isn't
 /// reached.
-pub(crate) fn takes_up_started<R: Threads + Wait + Sync>(rt: &R, alloc: Global) -> bool {
+fn takes_up_started<R: Threads + Wait + Sync>(rt: &R, alloc: Global) -> bool {
     let lost = "chosen 0 1 0\nstarted 0\nfailed 0 lost\n";
     takes_up(rt, alloc, Stand::Plain, 3, BUILT)
         && takes_up(rt, alloc, Stand::Lose, 3, lost)
@@ -564,7 +546,7 @@ pub(crate) fn takes_up_started<R: Threads + Wait + Sync>(rt: &R, alloc: Global) 
 }
 
 /// The history of one derivation that is built on machine 1.
-pub(crate) const BUILT: &str = "chosen 0 1 0\nstarted 0\nbuilt 0 o\n";
+const BUILT: &str = "chosen 0 1 0\nstarted 0\nbuilt 0 o\n";
 
 /// A lease that is live when a run begins is taken up.
 #[test]
@@ -576,7 +558,7 @@ fn taken_up(rt: HostRuntime) {
 }
 
 /// The history of the stored run where so many calls pass.
-pub(crate) fn blown(passes: u32) -> &'static str {
+fn blown(passes: u32) -> &'static str {
     match passes {
         0 | 1 => "chosen 0 1 0\ndown 0\nnobuilder 0\n",
         2 => "chosen 0 1 0\nstarted 0 s1\nfailed 0 lost\n",
@@ -593,17 +575,10 @@ pub(crate) fn blown(passes: u32) -> &'static str {
 }
 
 /// Whether a run of the chain on one slot gives what belongs to each fuse, up to one that isn't blown.
-pub(crate) fn blows<R: Threads + Wait + Sync>(rt: &R, alloc: Global) -> bool {
+fn blows<R: Threads + Wait + Sync>(rt: &R, alloc: Global) -> bool {
     for passes in 0..10u32 {
         let chain = dispatch(alloc, CHAIN, "m");
-        if !gives(
-            rt,
-            alloc,
-            chain,
-            &ONE,
-            Stand::Fuse(passes),
-            blown(passes),
-        ) {
+        if !gives(rt, alloc, chain, &ONE, Stand::Fuse(passes), blown(passes)) {
             return false;
         }
     }
@@ -629,7 +604,7 @@ fn misreporting(stand: Stand) -> Example {
 }
 
 /// No list for the one output, two lists, and a list with a source of no node.
-pub(crate) fn dishonest() -> [Example; 3] {
+fn dishonest() -> [Example; 3] {
     [
         misreporting(Stand::Lists(0)),
         misreporting(Stand::Lists(2)),
@@ -658,11 +633,7 @@ fn refused_lists(end: &Ran<StandIn>) -> Option<(usize, usize)> {
 }
 
 /// The refused lists of a run over the chain, whose worker does so.
-fn judged<R: Threads + Wait + Sync>(
-    rt: &R,
-    alloc: Global,
-    stand: Stand,
-) -> Option<(usize, usize)> {
+fn judged<R: Threads + Wait + Sync>(rt: &R, alloc: Global, stand: Stand) -> Option<(usize, usize)> {
     let opened = dispatch(alloc, CHAIN, "m")?;
     match ran(rt, opened, workers(alloc, &ONE, stand)) {
         Ok(end) => {
@@ -678,7 +649,7 @@ fn judged<R: Threads + Wait + Sync>(
 }
 
 /// Whether references that a build may not have are handed back, as they were reported, and no other ones are.
-pub(crate) fn judges<R: Threads + Wait + Sync>(rt: &R, alloc: Global) -> bool {
+fn judges<R: Threads + Wait + Sync>(rt: &R, alloc: Global) -> bool {
     judged(rt, alloc, Stand::Stranger) == Some((1, 1))
         && judged(rt, alloc, Stand::Lists(0)) == Some((0, 0))
         && judged(rt, alloc, Stand::Lists(2)) == Some((2, 2))

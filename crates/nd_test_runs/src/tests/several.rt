@@ -50,10 +50,7 @@ impl Same {
                 .iter()
                 .zip(self.first)
                 .all(|(entry, line)| is_line(alloc, entry, line))
-            && self
-                .behind
-                .iter()
-                .all(|line| rest.iter().any(|entry| is_line(alloc, entry, line)))
+            && self.behind.iter().all(|line| rest.iter().any(|entry| is_line(alloc, entry, line)))
     }
 }
 
@@ -121,9 +118,25 @@ const LOST_BESIDE: Same = Same {
 fn two_slots(rt: HostRuntime) {
     let alloc = rt.alloc();
     let plain = dispatch(alloc, PLAIN_3, "m - - 2");
-    assert!(rt; gives(&rt, alloc, plain, workers(alloc, &SLOTS, Stand::Plain), &IN_TURN));
+    assert!(rt;
+        gives(
+            &rt,
+            alloc,
+            plain,
+            workers(alloc, &SLOTS, Stand::Plain),
+            &IN_TURN
+        )
+    );
     let losing = dispatch(alloc, PLAIN_3, "m - - 2");
-    assert!(rt; gives(&rt, alloc, losing, workers(alloc, &SLOTS, Stand::Lose), &LOST_BESIDE));
+    assert!(rt;
+        gives(
+            &rt,
+            alloc,
+            losing,
+            workers(alloc, &SLOTS, Stand::Lose),
+            &LOST_BESIDE
+        )
+    );
 }
 
 /// Two derivations on two machines, the first of which isn't reached: its derivation waits for the other one.
@@ -168,7 +181,15 @@ fn two_machines(rt: HostRuntime) {
         let plain = dispatch(alloc, PLAIN_2, "m;n");
         assert!(rt; gives(&rt, alloc, plain, unreached, &ON_THE_OTHER));
         let diamond = dispatch(alloc, DIAMOND, "m;n");
-        assert!(rt; gives(&rt, alloc, diamond, workers(alloc, &places, Stand::Plain), &COPIED));
+        assert!(rt;
+            gives(
+                &rt,
+                alloc,
+                diamond,
+                workers(alloc, &places, Stand::Plain),
+                &COPIED
+            )
+        );
     }
 }
 

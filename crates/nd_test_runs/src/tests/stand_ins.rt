@@ -197,7 +197,11 @@ fn builds<S: Transport>(stand: &mut S, job: &Job, sets: usize, paths: usize) -> 
 /// A stand-in that reports two lists of derivation 0, fails derivation 1, and lets two leases pass and one call more.
 fn fused(alloc: Global) -> Result<StandIn, Fail> {
     let refs = Refs::new(vec![in alloc; one_path(alloc)?, one_path(alloc)?]?);
-    let mut stand = stand_in(alloc, 1, vec![in alloc; Rule::Built(0, refs), Rule::Fail(1, 4)]?)?;
+    let mut stand = stand_in(
+        alloc,
+        1,
+        vec![in alloc; Rule::Built(0, refs), Rule::Fail(1, 4)]?,
+    )?;
     stand.fuse(7);
     Ok(stand)
 }
