@@ -65,6 +65,7 @@ pub fn audit_journal_engine<R: Read, W: Write>(
 
 /// The verdict on the history that a journal with these bytes tells, over the bundle on the input and the park of the
 /// options. It is refused as [`audit_journal_engine`] says.
+#[tactic(auto, using(crate::proofs::Judged::judgements))]
 fn judge<R: Read>(
     rt: &(impl Threads + Sync),
     alloc: Global,
