@@ -57,12 +57,22 @@ pub struct Journal {
 /// Refuses with `BadLine` (1) and the number of the first line that isn't one of a journal, the first line being 1: a whole
 /// line, or else what stands behind the last newline, where that can't be left of an entry's line. Refuses with `Memory` (2)
 /// where an allocation is refused.
-#[tactic(auto, using(crate::proofs::OneAnswer::begins))]
 pub fn read_journal(alloc: Global, bytes: &[u8]) -> Result<Journal, JournalError>
     ensures read { IfOk result (λ journal. IsReadAs bytes.now journal.entries.items) }
     ensures length { IfOk result (λ journal. journal.length ≡ length (whole_lines bytes.now)) }
     ensures refused { IfErr result (IsJournalRefused bytes.now) }
     ensures exactly { (entries : List Entry) → IsReadAs bytes.now entries → IsReadUnlessMemory result entries }
+{
+    // For the proof: `exactly` follows from what is said of each answer.
+    read_bytes(alloc, bytes)
+}
+
+/// The same, said of each answer alone.
+#[tactic(auto, using(crate::proofs::OneAnswer::begins))]
+fn read_bytes(alloc: Global, bytes: &[u8]) -> Result<Journal, JournalError>
+    ensures read { IfOk result (λ journal. IsReadAs bytes.now journal.entries.items) }
+    ensures length { IfOk result (λ journal. journal.length ≡ length (whole_lines bytes.now)) }
+    ensures refused { IfErr result (IsJournalRefused bytes.now) }
 {
     let first = first_line();
     if begins_with(bytes, first) {
@@ -77,7 +87,7 @@ pub fn read_journal(alloc: Global, bytes: &[u8]) -> Result<Journal, JournalError
     Err(JournalError::BadLine(1))
 }
 
-/// The same, where the bytes begin with the first line. That what is refused is no journal follows from what is said of each.
+/// The same, where the bytes begin with the first line.
 #[tactic(auto, using(crate::proofs::OneAnswer::readings))]
 fn read_lines(alloc: Global, bytes: &[u8]) -> Result<Journal, JournalError>
     requires { IsBeginning (first_line Version.Second) bytes.now }
