@@ -109,17 +109,41 @@ fn illegal_journal(rt: HostRuntime) {
 fn refused_journals(rt: HostRuntime) {
     let alloc = rt.alloc();
     for (journal, line) in [
-        ("nix-dispatch-history 1\n", "nix-dispatch: journal: BadLine 1"),
-        ("nix-dispatch-history 1\nchosen 0 1 0\nst", "nix-dispatch: journal: BadLine 1"),
-        ("line without newline, my notes", "nix-dispatch: journal: BadLine 1"),
+        (
+            "nix-dispatch-history 1\n",
+            "nix-dispatch: journal: BadLine 1",
+        ),
+        (
+            "nix-dispatch-history 1\nchosen 0 1 0\nst",
+            "nix-dispatch: journal: BadLine 1",
+        ),
+        (
+            "line without newline, my notes",
+            "nix-dispatch: journal: BadLine 1",
+        ),
         ("nix-dispatch-history 1", "nix-dispatch: journal: BadLine 1"),
         ("chosen", "nix-dispatch: journal: BadLine 1"),
         ("\n", "nix-dispatch: journal: BadLine 1"),
-        ("nix-dispatch-history 2\nmy notes", "nix-dispatch: journal: BadLine 2"),
-        ("nix-dispatch-history 2\nchosen 0 1 0\nstop ", "nix-dispatch: journal: BadLine 3"),
-        ("nix-dispatch-history 2\nchosen 0 1 0\nchosen, my notes", "nix-dispatch: journal: BadLine 3"),
-        ("nix-dispatch-history 2\nchosen 0 1 0\ndown 0000000000000", "nix-dispatch: journal: BadLine 3"),
-        ("nix-dispatch-history 2\nbuilt\nmy notes", "nix-dispatch: journal: BadLine 2"),
+        (
+            "nix-dispatch-history 2\nmy notes",
+            "nix-dispatch: journal: BadLine 2",
+        ),
+        (
+            "nix-dispatch-history 2\nchosen 0 1 0\nstop ",
+            "nix-dispatch: journal: BadLine 3",
+        ),
+        (
+            "nix-dispatch-history 2\nchosen 0 1 0\nchosen, my notes",
+            "nix-dispatch: journal: BadLine 3",
+        ),
+        (
+            "nix-dispatch-history 2\nchosen 0 1 0\ndown 0000000000000",
+            "nix-dispatch: journal: BadLine 3",
+        ),
+        (
+            "nix-dispatch-history 2\nbuilt\nmy notes",
+            "nix-dispatch: journal: BadLine 2",
+        ),
     ] {
         let journal = journal.as_bytes();
         assert!(rt; is_refused(alloc, report(&rt, alloc, journal), line));
