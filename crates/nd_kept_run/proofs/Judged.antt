@@ -17,7 +17,8 @@ use Rattle.nd_serve_command.specs.declared.fault.ServeFault.{ServeFault}
 use Rattle.nd_serve_command.specs.declared.fault.ServeFault.TheVariants.{Cli, NotEmpty, InUse, Journal, JournalFailed}
 use Rattle.nd_serve_command.specs.declared.opened.Opened.{Opened}
 use Rattle.nd_serve_command.specs.declared.resume_error.ResumeError.TheVariants.{BadLine, Illegal as IllegalJournal, Memory as NoRoom}
-use Rattle.nd_kept_run.specs.Audited.{AuditsJournal, TearsVerdict, IsUnjudged, IsVerdictOn, JudgesJournal, TellsLegalUnlessDevice, verdict_of, verdict_status, verdict_text}
+use Rattle.nd_kept_run.specs.Audited.{AuditsJournal, TearsVerdict, IsUnjudged}
+use Rattle.nd_kept_run.specs.Verdicts.{IsVerdictOn, JudgesJournal, legal_verdict, verdict_of, verdict_status, verdict_text}
 use Rattle.nd_kept_run.specs.Reported.{is_unwritten, IsNoRefusal as IsNoAuditRefusal}
 use Rattle.nd_kept_run.specs.declared.auditing.Verdict.{Verdict}
 use Rattle.nd_kept_run.specs.declared.auditing.Verdict.TheVariants.{Legal, Illegal}
@@ -26,7 +27,7 @@ use Rattle.nd_kept_run.proofs.Told.{no_refusal}
 -- ---- what was opened
 
 pub legal_judged : (options : ParkOptions) (journal : List ℕ) (unread left : Option (List ℕ)) (world : World) (verdict : Verdict) → BeginsSession options journal true unread left world
-    → verdict ≡ Legal (length world.history) → JudgesJournal options journal unread left verdict
+    → verdict ≡ legal_verdict world → JudgesJournal options journal unread left verdict
 legal_judged options journal unread left world verdict begins is = subst (JudgesJournal options journal unread left) (sym is) (record {
   inputs = world.inputs;
   entries = world.history;
@@ -38,8 +39,8 @@ legal_judged options journal unread left world verdict begins is = subst (Judges
   on = (begins.accepts.history.legal, refl);
 })
 
-pub same_legal : (opened world : World) (verdict : Verdict) → opened ≡ world → verdict ≡ Legal (length opened.history) → verdict ≡ Legal (length world.history)
-same_legal opened world verdict same is = is ∙ ap (λ (w : World). Legal (length w.history)) same
+pub same_legal : (opened world : World) (verdict : Verdict) → opened ≡ world → verdict ≡ legal_verdict opened → verdict ≡ legal_verdict world
+same_legal opened world verdict same is = is ∙ ap legal_verdict same
 
 -- ---- what was refused
 

@@ -1,23 +1,18 @@
 -- What `audit` answers of a journal: whether the history that it tells is legal, and else the first entry that isn't allowed with the first rule that
--- refuses it. The contract of `audit_journal_engine` cites this. `JudgesJournal`, `IsUnjudged`, `verdict_of`, `verdict_text` and `verdict_status` serve
--- those of private functions too.
-use Rattle.std.specs.Prelude.{◌≡◌, ◌⊎◌, ◌×◌, ℕ, ◌≤◌, true, List, length, reverse, Option, Some, Result, Ok, Err, MatchResult}
+-- refuses it. The contract of `audit_journal_engine` cites this. `IsUnjudged` serves that of a private function too.
+use Rattle.std.specs.Prelude.{◌≡◌, ◌⊎◌, ◌×◌, ℕ, ◌≤◌, true, List, length, Option, Some, Result, MatchResult}
 use Rattle.std.specs.Io.KnownBytes.{Appends}
 use Rattle.nd_cli.specs.declared.options.ParkOptions.{ParkOptions}
 use Rattle.nd_cli.specs.declared.fault.CliFault.TheVariants.{Write}
-use Rattle.nd_commands.specs.Audited.{WritesVerdict, WritesVerdictPart, legal_line, illegal_line}
+use Rattle.nd_commands.specs.Audited.{WritesVerdict, WritesVerdictPart, legal_line}
 use Rattle.nd_commands.specs.Opened.{ReadsInputs}
 use Rattle.nd_devices.specs.Watched.{Watched}
 use Rattle.nd_history.specs.declared.entry.Entry.{Entry}
 use Rattle.nd_history.specs.declared.rule.Rule.{Rule}
-use Rattle.nd_history.specs.Legal.{IsLegal}
 use Rattle.nd_history.specs.Premises.{Premises}
 use Rattle.nd_journal.specs.JournalTexts.{IsReadAs}
 use Rattle.nd_kept_run.specs.Reported.{IsNoRefusal}
-use Rattle.nd_kept_run.specs.declared.auditing.Verdict.{Verdict}
-use Rattle.nd_kept_run.specs.declared.auditing.Verdict.TheVariants.{Legal, Illegal}
 use Rattle.nd_ledger.specs.Worlds.{World}
-use Rattle.nd_report.specs.Audits.{IsFirstIllegal}
 use Rattle.nd_serve_command.specs.Sessions.{AcceptsSession, IsOpenFault, journal_limit}
 use Rattle.nd_serve_command.specs.declared.fault.ServeFault.{ServeFault}
 use Rattle.nd_serve_command.specs.declared.fault.ServeFault.TheVariants.{Cli, Journal}
@@ -70,38 +65,3 @@ abbrev pub AnswersAcceptedAudit : {R W : Type 0} → ParkOptions → List ℕ �
 AnswersAcceptedAudit options journal remaining reader contents writer writer_after answer =
     (text : List ℕ) (world : World) → remaining reader.device ≡ Some text → AcceptsSession options text journal true world
     → TellsLegalUnlessDevice (length world.history) (contents writer.device) (contents writer_after.device) answer
-
--- ---- the verdict before it is written
-
--- it is that on these entries
-abbrev pub IsVerdictOn : Premises → List Entry → Verdict → Type 0
-IsVerdictOn i entries (Legal count) = IsLegal i (reverse entries) × (count ≡ length entries)
-IsVerdictOn i entries (Illegal index rule) = IsFirstIllegal i entries index rule
-
--- .. which were read
-pub record JudgesJournal (options : ParkOptions) (journal : List ℕ) (unread left : Option (List ℕ)) (verdict : Verdict) : Type 0 where
-  pub inputs : Premises
-  pub entries : List Entry
-  pub reads : ReadsAudited options journal unread left inputs entries
-  pub on : IsVerdictOn inputs entries verdict
-
--- its line, and the status
-abbrev pub verdict_text : Verdict → List ℕ
-verdict_text (Legal count) = legal_line count
-verdict_text (Illegal index rule) = illegal_line index rule
-
-abbrev pub verdict_status : Verdict → ℕ
-verdict_status (Legal count) = 0
-verdict_status (Illegal index rule) = 4
-
--- the verdict that a refusal of the journal is
-abbrev pub verdict_of : ServeFault → Result Verdict ServeFault
-verdict_of (Journal (IllegalJournal index rule)) = Ok (Illegal index rule)
-verdict_of fault = Err fault
-
--- it is this one, wherever the reader is known to have a bundle left that is accepted, with the park and the journal, unless it failed or memory
--- ran out
-abbrev pub JudgesAccepted : ParkOptions → List ℕ → Option (List ℕ) → Result Verdict ServeFault → Type 0
-JudgesAccepted options journal unread answer =
-    (text : List ℕ) (world : World) → unread ≡ Some text → AcceptsSession options text journal true world
-    → MatchResult answer (λ verdict. verdict ≡ Legal (length world.history)) IsNoRefusal

@@ -1,12 +1,12 @@
 //! The command `audit` over a journal.
 
-ghost use Rattle.std.specs.Prelude.{◌≡◌, false, length, is_err, IfOk, IfErr, OnOk, OnErr};
+ghost use Rattle.std.specs.Prelude.{◌≡◌, false, is_err, IfOk, IfErr, OnOk, OnErr};
 ghost use Rattle.std.specs.Io.KnownBytes.{Appends};
 ghost use Rattle.nd_devices.specs.Written.{WritesPart};
 ghost use Rattle.nd_cli.specs.declared.fault.CliFault.{CliFault};
 ghost use Rattle.nd_serve_command.specs.Sessions.{is_unread};
-ghost use Rattle.nd_kept_run.specs.Audited.{AnswersAcceptedAudit, AuditsJournal, IsAuditFault, IsUnjudged, JudgesAccepted, JudgesJournal};
-ghost use Rattle.nd_kept_run.specs.Audited.{verdict_of, verdict_status, verdict_text};
+ghost use Rattle.nd_kept_run.specs.Audited.{AnswersAcceptedAudit, AuditsJournal, IsAuditFault, IsUnjudged};
+ghost use Rattle.nd_kept_run.specs.Verdicts.{JudgesAccepted, JudgesJournal, legal_verdict, verdict_of, verdict_status, verdict_text};
 ghost use Rattle.nd_kept_run.specs.Reported.{is_unwritten};
 
 use nd_cli::{CliFault, ParkOptions};
@@ -87,7 +87,7 @@ fn judge<R: Read>(
 
 /// The verdict on what was opened, whose history is legal.
 fn legal(opened: Opened) -> Verdict
-    ensures { result ≡ Verdict.Legal (length opened.dispatch.history) }
+    ensures { result ≡ legal_verdict opened.dispatch }
 {
     let Opened { dispatch, kept: _ } = opened;
     let count = dispatch.history().len();
