@@ -136,6 +136,10 @@ for command in serve run; do
   ) 9> "$journal"
   printf 'nix-dispatch-history 2\nbuilt\n' > "$journal"
   left_alone 'journal: BadLine 2' 3 "--journal, file $journal, line 2" "$command" --bundle "$folder/in" --journal "$journal" --resume
+  printf 'line without newline, my notes' > "$journal"
+  left_alone 'journal: BadLine 1' 3 "--journal, file $journal, line 1" "$command" --bundle "$folder/in" --journal "$journal" --resume
+  printf 'nix-dispatch-history 2\nmy notes' > "$journal"
+  left_alone 'journal: BadLine 2' 3 "--journal, file $journal, line 2" "$command" --bundle "$folder/in" --journal "$journal" --resume
   printf 'nix-dispatch-history 2\nstarted 0\n' > "$journal"
   left_alone 'journal: Illegal 0 Live' 3 "--journal, file $journal, line 2" "$command" --bundle "$folder/in" --journal "$journal" --resume
   truncate -s 1073741825 "$journal"
@@ -147,15 +151,20 @@ done
 left_alone 'history: TooLarge' 3 "--journal, file $journal" report --journal "$journal"
 left_alone 'history: TooLarge' 3 "--journal, file $journal" audit --journal "$journal"
 refused 'history: TooLarge' 3 '--journal, file /dev/zero' report --journal /dev/zero
+refused 'history: TooLarge' 3 '--journal, file /dev/zero' audit --journal /dev/zero
 printf 'nix-dispatch-history 2\nstarted 0\n' > "$journal"
 left_alone 'journal: Illegal 0 Live' 3 "--journal, file $journal, line 2" report --journal "$journal"
 printf 'nix-dispatch-history 2\nbuilt\n' > "$journal"
 left_alone 'journal: BadLine 2' 3 "--journal, file $journal, line 2" report --journal "$journal"
-left_alone 'history: BadLine 2' 3 "--journal, file $journal, line 2" audit --journal "$journal"
-printf 'chosen 0 0 0\n' > "$journal"
-left_alone 'history: Version' 3 "--journal, file $journal, line 1" audit --journal "$journal"
+left_alone 'journal: BadLine 2' 3 "--journal, file $journal, line 2" audit --journal "$journal"
+for text in 'chosen 0 0 0\n' 'nix-dispatch-history 1\nchosen 0 0 0' 'line without newline, my notes'; do
+  printf '%b' "$text" > "$journal"
+  for command in report audit; do
+    left_alone 'journal: BadLine 1' 3 "--journal, file $journal, line 1" "$command" --journal "$journal"
+  done
+done
 refused 'journal failed' 5 '--journal, file /nowhere/journal' report --journal /nowhere/journal
-refused 'read failed' 5 '--journal, file /nowhere/journal' audit --journal /nowhere/journal
+refused 'journal failed' 5 '--journal, file /nowhere/journal' audit --journal /nowhere/journal
 
 # The devices.
 bundle "$good"

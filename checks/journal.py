@@ -9,6 +9,8 @@ ordered     each call of a copy and of a build behind the sync of the entry that
 refused     each append and each sync of the journal refused in turn, and each append cut short
 full        a disk that fills up
 told        `InUse`, `NotEmpty`, a last line that isn't whole
+foreign     files that are no journal, which `run`, `serve`, `report` and `audit` refuse alike and leave as they are; and
+            a journal that is cut at each of its bytes
 looked_at   `report --journal` and `audit --journal` while the run goes on
 
 It needs the built program, or one that NIX_DISPATCH names, Python 3 and a C compiler; `full` needs root besides.
@@ -180,11 +182,22 @@ class Case:
         ended = subprocess.run(words, capture_output=True, check=False, env={**os.environ, **surroundings})
         return ended.returncode, ended.stdout.decode(), ended.stderr.decode()
 
+    def serve(self):
+        """A session that goes on from the journal, and is told nothing: its status, and what it wrote to each output."""
+        words = [PROGRAM, "serve", *self.given, "--journal", self.journal, "--resume"]
+        ended = subprocess.run(words, stdin=subprocess.DEVNULL, capture_output=True, check=False)
+        return ended.returncode, ended.stdout, ended.stderr.decode()
+
     def bytes(self):
         if not os.path.exists(self.journal):
             return b""
         with open(self.journal, "rb") as file:
             return file.read()
+
+    def hold(self, held):
+        """Has the journal hold these bytes, and nothing else."""
+        with open(self.journal, "wb") as file:
+            file.write(held)
 
     def whole(self):
         """The journal, less a last line that isn't whole."""
@@ -521,6 +534,85 @@ def told(folder):
     print(f"told: NotEmpty, InUse, BadLine and Illegal, and {len(line) - 1} beginnings of a last line that are cut away")
 
 
+def foreign(folder):
+    case = Case(folder, layered(6, 3), 2)
+    if case.run("--report")[0] != 0:
+        fail("foreign: a run that nothing disturbs fails")
+    whole = case.bytes()
+    lines = whole.splitlines(keepends=True)
+    front, behind = b"".join(lines[:5]), len(lines) + 1
+    first = whole.replace(b"history 2", b"history 1")
+    rng = random.Random(1)
+    texts = [
+        # no first line
+        (1, b"line without newline, my notes"),
+        (1, b"chosen"),
+        (1, b"\n"),
+        (1, b"\0"),
+        (1, b"Nix-dispatch"),
+        (1, FIRST_LINE[:-1] + b" "),
+        (1, FIRST_LINE[:-1] + b"\r\n"),
+        (1, FIRST_LINE[1:]),
+        (1, b"my notes\n" + whole),
+        # version 1, whole and cut
+        (1, first),
+        (1, first[:-3]),
+        (1, first[: len(FIRST_LINE)]),
+        (1, first[: len(FIRST_LINE) - 1]),
+        # a whole line that is none, whatever stands behind it
+        (6, front + b"my notes\n"),
+        (6, front + b"\n"),
+        (6, front + b"built\nmy notes"),
+        # a last line that isn't finished, and is none
+        (2, FIRST_LINE + b"my notes"),
+        (6, front + b"my notes"),
+        (6, front + b" "),
+        (6, front + b"started,"),
+        (6, front + b"startedly"),
+        (6, front + b"built 0 o\0"),
+        (6, front + b"built 0 o\r"),
+        (6, front + b"down 01234567890"),
+        (6, front + b"stop "),
+        (behind, whole + b"my notes, behind all that is built"),
+        (behind, whole + b"\0" * 4096),
+        (behind, whole + b"\xff"),
+        (behind, whole + b"chosen" + b" 1" * 17),
+        (behind, whole + b"y" * 100_000),
+    ]
+    texts += [(behind, whole + b"!" + rng.randbytes(99).replace(b"\n", b" ")) for _ in range(20)]
+    for line, held in texts:
+        case.hold(held)
+        refusal = f"nix-dispatch: journal: BadLine {line}\n"
+        for what, (status, out, said) in (
+            ("run --resume", case.run("--resume")),
+            ("serve --resume", case.serve()),
+            ("report --journal", case.tell("report")),
+            ("audit --journal", case.tell("audit")),
+        ):
+            if (status, len(out), said) != (3, 0, refusal):
+                fail(f"foreign: {what} of {held[-60:]!r}: status {status}, {out[:80]!r}, {said}, and not BadLine {line}")
+            if case.bytes() != held:
+                fail(f"foreign: {what} changes {held[-60:]!r}")
+
+    # what a crash may leave: a journal that is cut at each of its bytes
+    for length in range(len(whole) + 1):
+        held = whole[:length]
+        count = max(0, held.count(b"\n") - 1)
+        case.hold(held)
+        audit, report = case.tell("audit"), case.tell("report")
+        if audit != (0, f"legal {count}\n", "") or report[0] != 0 or report[2] or case.bytes() != held:
+            fail(f"foreign: {length} bytes of a journal: {audit}, {report}")
+        if length % 2:
+            status, _, said = case.serve()
+            if status or said or not case.bytes().startswith(case.whole()) or not case.whole().startswith(held[: held.rfind(b"\n") + 1]):
+                fail(f"foreign: {length} bytes of a journal: a session ends with status {status}, {said}")
+            case.hold(held)
+        status, _, said = case.run("--resume")
+        if status or said or len(drvs_of(case.look_at("a cut journal"), "built")) != 6:
+            fail(f"foreign: {length} bytes of a journal: gone on from with status {status}, {said}")
+    print(f"foreign: {len(texts)} files that are no journal left as they are, and one cut at each of {len(whole)} bytes gone on from")
+
+
 def looked_at(folder):
     case = Case(folder, layered(300, 60), 16, agents=Agents(folder, 16, 0.15))
     ended = []
@@ -578,7 +670,15 @@ def timed(folder):
         sys.stdout.flush()
 
 
-CHECKS = {"killed": killed, "ordered": ordered, "refused": refused, "full": full, "told": told, "looked_at": looked_at}
+CHECKS = {
+    "killed": killed,
+    "ordered": ordered,
+    "refused": refused,
+    "full": full,
+    "told": told,
+    "foreign": foreign,
+    "looked_at": looked_at,
+}
 
 
 def main():

@@ -164,8 +164,10 @@ fn judge_alone(
     answer
 }
 
-/// Writes that a history of so many entries is legal, and answers the status.
-fn say_legal<W: Write>(count: usize, output: &mut Told<W>) -> Result<u8, CliFault>
+/// Writes that a history of so many entries is legal, and answers the status: 0.
+///
+/// `Write`: the writer refused, and is marked; a part of the line, from its beginning, may be out.
+pub fn say_legal<W: Write>(count: usize, output: &mut Told<W>) -> Result<u8, CliFault>
     ensures status { IfOk result (λ status. status ≡ 0) }
     ensures written { OnOk result (Appends (W.contents output.old.device) (W.contents output.new.device) (legal_line count)) }
     ensures partly { OnErr result (WritesPart (W.contents output.old.device) (W.contents output.new.device) (legal_line count)) }
@@ -178,8 +180,10 @@ fn say_legal<W: Write>(count: usize, output: &mut Told<W>) -> Result<u8, CliFaul
     }
 }
 
-/// Writes which entry is the first that is not allowed, and by which rule, and answers the status.
-fn say_illegal<W: Write>(index: usize, rule: Rule, output: &mut Told<W>) -> Result<u8, CliFault>
+/// Writes which entry is the first that is not allowed, and by which rule, and answers the status: 4.
+///
+/// `Write`: the writer refused, and is marked; a part of the line, from its beginning, may be out.
+pub fn say_illegal<W: Write>(index: usize, rule: Rule, output: &mut Told<W>) -> Result<u8, CliFault>
     ensures status { IfOk result (λ status. status ≡ 4) }
     ensures written { OnOk result (Appends (W.contents output.old.device) (W.contents output.new.device) (illegal_line index rule)) }
     ensures partly { OnErr result (WritesPart (W.contents output.old.device) (W.contents output.new.device) (illegal_line index rule)) }

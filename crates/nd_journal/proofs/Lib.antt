@@ -1,5 +1,5 @@
+pub mod LineStarts
 pub mod LinesKept
 pub mod Reading
 pub mod OneAnswer
 pub mod Looked
-pub mod Told

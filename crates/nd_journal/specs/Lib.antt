@@ -1,4 +1,4 @@
 pub mod WholeLines
+pub mod BegunLines
 pub mod JournalTexts
 pub mod JournalLaws
-pub mod Tellings

@@ -1,19 +1,27 @@
-//! The whole lines of a text.
+//! The whole lines of a text, and what stands behind them.
 
 ghost use Rattle.std.specs.Prelude.{◌≡◌, ◌+◌, ◌<◌, length};
-ghost use Rattle.nd_journal.specs.WholeLines.{AreWholeTo, whole_lines};
+ghost use Rattle.nd_journal.specs.WholeLines.{AreWholeTo, unfinished, whole_lines};
 
 /// The text without the bytes behind its last newline: nothing where it has none.
-#[tactic(auto, using(crate::proofs::LinesKept::cuttings))]
 pub fn whole_lines(text: &[u8]) -> &[u8]
     ensures { result.now ≡ whole_lines text.now }
+{
+    let (whole, _) = cut_behind(text);
+    whole
+}
+
+/// The text up to its last newline, and the bytes behind that.
+#[tactic(auto, using(crate::proofs::LinesKept::cuttings))]
+pub(crate) fn cut_behind(text: &[u8]) -> (&[u8], &[u8])
+    ensures whole { result.0.now ≡ whole_lines text.now }
+    ensures rest { result.1.now ≡ unfinished text.now }
 {
     let mut end = 0;
     for at in 0..text.len() {
         end = end_behind(text, at, end);
     }
-    let (whole, _) = text.split_at(end);
-    whole
+    text.split_at(end)
 }
 
 /// How many bytes the whole lines have up to the byte with number `at`, where those before it have `end`.

@@ -1,13 +1,14 @@
 //! Reading a journal.
 
-ghost use Rattle.std.specs.Prelude.{◌≡◌, List, length, IfOk, IfErr, MatchBool};
+ghost use Rattle.std.specs.Prelude.{◌≡◌, List, length, IfOk, IfErr};
 ghost use Rattle.nd_history.specs.declared.entry.Entry.{Entry};
 ghost use Rattle.nd_history_text.specs.HistoryTexts.{first_line};
 ghost use Rattle.nd_history_text.specs.declared.kinds.Version.{Version};
-ghost use Rattle.nd_journal.specs.JournalTexts.{BeginsSecond, BeginsOther, IsReadAs, IsReadUnlessMemory, IsJournalRefused};
-ghost use Rattle.nd_journal.specs.WholeLines.{whole_lines};
+ghost use Rattle.nd_journal.specs.JournalTexts.{IsReadAs, IsReadUnlessMemory, IsJournalRefused, error_of};
+ghost use Rattle.nd_journal.specs.WholeLines.{IsBeginning, whole_lines};
 
-use crate::cutting::whole_lines;
+use crate::begun::{begins_with, is_begun_line};
+use crate::cutting::cut_behind;
 use nd_history::Entry;
 use nd_history_text::{HistoryError, read_history};
 use std::alloc::Global;
@@ -18,7 +19,8 @@ use std::fmt;
 #[derive(Clone, Copy, Debug, PartialEq, Eq)]
 pub enum JournalError {
     /// 1: the line with this number, the first one being 1, isn't one of a journal: the first line of a
-    /// history text of the second version, and then a line for each entry. It is the first such line.
+    /// history text of the second version, then a line for each entry, and perhaps the beginning of one more.
+    /// It is the first such line.
     BadLine(usize),
     /// 2: an allocation was refused.
     Memory,
@@ -49,45 +51,72 @@ pub struct Journal {
     pub length: usize,
 }
 
-/// The entries of a journal with these bytes. What stands behind the last newline is an entry that was not
-/// finished, and is passed over.
+/// The entries of a journal with these bytes. What stands behind the last newline is the beginning of an entry's line that
+/// wasn't finished, and is passed over. Bytes that are a beginning of the first line alone tell no entry: nothing was kept yet.
 ///
-/// Refuses with `BadLine` (1) and the number of the first whole line that isn't one of a journal, the first
-/// line being 1, and with `Memory` (2) where an allocation is refused.
-#[tactic(auto, using(crate::proofs::OneAnswer::readings))]
+/// Refuses with `BadLine` (1) and the number of the first line that isn't one of a journal, the first line being 1: a whole
+/// line, or else what stands behind the last newline, where that can't be left of an entry's line. Refuses with `Memory` (2)
+/// where an allocation is refused.
 pub fn read_journal(alloc: Global, bytes: &[u8]) -> Result<Journal, JournalError>
     ensures read { IfOk result (λ journal. IsReadAs bytes.now journal.entries.items) }
     ensures length { IfOk result (λ journal. journal.length ≡ length (whole_lines bytes.now)) }
     ensures refused { IfErr result (IsJournalRefused bytes.now) }
     ensures exactly { (entries : List Entry) → IsReadAs bytes.now entries → IsReadUnlessMemory result entries }
 {
-    let whole = whole_lines(bytes);
-    let length = whole.len();
-    if length == 0 {
-        return Ok(Journal {
-            entries: Vec::new(alloc),
-            length,
-        });
-    }
-    if !begins_second(whole) {
-        return Err(JournalError::BadLine(1));
-    }
-    match read_history(alloc, whole) {
-        Ok(entries) => Ok(Journal { entries, length }),
-        Err(HistoryError::Version) => Err(JournalError::BadLine(1)),
-        Err(HistoryError::BadLine(line)) => Err(JournalError::BadLine(line)),
-        Err(HistoryError::Memory) => Err(JournalError::Memory),
-    }
+    // For the proof: `exactly` follows from what is said of each answer.
+    read_bytes(alloc, bytes)
 }
 
-/// Whether a text begins with the first line of the second version.
-#[tactic(auto, using(crate::proofs::Reading::firsts))]
-fn begins_second(text: &[u8]) -> bool
-    ensures { MatchBool result (BeginsSecond text.now) (BeginsOther text.now) }
+/// The same, said of each answer alone.
+#[tactic(auto, using(crate::proofs::OneAnswer::begins))]
+fn read_bytes(alloc: Global, bytes: &[u8]) -> Result<Journal, JournalError>
+    ensures read { IfOk result (λ journal. IsReadAs bytes.now journal.entries.items) }
+    ensures length { IfOk result (λ journal. journal.length ≡ length (whole_lines bytes.now)) }
+    ensures refused { IfErr result (IsJournalRefused bytes.now) }
 {
-    match text.strip_prefix(first_line()) {
-        Some(_) => true,
-        None => false,
+    let first = first_line();
+    if begins_with(bytes, first) {
+        return read_lines(alloc, bytes);
+    }
+    if begins_with(first, bytes) {
+        return Ok(Journal {
+            entries: Vec::new(alloc),
+            length: 0,
+        });
+    }
+    Err(JournalError::BadLine(1))
+}
+
+/// The same, where the bytes begin with the first line.
+#[tactic(auto, using(crate::proofs::OneAnswer::readings))]
+fn read_lines(alloc: Global, bytes: &[u8]) -> Result<Journal, JournalError>
+    requires { IsBeginning (first_line Version.Second) bytes.now }
+    ensures read { IfOk result (λ journal. IsReadAs bytes.now journal.entries.items) }
+    ensures length { IfOk result (λ journal. journal.length ≡ length (whole_lines bytes.now)) }
+    ensures refused { IfErr result (IsJournalRefused bytes.now) }
+{
+    let (whole, rest) = cut_behind(bytes);
+    let entries = match read_history(alloc, whole) {
+        Ok(entries) => entries,
+        Err(error) => return Err(of_lines(error)),
+    };
+    if !is_begun_line(rest) {
+        return Err(JournalError::BadLine(entries.len() + 2));
+    }
+    Ok(Journal {
+        entries,
+        length: whole.len(),
+    })
+}
+
+/// Why a journal is none whose whole lines are no history text.
+fn of_lines(error: HistoryError) -> JournalError
+    ensures { result ≡ error_of error }
+{
+    match error {
+        HistoryError::Version => JournalError::BadLine(1),
+        HistoryError::BadLine(line) => JournalError::BadLine(line),
+        HistoryError::Memory => JournalError::Memory,
     }
 }
 

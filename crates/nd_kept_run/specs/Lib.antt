@@ -1,2 +1,4 @@
 pub mod Reported
+pub mod Audited
+pub mod Verdicts
 pub mod KeptRuns

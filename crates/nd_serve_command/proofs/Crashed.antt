@@ -1,6 +1,5 @@
 -- What a crash leaves is a journal, and its history begins with the entries whose lines are durable.
 use Rattle.std.proofs.Common.{◌≡◌, ◌∙◌, ℕ, true, List, [], ◌∷◌, ◌++◌, reverse, refl, sym, ap, subst, append-nil, append_assoc, inl, inr}
-use Rattle.std.specs.Prelude.{codes}
 use Rattle.std.specs.List.{All, flat_map}
 use Rattle.std.proofs.lemmas.Grind.{flat_map-append}
 use Rattle.std.proofs.lemmas.List.{reverse-append}
@@ -14,22 +13,13 @@ use Rattle.nd_history_text.specs.Sound.{IsSound, IsTold}
 use Rattle.nd_history_text.specs.declared.kinds.Version.TheVariants.{Second}
 use Rattle.nd_history_text.proofs.Once.{same_tail}
 use Rattle.nd_history.specs.Sameness.{BeginsWith}
-use Rattle.nd_journal.specs.WholeLines.{whole_lines, IsBeginning}
+use Rattle.nd_journal.specs.BegunLines.{IsBegunLine}
+use Rattle.nd_journal.specs.WholeLines.{whole_lines, unfinished, IsBeginning}
 use Rattle.nd_serve_command.specs.Resumes.{IsResumable}
-use Rattle.nd_journal.proofs.LinesKept.{cut_at, lines_cut, lines_through, lines_go_on, whole_none, whole_through}
+use Rattle.nd_journal.proofs.LinesKept.{cut_at, lines_cut, lines_through, lines_go_on, unfinished_on, unfinished_through, whole_none, whole_through}
+use Rattle.nd_journal.proofs.Reading.{version_line, first_begun, first_through}
 
--- ---- the first line
-
--- without its newline
-abbrev pub version_line : List ℕ
-version_line = codes "nix-dispatch-history 2"
-
-line_is : first_line Second ≡ version_line ++ 10 ∷ []
-unfolding first_line
-line_is = refl
-
-text_is : (rest : List ℕ) → first_line Second ++ rest ≡ version_line ++ 10 ∷ rest
-text_is rest = ap (λ (l : List ℕ). l ++ rest) line_is ∙ append_assoc version_line (10 ∷ []) rest
+-- ---- lists of entries
 
 sound_behind : (front behind : List Entry) → All IsSound (front ++ behind) → All IsSound behind
 sound_behind [] behind sound = sound
@@ -104,10 +94,13 @@ pub new_left : (i : Premises) (start added : List Entry) (base first file : List
 new_left i start added base first file none from =
     let all = start ++ added in
     let text = whole_text start added base first file from.begun from.cut in
-    elim (cut_at version_line (base ++ file) from.cut.rest (flat_map line_of all) refl (text ∙ text_is (flat_map line_of all))) [
-      | inl silent ↦ record {
+    elim (cut_at version_line (base ++ file) from.cut.rest (flat_map line_of all) refl (text ∙ first_through (flat_map line_of all))) [
+      | inl within ↦ record {
         entries = [];
-        resumable = record { read = inl (record { none = whole_none (base ++ file) silent; empty = refl }); legal = tt };
+        resumable = record {
+          read = inl (record { none = whole_none (base ++ file) within.silent; begins = first_begun (base ++ file) within.begins; empty = refl });
+          legal = tt;
+        };
         begins = record { later = []; whole = sym none ∙ sym (append-nil start) };
         within = record { later = all; whole = refl };
       }
@@ -120,7 +113,8 @@ new_left i start added base first file none from =
                 told = all_told lines.front (sound_front lines.front lines.behind (subst (All IsSound) lines.parts from.sound));
                 text =
                     ap whole_lines found.file_is ∙ whole_through version_line found.more ∙ ap (λ (l : List ℕ). version_line ++ 10 ∷ l) lines.whole
-                    ∙ sym (text_is (flat_map line_of lines.front));
+                    ∙ sym (first_through (flat_map line_of lines.front));
+                last = subst IsBegunLine (sym (ap unfinished found.file_is ∙ unfinished_through version_line found.more)) lines.last;
               });
               legal = legal_front i all lines.front lines.behind lines.parts from.legal;
             };
@@ -150,6 +144,8 @@ durable_left i start added kept base first file from own durable =
     let on = lines_go_on history all (durable.rest ++ lacks) own from.sound lines in
     let later = sound_behind history on.more (subst (All IsSound) on.parts from.sound) in
     let last = lines_cut on.more durable.rest lacks later on.left in
+    let text_here : base ++ file ≡ version_line ++ 10 ∷ (flat_map line_of history ++ durable.rest) =
+    here ∙ append_assoc (first_line Second) (flat_map line_of history) durable.rest ∙ first_through (flat_map line_of history ++ durable.rest) in
     let parts : all ≡ (history ++ last.front) ++ last.behind =
     on.parts ∙ ap (λ (l : List Entry). history ++ l) last.parts ∙ sym (append_assoc history last.front last.behind) in
     record {
@@ -160,11 +156,15 @@ durable_left i start added kept base first file from own durable =
               all_told (history ++ last.front)
               (All-append IsSound history last.front own (sound_front last.front last.behind (subst (All IsSound) last.parts later)));
           text =
-              ap whole_lines (here ∙ append_assoc (first_line Second) (flat_map line_of history) durable.rest ∙ text_is (flat_map line_of history ++ durable.rest))
+              ap whole_lines text_here
               ∙ whole_through version_line (flat_map line_of history ++ durable.rest)
               ∙ ap (λ (l : List ℕ). version_line ++ 10 ∷ l)
               (lines_through history durable.rest own ∙ ap (λ (l : List ℕ). flat_map line_of history ++ l) last.whole ∙ sym (flat_map-append line_of history last.front))
-              ∙ sym (text_is (flat_map line_of (history ++ last.front)));
+              ∙ sym (first_through (flat_map line_of (history ++ last.front)));
+          last =
+              subst IsBegunLine
+              (sym (ap unfinished text_here ∙ unfinished_through version_line (flat_map line_of history ++ durable.rest) ∙ unfinished_on history durable.rest own))
+              last.last;
         });
         legal = legal_front i all (history ++ last.front) last.behind parts from.legal;
       };

@@ -11,7 +11,7 @@ use Rattle.nd_serve_command.specs.declared.fault.ServeFault.TheVariants.{Cli, No
 
 abbrev pub advice_words_of_journal : ResumeError → List ℕ × List ℕ
 advice_words_of_journal (BadLine number) = (
-  codes "the line isn't one of a journal: nix-dispatch-history 2, and then a line for each entry",
+  codes "the line isn't one of a journal: nix-dispatch-history 2, then a line for each entry, and perhaps the beginning of one more",
   codes "take the journal as it was written",
 )
 advice_words_of_journal (Illegal index rule) = (

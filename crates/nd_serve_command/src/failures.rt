@@ -130,7 +130,7 @@ fn of_journal(refusal: &ResumeError) -> Advice
 {
     match refusal {
         ResumeError::BadLine(_) => Advice {
-            cause: "the line isn't one of a journal: nix-dispatch-history 2, and then a line for each entry",
+            cause: "the line isn't one of a journal: nix-dispatch-history 2, then a line for each entry, and perhaps the beginning of one more",
             cure: "take the journal as it was written",
         },
         ResumeError::Illegal { .. } => Advice {

@@ -9,8 +9,9 @@ use std::fmt;
 /// Why a journal can't be gone on from.
 #[derive(Clone, Copy, Debug, PartialEq, Eq)]
 pub enum ResumeError {
-    /// 1: the whole line with this number, the first one being 1, isn't one of a journal: the first line of
-    /// a history text of the second version, and then a line for each entry. It is the first such line.
+    /// 1: the line with this number, the first one being 1, isn't one of a journal: the first line of a history text
+    /// of the second version, then a line for each entry, and perhaps the beginning of one more. It is the first such
+    /// line.
     BadLine(usize),
     /// 2: the entry at this place, from 0 as in an audit, isn't allowed after those before it, and this is
     /// the first rule that refuses it. It is the first such entry.

@@ -13,8 +13,8 @@ use nd_report::{AuditError, admit_all};
 use std::alloc::Global;
 
 /// Gives a dispatch that has no history the one of a journal with these bytes: each entry of its whole lines
-/// is allowed after those before it. What stands behind the last newline is passed over. The answer is how
-/// many bytes the whole lines have: a file is cut to these before it is appended to.
+/// is allowed after those before it. What stands behind the last newline is passed over, where a crash may have left it of
+/// an entry's line. The answer is how many bytes the whole lines have: a file is cut to these before it is appended to.
 ///
 /// Refuses with `BadLine` (1) and `Illegal` (2), as [`ResumeError`] says, the first bad line before the first
 /// entry that isn't allowed, and with `Memory` (3) where an allocation is refused. What the dispatch has then

@@ -1,9 +1,7 @@
 //! Reports of journals, and audits of them.
 
-use nd_commands::audit_engine;
 use nd_devices::Told;
-use nd_journal::history_of;
-use nd_kept_run::report_engine;
+use nd_kept_run::{audit_journal_engine, report_engine};
 use nd_serve_command::{ServeFault, journal_bytes};
 use nd_test_fixtures::bundles::PLAIN_2;
 use nd_test_fixtures::devices::CountedReader;
@@ -61,15 +59,25 @@ fn is_refused(alloc: Global, answer: Result<Vec<u8>, ServeFault>, line: &str) ->
     }
 }
 
-/// Whether `audit` writes this line of the history that a journal with these bytes tells.
-fn audits<R: Threads + Sync>(rt: &R, alloc: Global, journal: &[u8], verdict: &str) -> bool {
+/// What `audit` writes of a journal with these bytes.
+fn audit<R: Threads + Sync>(rt: &R, alloc: Global, journal: &[u8]) -> Result<Vec<u8>, ServeFault> {
     let options = options(alloc, &PLACE);
     let mut input = Told::new(PLACE.bundle.as_bytes());
     let mut output = Told::new(Vec::new(alloc));
-    let history = history_of(journal);
-    let answer = audit_engine(rt, alloc, &options, history, &mut input, &mut output);
+    let answer = audit_journal_engine(rt, alloc, &options, journal, &mut input, &mut output);
     drop(options);
-    answer.is_ok() && output.into_inner().as_slice() == verdict.as_bytes()
+    match answer {
+        Ok(_) => Ok(output.into_inner()),
+        Err(fault) => Err(fault),
+    }
+}
+
+/// Whether `audit` writes this line of the history that a journal with these bytes tells.
+fn audits<R: Threads + Sync>(rt: &R, alloc: Global, journal: &[u8], verdict: &str) -> bool {
+    match audit(rt, alloc, journal) {
+        Ok(text) => text.as_slice() == verdict.as_bytes(),
+        Err(_) => false,
+    }
 }
 
 /// A journal whose last line isn't finished is reported up to that line, and one without a line has no entries.
@@ -88,21 +96,58 @@ fn reports_of_whole_lines(rt: HostRuntime) {
     }
 }
 
-/// A line that is none, and an entry that isn't allowed.
+/// An entry that isn't allowed.
+#[test]
+fn illegal_journal(rt: HostRuntime) {
+    let answer = report(&rt, rt.alloc(), b"nix-dispatch-history 2\nstarted 0\n");
+    let line = "nix-dispatch: journal: Illegal 0 Live";
+    assert!(rt; is_refused(rt.alloc(), answer, line));
+}
+
+/// A line that is none, whether it is a whole one or not. A report and an audit are refused alike.
 #[test]
 fn refused_journals(rt: HostRuntime) {
+    let alloc = rt.alloc();
     for (journal, line) in [
         (
             "nix-dispatch-history 1\n",
             "nix-dispatch: journal: BadLine 1",
         ),
         (
-            "nix-dispatch-history 2\nstarted 0\n",
-            "nix-dispatch: journal: Illegal 0 Live",
+            "nix-dispatch-history 1\nchosen 0 1 0\nst",
+            "nix-dispatch: journal: BadLine 1",
+        ),
+        (
+            "line without newline, my notes",
+            "nix-dispatch: journal: BadLine 1",
+        ),
+        ("nix-dispatch-history 1", "nix-dispatch: journal: BadLine 1"),
+        ("chosen", "nix-dispatch: journal: BadLine 1"),
+        ("\n", "nix-dispatch: journal: BadLine 1"),
+        (
+            "nix-dispatch-history 2\nmy notes",
+            "nix-dispatch: journal: BadLine 2",
+        ),
+        (
+            "nix-dispatch-history 2\nchosen 0 1 0\nstop ",
+            "nix-dispatch: journal: BadLine 3",
+        ),
+        (
+            "nix-dispatch-history 2\nchosen 0 1 0\nchosen, my notes",
+            "nix-dispatch: journal: BadLine 3",
+        ),
+        (
+            "nix-dispatch-history 2\nchosen 0 1 0\ndown 0000000000000",
+            "nix-dispatch: journal: BadLine 3",
+        ),
+        (
+            "nix-dispatch-history 2\nbuilt\nmy notes",
+            "nix-dispatch: journal: BadLine 2",
         ),
     ] {
-        let answer = report(&rt, rt.alloc(), journal.as_bytes());
-        assert!(rt; is_refused(rt.alloc(), answer, line));
+        let journal = journal.as_bytes();
+        assert!(rt; is_refused(alloc, report(&rt, alloc, journal), line));
+        assert!(rt; is_refused(alloc, audit(&rt, alloc, journal), line));
     }
 }
 

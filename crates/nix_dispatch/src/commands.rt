@@ -3,18 +3,15 @@
 use crate::agents::run_given;
 use crate::endings::{Ending, common, told_ending};
 use crate::listing::list_park;
-use crate::reporting::report;
+use crate::reporting::{Question, look_at};
 use crate::serving::serve;
 use clap::ArgMatches;
 use clap::error::{Error, ErrorKind};
-use nd_cli::{CliFault, LIMIT, ask_engine, path_engine};
-use nd_command_line::{
-    answered, command_line, heard, history_option, path_failure, read_inputs, write_failure,
-};
+use nd_cli::{CliFault, ask_engine, path_engine};
+use nd_command_line::{answered, command_line, heard, path_failure, read_inputs, write_failure};
 use nd_commands::{audit_engine, sim_engine};
 use nd_devices::Told;
 use nd_explain::{Failure, Heard};
-use nd_journal::history_of;
 use std::alloc::Global;
 use std::fmt;
 use std::fs::File;
@@ -77,10 +74,10 @@ fn answer_to<
         Some(("path", options)) => Some(common(path(rt, alloc, options))),
         Some(("ask", options)) => Some(common(ask(rt, alloc, options))),
         Some(("sim", options)) => Some(common(sim(rt, alloc, options))),
-        Some(("audit", options)) => Some(common(audit(rt, alloc, options))),
+        Some(("audit", options)) => Some(audit(rt, alloc, options)),
         Some(("serve", options)) => Some(serve(rt, alloc, options)),
         Some(("run", options)) => Some(run_given(rt, alloc, options)),
-        Some(("report", options)) => Some(report(rt, alloc, options)),
+        Some(("report", options)) => Some(look_at(rt, alloc, options, Question::Report)),
         Some(("park", options)) => Some(common(list_park(rt, alloc, options))),
         _ => None,
     }
@@ -184,14 +181,26 @@ fn sim<'a, R: Files + Input + Print + AllocGlobal + Threads + Sync>(
     answered(alloc, options, inputs, answer, output)
 }
 
-fn audit<'a, R: Files + Input + Print + AllocGlobal + Threads + Sync>(
+/// Audits the journal where one is given, and else the history text.
+fn audit<'a, R: Files<File = File> + Input + Print + AllocGlobal + Threads + Sync>(
+    rt: &R,
+    alloc: Global,
+    options: &ArgMatches<'a>,
+) -> Result<u8, Ending<'a>> {
+    match options.get_str("journal") {
+        Some(_) => look_at(rt, alloc, options, Question::Audit),
+        None => common(audit_history(rt, alloc, options)),
+    }
+}
+
+fn audit_history<'a, R: Files + Input + Print + AllocGlobal + Threads + Sync>(
     rt: &R,
     alloc: Global,
     options: &ArgMatches<'a>,
 ) -> Result<u8, Failure<'a>> {
-    let mut inputs = read_inputs(rt, alloc, options, Some(history_option(options)))?;
+    let mut inputs = read_inputs(rt, alloc, options, Some("history"))?;
     let mut output = Told::new(Heard::new(io::writer(rt)));
-    let history = history_in(options, inputs.own.as_slice());
+    let history = inputs.own.as_slice();
     let verdict = audit_engine(
         rt,
         alloc,
@@ -201,16 +210,4 @@ fn audit<'a, R: Files + Input + Print + AllocGlobal + Threads + Sync>(
         &mut output,
     );
     answered(alloc, options, inputs, verdict, output)
-}
-
-/// The history text of these bytes: of a journal what its whole lines tell, and of a history the bytes themselves. A
-/// journal of too many bytes is refused for these, as a history is.
-fn history_in<'b>(options: &ArgMatches, bytes: &'b [u8]) -> &'b [u8] {
-    if bytes.len() > LIMIT {
-        return bytes;
-    }
-    match options.get_str("journal") {
-        Some(_) => history_of(bytes),
-        None => bytes,
-    }
 }

@@ -1,4 +1,4 @@
-//! The command `report`: the report of the history that a journal tells.
+//! The commands that look at a journal: `report`, and `audit` where a journal is given.
 
 use crate::endings::Ending;
 use crate::journal_files::read_aside;
@@ -7,7 +7,7 @@ use nd_cli::CliFault;
 use nd_command_line::{Inputs, read_inputs, write_failure};
 use nd_devices::Told;
 use nd_explain::{Failure, Heard};
-use nd_kept_run::report_engine;
+use nd_kept_run::{audit_journal_engine, report_engine};
 use nd_serve_command::{JournalFailure, ServeFault};
 use std::alloc::Global;
 use std::fs::File;
@@ -15,26 +15,37 @@ use std::io::{self, BufWriter, Read, Write};
 use std::rt::Files;
 use std::thread::Threads;
 
-/// Writes the report of the history that the journal tells. Its file isn't locked, and nothing is written to it.
-pub(crate) fn report<'a, R: Files<File = File> + Input + Print + AllocGlobal + Threads + Sync>(
+/// What is asked of the history that a journal tells.
+#[derive(Clone, Copy)]
+pub(crate) enum Question {
+    /// Its report.
+    Report,
+    /// Whether it is legal.
+    Audit,
+}
+
+/// Writes what is asked of the history that the journal tells. Its file isn't locked, and nothing is written to it.
+pub(crate) fn look_at<'a, R: Files<File = File> + Input + Print + AllocGlobal + Threads + Sync>(
     rt: &R,
     alloc: Global,
     options: &ArgMatches<'a>,
+    asked: Question,
 ) -> Result<u8, Ending<'a>> {
     let name = options.get_str("journal").unwrap_or("");
     let journal = read_aside(rt, alloc, name)?;
-    let answer = report_bytes(rt, alloc, options, name, journal.as_slice());
+    let answer = look_at_bytes(rt, alloc, options, name, journal.as_slice(), asked);
     drop(journal);
     answer
 }
 
 /// The same, of a journal with these bytes.
-fn report_bytes<'a, R: Files + Input + Print + AllocGlobal + Threads + Sync>(
+fn look_at_bytes<'a, R: Files + Input + Print + AllocGlobal + Threads + Sync>(
     rt: &R,
     alloc: Global,
     options: &ArgMatches<'a>,
     name: &'a str,
     journal: &[u8],
+    asked: Question,
 ) -> Result<u8, Ending<'a>> {
     let mut inputs = match read_inputs(rt, alloc, options, None) {
         Ok(inputs) => inputs,
@@ -45,14 +56,12 @@ fn report_bytes<'a, R: Files + Input + Print + AllocGlobal + Threads + Sync>(
         return Err(Ending::Common(Failure::of(CliFault::Memory)));
     };
     let mut output = Told::new(Heard::new(buffer));
-    let answer = report_engine(
-        rt,
-        alloc,
-        &inputs.park,
-        journal,
-        &mut inputs.bundle,
-        &mut output,
-    );
+    let park = &inputs.park;
+    let bundle = &mut inputs.bundle;
+    let answer = match asked {
+        Question::Report => report_engine(rt, alloc, park, journal, bundle, &mut output),
+        Question::Audit => audit_journal_engine(rt, alloc, park, journal, bundle, &mut output),
+    };
     match answer {
         Ok(status) => {
             drop(inputs);
@@ -60,7 +69,7 @@ fn report_bytes<'a, R: Files + Input + Print + AllocGlobal + Threads + Sync>(
             Ok(status)
         }
         Err(ServeFault::Cli(fault)) => {
-            Err(Ending::Common(unreported(alloc, options, inputs, fault, output)))
+            Err(Ending::Common(unanswered(alloc, options, inputs, fault, output)))
         }
         Err(fault) => {
             drop(inputs);
@@ -71,7 +80,7 @@ fn report_bytes<'a, R: Files + Input + Print + AllocGlobal + Threads + Sync>(
 }
 
 /// What is known of a fault that isn't the journal's, over these inputs and this output.
-fn unreported<'a, I: Read + Drop, F: Read + Drop, W: Write + Drop>(
+fn unanswered<'a, I: Read + Drop, F: Read + Drop, W: Write + Drop>(
     alloc: Global,
     options: &ArgMatches<'a>,
     inputs: Inputs<I, F>,

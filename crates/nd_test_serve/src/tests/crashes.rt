@@ -189,6 +189,14 @@ fn refusals_of_journals(rt: HostRuntime) {
             End::Refused(ResumeError::BadLine(1)),
         ),
         (
+            "line without newline, my notes",
+            End::Refused(ResumeError::BadLine(1)),
+        ),
+        (
+            "nix-dispatch-history 2\nchosen 0 1 0\nmy notes",
+            End::Refused(ResumeError::BadLine(3)),
+        ),
+        (
             "nix-dispatch-history 2\nstarted 0\n",
             End::Refused(ResumeError::Illegal {
                 index: 0,
@@ -208,4 +216,17 @@ fn refusals_of_journals(rt: HostRuntime) {
     }
     assert!(rt; opening(&rt, rt.alloc(), place, b"nix", false) == End::NotEmpty);
     assert!(rt; opening(&rt, rt.alloc(), place, b"", false) == End::Status(0));
+}
+
+/// Each beginning of a journal is gone on from, and none with a byte behind it that no entry's line has.
+#[test]
+fn beginnings_of_a_journal(rt: HostRuntime) {
+    let place = park(PLAIN_2, "m", 0);
+    let whole = b"nix-dispatch-history 2\nchosen 0 1 0\nstarted 0\nbuilt 0 o\n!";
+    for end in 0..whole.len() {
+        let (front, _) = whole.split_at(end);
+        assert!(rt; opening(&rt, rt.alloc(), place, front, true) == End::Status(0));
+    }
+    let end = opening(&rt, rt.alloc(), place, whole, true);
+    assert!(rt; end == End::Refused(ResumeError::BadLine(5)));
 }

@@ -1,5 +1,5 @@
 use Rattle.nd_journal.specs.WholeLines.{AreWholeTo}
-use Rattle.nd_journal.proofs.cutting.whole_lines.Given as goal
+use Rattle.nd_journal.proofs.cutting.cut_behind.Given as goal
 
 -- the whole lines of what was gone through
 abbrev pub invariant-loop-at : goal.invariant-loop-at
