@@ -1,6 +1,8 @@
 //! What is known of a fault once a command ends with it.
 
-ghost use Rattle.std.specs.Prelude.{◌≡◌};
+ghost use Rattle.std.specs.Prelude.{◌≡◌, codes};
+ghost use Rattle.clap.specs.Matches.{found_of, first_value};
+ghost use Rattle.nd_command_line.specs.Named.{history_option_for};
 
 use crate::bundles::bundle_source;
 use clap::ArgMatches;
@@ -103,7 +105,9 @@ fn source_of<'a>(options: &ArgMatches<'a>, place: Place) -> Source<'a> {
 }
 
 /// The option that names the history: that of a journal where one is given.
-pub fn history_option(options: &ArgMatches) -> &'static str {
+pub fn history_option(options: &ArgMatches) -> &'static str
+    ensures { result.now ≡ history_option_for (first_value (found_of options.now) (codes "journal")) }
+{
     match options.get_str("journal") {
         Some(_) => "journal",
         None => "history",
