@@ -2,6 +2,7 @@
 
 ghost use Rattle.std.specs.Prelude.{◌≡◌, codes};
 ghost use Rattle.clap.specs.Matches.{found_of, first_value};
+ghost use Rattle.nd_explain.specs.Hearing.{device_of};
 ghost use Rattle.nd_command_line.specs.Named.{history_option_for};
 
 use crate::bundles::bundle_source;
@@ -23,7 +24,9 @@ pub struct Given<'a, 'b> {
 }
 
 /// The input of a command with these options: a copy is kept where `--explain` is one of them.
-pub fn heard<R: Read>(alloc: Global, options: &ArgMatches, reader: R) -> Heard<R> {
+pub fn heard<R: Read>(alloc: Global, options: &ArgMatches, reader: R) -> Heard<R>
+    ensures { device_of result ≡ reader }
+{
     if options.get_flag("explain") {
         Heard::with_copy(alloc, reader)
     } else {

@@ -1,7 +1,9 @@
 //! What a command over a bundle reads before it begins, and what it answers in the end.
 
 ghost use Rattle.std.specs.Prelude.{◌≡◌, [], None, false, is_ok, IfErr, IfOk, IsTrue};
-ghost use Rattle.nd_command_line.specs.Named.{own_name, NamesNoInput};
+ghost use Rattle.nd_command_line.specs.Bundles.{ComesFrom};
+ghost use Rattle.nd_command_line.specs.Named.{bundle_name, own_name, NamesNoInput};
+ghost use Rattle.nd_explain.specs.Hearing.{device_of};
 ghost use Rattle.nd_options.specs.Failures.{IsUnread};
 ghost use Rattle.nd_options.specs.Options.{AreOptionsIn};
 
@@ -42,6 +44,7 @@ pub fn read_inputs<'a, R: Files + Input>(
 ) -> Result<Inputs<R::Reader, R::File>, Failure<'a>>
     ensures options { IfOk result (λ inputs. AreOptionsIn options.now inputs.park) }
     ensures nothing { own_name options.now own.entry ≡ None → IfOk result (λ inputs. inputs.own ≡ []) }
+    ensures from { IfOk result (λ inputs. ComesFrom (bundle_name options.now) (device_of inputs.bundle.device)) }
     ensures mark { IfOk result (λ inputs. inputs.bundle.is_marked ≡ false) }
     ensures unread { IfErr result IsUnread }
     ensures memory { NamesNoInput options.now own.entry → IfErr result (λ failure. failure.fault ≡ CliFault.Memory) }
