@@ -1,8 +1,8 @@
 //! Where a bundle is read from.
 
-ghost use Rattle.std.specs.Prelude.{◌≡◌, IfOk, IfErr, codes};
-ghost use Rattle.clap.specs.Matches.{found_of, first_value};
+ghost use Rattle.std.specs.Prelude.{◌≡◌, IfOk, IfErr, OnErr, IsSome};
 ghost use Rattle.nd_command_line.specs.Bundles.{left_of, ComesFrom};
+ghost use Rattle.nd_command_line.specs.Named.{bundle_name};
 
 use clap::ArgMatches;
 use nd_cli::CliFault;
@@ -34,13 +34,14 @@ impl<I: Read, F: Read> Read for Bundle<I, F> {
 /// The bundle of a command with these options: a file where `--bundle` names one, which is opened, and
 /// standard input without the option. That it is the file of that name is only tested.
 ///
-/// `Read`: the file can't be opened. That it comes then alone is only tested.
+/// `Read`: a file is named, and can't be opened. That it comes then alone is only tested.
 pub fn bundle_of<'a, R: Files + Input>(
     rt: &R,
     options: &ArgMatches<'a>,
 ) -> Result<Bundle<R::Reader, R::File>, Failure<'a>>
-    ensures from { IfOk result (ComesFrom (first_value (found_of options.now) (codes "bundle"))) }
+    ensures from { IfOk result (ComesFrom (bundle_name options.now)) }
     ensures fault { IfErr result (λ failure. failure.fault ≡ CliFault.Read) }
+    ensures named { OnErr result (IsSome (bundle_name options.now)) }
 {
     let Some(name) = options.get_str("bundle") else {
         return Ok(Bundle::Input(rt.reader()));

@@ -1,6 +1,9 @@
 //! What is known of a fault once a command ends with it.
 
-ghost use Rattle.std.specs.Prelude.{◌≡◌};
+ghost use Rattle.std.specs.Prelude.{◌≡◌, codes};
+ghost use Rattle.clap.specs.Matches.{found_of, first_value};
+ghost use Rattle.nd_explain.specs.Hearing.{device_of};
+ghost use Rattle.nd_command_line.specs.Named.{history_option_for};
 
 use crate::bundles::bundle_source;
 use clap::ArgMatches;
@@ -21,7 +24,9 @@ pub struct Given<'a, 'b> {
 }
 
 /// The input of a command with these options: a copy is kept where `--explain` is one of them.
-pub fn heard<R: Read>(alloc: Global, options: &ArgMatches, reader: R) -> Heard<R> {
+pub fn heard<R: Read>(alloc: Global, options: &ArgMatches, reader: R) -> Heard<R>
+    ensures { device_of result ≡ reader }
+{
     if options.get_flag("explain") {
         Heard::with_copy(alloc, reader)
     } else {
@@ -103,7 +108,9 @@ fn source_of<'a>(options: &ArgMatches<'a>, place: Place) -> Source<'a> {
 }
 
 /// The option that names the history: that of a journal where one is given.
-pub fn history_option(options: &ArgMatches) -> &'static str {
+pub fn history_option(options: &ArgMatches) -> &'static str
+    ensures { result.now ≡ history_option_for (first_value (found_of options.now) (codes "journal")) }
+{
     match options.get_str("journal") {
         Some(_) => "journal",
         None => "history",

@@ -1,6 +1,9 @@
 //! What a command over a bundle reads before it begins, and what it answers in the end.
 
-ghost use Rattle.std.specs.Prelude.{◌≡◌, false, IfErr, IfOk};
+ghost use Rattle.std.specs.Prelude.{◌≡◌, [], None, false, is_ok, IfErr, IfOk, IsTrue};
+ghost use Rattle.nd_command_line.specs.Bundles.{ComesFrom};
+ghost use Rattle.nd_command_line.specs.Named.{bundle_name, own_name, NamesNoInput};
+ghost use Rattle.nd_explain.specs.Hearing.{device_of};
 ghost use Rattle.nd_options.specs.Failures.{IsUnread};
 ghost use Rattle.nd_options.specs.Options.{AreOptionsIn};
 
@@ -21,8 +24,8 @@ use std::rt::Files;
 pub struct Inputs<I, F> {
     /// What its options say of the park.
     pub park: ParkOptions,
-    /// The bytes of the file that its own option names, as the script of `sim`; none without one. That is
-    /// only tested.
+    /// The bytes of the file that its own option names, as the script of `sim`; none without one. Which bytes
+    /// these are is only tested.
     pub own: ByteString,
     /// The bundle, which has no mark. That nothing was read of it is only tested.
     pub bundle: Told<Heard<Bundle<I, F>>>,
@@ -31,8 +34,8 @@ pub struct Inputs<I, F> {
 /// Reads what the options of a command over a bundle name: the files of the park, then the file of the
 /// command's own option, where `own` names one; and opens the bundle.
 ///
-/// `Read`: a file can't be opened, or a read was refused. `Memory`. Which files are read, and in which order,
-/// is only tested.
+/// `Read`: a file is named, and it can't be opened, or a read was refused. `Memory`. Which files are read, and in
+/// which order, is only tested.
 pub fn read_inputs<'a, R: Files + Input>(
     rt: &R,
     alloc: Global,
@@ -40,8 +43,11 @@ pub fn read_inputs<'a, R: Files + Input>(
     own: Option<&'a str>,
 ) -> Result<Inputs<R::Reader, R::File>, Failure<'a>>
     ensures options { IfOk result (λ inputs. AreOptionsIn options.now inputs.park) }
+    ensures nothing { own_name options.now own.entry ≡ None → IfOk result (λ inputs. inputs.own ≡ []) }
+    ensures from { IfOk result (λ inputs. ComesFrom (bundle_name options.now) (device_of inputs.bundle.device)) }
     ensures mark { IfOk result (λ inputs. inputs.bundle.is_marked ≡ false) }
     ensures unread { IfErr result IsUnread }
+    ensures memory { NamesNoInput options.now own.entry → IfErr result (λ failure. failure.fault ≡ CliFault.Memory) }
 {
     let park = park_options(rt, alloc, options)?;
     // For the proof: what was read before a failure is let go by calls, and not in each goal of that exit.
@@ -66,13 +72,18 @@ pub fn read_inputs<'a, R: Files + Input>(
     }
 }
 
-/// The bytes of the file that the option of this name names, and none where there is no such option.
+/// The bytes of the file that the option of this name names, and none where there is no such option or it isn't
+/// given.
+///
+/// `Read`: a file is named, and it can't be opened, or a read was refused. `Memory`. Neither without a file.
 fn own_file<'a, R: Files>(
     rt: &R,
     alloc: Global,
     options: &ArgMatches<'a>,
     own: Option<&'a str>,
 ) -> Result<ByteString, Failure<'a>>
+    ensures nothing { own_name options.now own.entry ≡ None → IfOk result (λ bytes. bytes ≡ []) }
+    ensures neither { own_name options.now own.entry ≡ None → IsTrue (is_ok result) }
     ensures unread { IfErr result IsUnread }
 {
     match own {

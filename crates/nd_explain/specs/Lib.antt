@@ -3,3 +3,4 @@ pub mod Pieces
 pub mod Excerpts
 pub mod AdviceWords
 pub mod Shown
+pub mod Hearing

@@ -1,6 +1,7 @@
 //! A reader or writer that remembers what the system said.
 
 ghost use Rattle.std.specs.Prelude.{◌≡◌};
+ghost use Rattle.nd_explain.specs.Hearing.{device_of};
 
 use std::alloc::Global;
 use std::io::{self, Read, Write};
@@ -16,7 +17,9 @@ pub struct Heard<T> {
 
 impl<T> Heard<T> {
     /// The device, of which refusals alone are remembered.
-    pub fn new(device: T) -> Self {
+    pub fn new(device: T) -> Self
+        ensures { device_of result ≡ device }
+    {
         Heard {
             device,
             copy: None,
@@ -25,7 +28,9 @@ impl<T> Heard<T> {
     }
 
     /// The device, of which a copy of what is read is kept too, as long as there is memory for it.
-    pub fn with_copy(alloc: Global, device: T) -> Self {
+    pub fn with_copy(alloc: Global, device: T) -> Self
+        ensures { device_of result ≡ device }
+    {
         Heard {
             device,
             copy: Some(Vec::new(alloc)),

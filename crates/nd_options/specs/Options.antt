@@ -14,9 +14,13 @@ text_or_none None = []
 abbrev pub text_in : ArgMatches → List ℕ → List ℕ
 text_in m name = text_or_none (first_value (found_of m) name)
 
--- a text that begins with an at sign names a file, and any other one stands for itself
+-- a text names no file: it doesn't begin with an at sign
+abbrev pub NamesNoFile : List ℕ → Type 0
+NamesNoFile text = slice_index text 0 ≢ 64
+
+-- such a text stands for itself
 abbrev pub StandsFor : List ℕ → List ℕ → Type 0
-StandsFor text bytes = slice_index text 0 ≢ 64 → bytes ≡ text
+StandsFor text bytes = NamesNoFile text → bytes ≡ text
 
 -- the text is a number of 16 bits
 abbrev pub IsNumber : List ℕ → Type 0
@@ -42,3 +46,8 @@ pub record AreOptionsIn (m : ArgMatches) (park : ParkOptions) : Type 0 where
   pub keep_going : IsFlagIn (one_text (found_of m) (codes "keep-going")) park.keep_going
   pub check_paths : IsFlagIn (one_text (found_of m) (codes "check-paths")) park.check_paths
   pub info : first_value (found_of m) (codes "info") ≡ None → park.info ≡ []
+
+-- no option of the park names a file: the builders list is given as it is, and there is no info text
+pub record NamesNoParkFile (m : ArgMatches) : Type 0 where
+  pub builders : NamesNoFile (text_in m (codes "builders"))
+  pub info : first_value (found_of m) (codes "info") ≡ None

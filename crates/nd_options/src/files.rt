@@ -3,7 +3,7 @@
 
 ghost use Rattle.std.specs.Prelude.{◌≡◌, [], None, IfOk, IfErr, IsTrue, is_ok};
 ghost use Rattle.nd_options.specs.Failures.{IsUnread};
-ghost use Rattle.nd_options.specs.Options.{StandsFor};
+ghost use Rattle.nd_options.specs.Options.{NamesNoFile, StandsFor};
 
 use nd_bytes::ByteString;
 use nd_cli::{CliFault, read_input};
@@ -16,7 +16,7 @@ use std::rt::Files;
 /// What the value of an option stands for: the bytes of the file that it names behind `@`, and else
 /// its own bytes.
 ///
-/// `Read`: the file can't be opened, or a read was refused. `Memory`.
+/// `Read`: a file is named, and it can't be opened, or a read was refused. `Memory`.
 pub fn text_or_file<'a, R: Files>(
     rt: &R,
     alloc: Global,
@@ -25,6 +25,7 @@ pub fn text_or_file<'a, R: Files>(
 ) -> Result<ByteString, Failure<'a>>
     ensures stands { IfOk result (StandsFor value.now) }
     ensures unread { IfErr result IsUnread }
+    ensures memory { NamesNoFile value.now → IfErr result (λ failure. failure.fault ≡ CliFault.Memory) }
 {
     match value.strip_prefix('@') {
         Some(name) => read_file(rt, alloc, option, name),

@@ -3,7 +3,7 @@
 ghost use Rattle.std.specs.Prelude.{◌≡◌, IfOk, IfErr, codes};
 ghost use Rattle.clap.specs.Matches.{found_of, one_text};
 ghost use Rattle.nd_options.specs.Failures.{IsUnread};
-ghost use Rattle.nd_options.specs.Options.{AreOptionsIn, IsNumberIn, IsFlagIn, text_in};
+ghost use Rattle.nd_options.specs.Options.{AreOptionsIn, IsNumberIn, IsFlagIn, NamesNoParkFile, text_in};
 
 use crate::files::{file_or_nothing, text_or_file};
 use clap::ArgMatches;
@@ -16,7 +16,7 @@ use std::rt::Files;
 /// The options of a command over a bundle. The files that they name are read here, the builders list
 /// before the info text.
 ///
-/// `Read`: a file can't be opened, or a read was refused. `Memory`.
+/// `Read`: a file is named, and it can't be opened, or a read was refused. `Memory`.
 pub fn park_options<'a, R: Files>(
     rt: &R,
     alloc: Global,
@@ -24,6 +24,7 @@ pub fn park_options<'a, R: Files>(
 ) -> Result<ParkOptions, Failure<'a>>
     ensures options { IfOk result (λ park. AreOptionsIn options.now park) }
     ensures unread { IfErr result IsUnread }
+    ensures memory { NamesNoParkFile options.now → IfErr result (λ failure. failure.fault ≡ CliFault.Memory) }
 {
     let builders = options.get_str("builders").unwrap_or("");
     let builders = text_or_file(rt, alloc, "builders", builders)?;
@@ -41,9 +42,11 @@ pub fn park_options<'a, R: Files>(
 }
 
 /// The text of the option of this name, and no bytes without it.
+///
+/// `Memory`: nothing else is told.
 fn text_of<'a>(alloc: Global, options: &ArgMatches, name: &str) -> Result<ByteString, Failure<'a>>
     ensures text { IfOk result (λ text. text ≡ text_in options.now name.now) }
-    ensures unread { IfErr result IsUnread }
+    ensures memory { IfErr result (λ failure. failure.fault ≡ CliFault.Memory) }
 {
     match ByteString::from_slice(alloc, options.get_str(name).unwrap_or("").as_bytes()) {
         Ok(text) => Ok(text),
