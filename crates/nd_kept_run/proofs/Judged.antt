@@ -1,6 +1,6 @@
 -- The verdict on the history that a journal tells.
 use Rattle.std.proofs.Common.{◌≡◌, ◌∙◌, ℕ, Bool, true, List, length, Option, Result, Ok, Err, IfErr, MatchResult, refl, sym, ap, subst, inl, inr}
-use Rattle.std.specs.Prelude.{◌×◌, IfOk}
+use Rattle.std.specs.Prelude.{IfOk, OnOk, OnErr}
 use Rattle.std.specs.Io.KnownBytes.{Appends}
 use Rattle.nd_devices.specs.Watched.{Watched}
 use Rattle.nd_devices.specs.Written.{WritesPart}
@@ -17,7 +17,7 @@ use Rattle.nd_serve_command.specs.declared.fault.ServeFault.{ServeFault}
 use Rattle.nd_serve_command.specs.declared.fault.ServeFault.TheVariants.{Cli, NotEmpty, InUse, Journal, JournalFailed}
 use Rattle.nd_serve_command.specs.declared.opened.Opened.{Opened}
 use Rattle.nd_serve_command.specs.declared.resume_error.ResumeError.TheVariants.{BadLine, Illegal as IllegalJournal, Memory as NoRoom}
-use Rattle.nd_kept_run.specs.Audited.{AuditsJournal, TearsVerdict, IsUnjudged}
+use Rattle.nd_kept_run.specs.Audited.{AuditsJournal, IsAuditFault, IsUnjudged, TellsLegalUnlessDevice}
 use Rattle.nd_kept_run.specs.Verdicts.{IsVerdictOn, JudgesJournal, legal_verdict, verdict_of, verdict_status, verdict_text}
 use Rattle.nd_kept_run.specs.Reported.{is_unwritten, IsNoRefusal as IsNoAuditRefusal}
 use Rattle.nd_kept_run.specs.declared.auditing.Verdict.{Verdict}
@@ -119,11 +119,22 @@ audited options journal remaining reader reader_after contents writer writer_aft
   verdict = record { text = verdict_text verdict; says = verdict_says judged.inputs judged.entries verdict status judged.on is; appended = written };
 }
 
-pub torn : {R W : Type 0} (options : ParkOptions) (journal : List ℕ) (remaining : R → Option (List ℕ)) (reader reader_after : Watched R) (contents : W → Option (List ℕ)) (writer writer_after : Watched W) (verdict : Verdict) (fault : CliFault)
-    → JudgesJournal options journal (remaining reader.device) (remaining reader_after.device) verdict → fault ≡ Write
-    → WritesPart (contents writer.device) (contents writer_after.device) (verdict_text verdict) → TearsVerdict options journal remaining reader reader_after contents writer writer_after (Cli fault)
-torn options journal remaining reader reader_after contents writer writer_after verdict fault judged is part = record {
-  is = ap Cli is;
+pub audited_answer : {R W : Type 0} (options : ParkOptions) (journal : List ℕ) (remaining : R → Option (List ℕ)) (reader reader_after : Watched R) (contents : W → Option (List ℕ)) (writer writer_after : Watched W) (verdict : Verdict) (answer : Result ℕ ServeFault)
+    → JudgesJournal options journal (remaining reader.device) (remaining reader_after.device) verdict → IfOk answer (λ status. status ≡ verdict_status verdict)
+    → OnOk answer (Appends (contents writer.device) (contents writer_after.device) (verdict_text verdict))
+    → IfOk answer (λ status. AuditsJournal options journal status remaining reader reader_after contents writer writer_after)
+audited_answer options journal remaining reader reader_after contents writer writer_after verdict (Ok status) judged is written =
+    audited options journal remaining reader reader_after contents writer writer_after verdict status judged is written
+audited_answer options journal remaining reader reader_after contents writer writer_after verdict (Err fault) judged is written = tt
+
+-- .. or the writer refused
+pub torn_answer : {R W : Type 0} (options : ParkOptions) (journal : List ℕ) (remaining : R → Option (List ℕ)) (reader reader_after : Watched R) (contents : W → Option (List ℕ)) (writer writer_after : Watched W) (verdict : Verdict) (answer : Result ℕ ServeFault)
+    → JudgesJournal options journal (remaining reader.device) (remaining reader_after.device) verdict → IfErr answer (λ fault. fault ≡ Cli Write)
+    → OnErr answer (WritesPart (contents writer.device) (contents writer_after.device) (verdict_text verdict))
+    → IfErr answer (IsAuditFault options journal remaining reader reader_after contents writer writer_after)
+torn_answer options journal remaining reader reader_after contents writer writer_after verdict (Ok status) judged is part = tt
+torn_answer options journal remaining reader reader_after contents writer writer_after verdict (Err fault) judged is part = inl (record {
+  is = is;
   inputs = judged.inputs;
   entries = judged.entries;
   reads = judged.reads;
@@ -133,13 +144,12 @@ torn options journal remaining reader reader_after contents writer writer_after 
     says = verdict_says judged.inputs judged.entries verdict (verdict_status verdict) judged.on refl;
     part = part;
   };
-}
+})
 
-pub told_legal : (verdict : Verdict) (count status : ℕ) (old new : Option (List ℕ)) → verdict ≡ Legal count → status ≡ verdict_status verdict → Appends old new (verdict_text verdict)
-    → (status ≡ 0) × Appends old new (legal_line count)
-told_legal verdict count status old new same is written = (is ∙ ap verdict_status same, subst (λ (v : Verdict). Appends old new (verdict_text v)) same written)
-
-pub unwritten : (fault : CliFault) → fault ≡ Write → IsNoAuditRefusal (Cli fault)
-unwritten fault is = subst (λ (e : CliFault). IsNoAuditRefusal (Cli e)) (sym is) tt
+-- a legal history is told as one, unless the writer refused
+pub told_answer : (verdict : Verdict) (count : ℕ) (old new : Option (List ℕ)) (answer : Result ℕ ServeFault) → verdict ≡ Legal count → IfOk answer (λ status. status ≡ verdict_status verdict)
+    → OnOk answer (Appends old new (verdict_text verdict)) → IfErr answer (λ fault. fault ≡ Cli Write) → TellsLegalUnlessDevice count old new answer
+told_answer verdict count old new (Ok status) same is written fault = (is ∙ ap verdict_status same, subst (λ (v : Verdict). Appends old new (verdict_text v)) same written)
+told_answer verdict count old new (Err e) same is written fault = subst IsNoAuditRefusal (sym fault) tt
 
 pub ruleset judgements = (legal_judged, same_legal, refused_judged, refused_fault, refused_mark, refused_unless)

@@ -5,6 +5,7 @@ ghost use Rattle.std.specs.Io.KnownBytes.{Appends};
 ghost use Rattle.nd_devices.specs.Written.{WritesPart};
 ghost use Rattle.nd_cli.specs.declared.fault.CliFault.{CliFault};
 ghost use Rattle.nd_serve_command.specs.Sessions.{is_unread};
+ghost use Rattle.nd_serve_command.specs.declared.fault.ServeFault.{ServeFault};
 ghost use Rattle.nd_kept_run.specs.Audited.{AnswersAcceptedAudit, AuditsJournal, IsAuditFault, IsUnjudged};
 ghost use Rattle.nd_kept_run.specs.Verdicts.{JudgesAccepted, JudgesJournal, legal_verdict, verdict_of, verdict_status, verdict_text};
 ghost use Rattle.nd_kept_run.specs.Reported.{is_unwritten};
@@ -55,10 +56,7 @@ pub fn audit_journal_engine<R: Read, W: Write>(
     ensures exactly { AnswersAcceptedAudit options.now journal.now R.remaining input.old W.contents output.old output.new result }
 {
     match judge(rt, alloc, options, journal, input) {
-        Ok(verdict) => match say(verdict, output) {
-            Ok(status) => Ok(status),
-            Err(fault) => Err(ServeFault::Cli(fault)),
-        },
+        Ok(verdict) => tell(verdict, output),
         Err(fault) => Err(fault),
     }
 }
@@ -107,7 +105,22 @@ fn refused(fault: ServeFault) -> Result<Verdict, ServeFault>
     }
 }
 
-/// Writes a verdict, and answers the status.
+/// Writes a verdict, and answers the status. `Write`: the writer refused, and is marked; a part of the line may be out.
+fn tell<W: Write>(verdict: Verdict, output: &mut Told<W>) -> Result<u8, ServeFault>
+    requires { output.old.is_marked ≡ false }
+    ensures status { IfOk result (λ status. status ≡ verdict_status verdict) }
+    ensures written { OnOk result (Appends (W.contents output.old.device) (W.contents output.new.device) (verdict_text verdict)) }
+    ensures partly { OnErr result (WritesPart (W.contents output.old.device) (W.contents output.new.device) (verdict_text verdict)) }
+    ensures fault { IfErr result (λ fault. fault ≡ ServeFault.Cli CliFault.Write) }
+    ensures mark { output.new.is_marked ≡ is_err result }
+{
+    match say(verdict, output) {
+        Ok(status) => Ok(status),
+        Err(_) => Err(ServeFault::Cli(CliFault::Write)),
+    }
+}
+
+/// The same, over a writer alone.
 fn say<W: Write>(verdict: Verdict, output: &mut Told<W>) -> Result<u8, CliFault>
     requires { output.old.is_marked ≡ false }
     ensures status { IfOk result (λ status. status ≡ verdict_status verdict) }
