@@ -9,9 +9,11 @@ use Rattle.nd_report.specs.Audits.{IsFirstUnadmitted}
 use Rattle.nd_report.specs.declared.audit_error.AuditError.TheVariants.{Illegal as NotAllowed}
 use Rattle.nd_report.proofs.Admitting.{none_illegal}
 use Rattle.nd_report.proofs.Admissions.{audit_refused}
-use Rattle.nd_journal.specs.JournalTexts.{IsReadAs}
+use Rattle.nd_journal.specs.JournalTexts.{IsReadAs, IsJournalRefused}
+use Rattle.nd_journal.specs.declared.journal.JournalError.{JournalError}
+use Rattle.nd_journal.specs.declared.journal.JournalError.TheVariants.{BadLine as BadJournalLine, Memory as NoRoom}
 use Rattle.nd_journal.proofs.OneAnswer.{read_once, not_refused}
-use Rattle.nd_serve_command.specs.Resumes.{IsResumable, IsIllegalJournal, IsResumeRefused}
+use Rattle.nd_serve_command.specs.Resumes.{IsResumable, IsIllegalJournal, IsResumeRefused, journal_refusal}
 use Rattle.nd_serve_command.specs.declared.resume_error.ResumeError.{ResumeError}
 use Rattle.nd_serve_command.specs.declared.resume_error.ResumeError.TheVariants.{BadLine, Illegal, Memory}
 
@@ -34,6 +36,13 @@ journal_illegal bytes earlier later entries index rule read none illegal = recor
   illegal = audit_refused earlier.inputs earlier later entries refl none (NotAllowed index rule) illegal;
 }
 
+refused_as : (i : Premises) (bytes : List ℕ) (error : JournalError) → IsJournalRefused bytes error → IsResumeRefused i bytes (journal_refusal error)
+refused_as i bytes (BadJournalLine number) refused = refused
+refused_as i bytes NoRoom refused = tt
+
+pub unread_refused : (i : Premises) (bytes : List ℕ) (error : JournalError) (e : ResumeError) → IsJournalRefused bytes error → e ≡ journal_refusal error → IsResumeRefused i bytes e
+unread_refused i bytes error e refused is = subst (IsResumeRefused i bytes) (sym is) (refused_as i bytes error refused)
+
 -- ---- a journal that can be gone on from
 
 pub same_history : (i : Premises) (bytes : List ℕ) (entries others : List Entry) → IsResumable i bytes entries → IsResumable i bytes others → entries ≡ others
@@ -52,4 +61,4 @@ pub illegal_alone : (bytes : List ℕ) (earlier later : World) (entries others :
 illegal_alone bytes earlier later entries others index rule read none illegal h =
     no_refusal earlier.inputs bytes others (Illegal index rule) h (journal_illegal bytes earlier later entries index rule read none illegal)
 
-pub ruleset resumings = (history_resumed, journal_illegal, illegal_alone)
+pub ruleset resumings = (history_resumed, journal_illegal, unread_refused, illegal_alone)

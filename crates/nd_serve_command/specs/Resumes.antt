@@ -1,5 +1,5 @@
 -- When a dispatch gets the history of a journal, and why it doesn't. Histories stand oldest first.
--- Public clauses cite this.
+-- Public clauses cite this, but for `journal_refusal`, which serves a private one.
 use Rattle.std.specs.Prelude.{◌≡◌, ℕ, List, ◌++◌, reverse, Result, MatchResult, codes}
 use Rattle.std.specs.Fmt.{decimal}
 use Rattle.nd_history.specs.declared.entry.Entry.{Entry}
@@ -9,7 +9,8 @@ use Rattle.nd_history.specs.Premises.{Premises}
 use Rattle.nd_history.specs.Legal.{IsLegal}
 use Rattle.nd_report.specs.Audits.{IsFirstIllegal}
 use Rattle.nd_journal.specs.JournalTexts.{IsReadAs, IsJournalRefused}
-use Rattle.nd_journal.specs.declared.journal.JournalError.TheVariants.{BadLine as BadJournalLine}
+use Rattle.nd_journal.specs.declared.journal.JournalError.{JournalError}
+use Rattle.nd_journal.specs.declared.journal.JournalError.TheVariants.{BadLine as BadJournalLine, Memory as NoRoom}
 use Rattle.nd_serve_command.specs.declared.resume_error.ResumeError.{ResumeError}
 use Rattle.nd_serve_command.specs.declared.resume_error.ResumeError.TheVariants.{BadLine, Illegal, Memory}
 
@@ -23,6 +24,11 @@ pub record IsIllegalJournal (i : Premises) (bytes : List ℕ) (index : ℕ) (rul
   pub entries : List Entry
   pub read : IsReadAs bytes entries
   pub illegal : IsFirstIllegal i entries index rule
+
+-- the refusal of bytes that aren't read as a journal for this
+abbrev pub journal_refusal : JournalError → ResumeError
+journal_refusal (BadJournalLine number) = BadLine number
+journal_refusal NoRoom = Memory
 
 -- when a journal is refused by which refusal
 abbrev pub IsResumeRefused : Premises → List ℕ → ResumeError → Type 0

@@ -3,7 +3,7 @@
 ghost use Rattle.std.specs.Prelude.{◌≡◌, [], List, length, IfOk, IfErr, OnOk};
 ghost use Rattle.nd_history.specs.declared.entry.Entry.{Entry};
 ghost use Rattle.nd_journal.specs.WholeLines.{whole_lines};
-ghost use Rattle.nd_serve_command.specs.Resumes.{IsResumable, IsResumeRefused, ResumesUnlessMemory};
+ghost use Rattle.nd_serve_command.specs.Resumes.{IsResumable, IsResumeRefused, ResumesUnlessMemory, journal_refusal};
 
 use crate::resume_error::ResumeError;
 use nd_history::Entry;
@@ -30,12 +30,21 @@ pub fn resume(alloc: Global, dispatch: &mut Dispatch, bytes: &[u8]) -> Result<us
 {
     let Journal { entries, length } = match read_journal(alloc, bytes) {
         Ok(journal) => journal,
-        Err(JournalError::BadLine(line)) => return Err(ResumeError::BadLine(line)),
-        Err(JournalError::Memory) => return Err(ResumeError::Memory),
+        Err(error) => return Err(of_journal(error)),
     };
     match admit_all(alloc, dispatch, entries) {
         Ok(()) => Ok(length),
         Err(AuditError::Illegal { index, rule }) => Err(ResumeError::Illegal { index, rule }),
         Err(AuditError::Memory) => Err(ResumeError::Memory),
+    }
+}
+
+/// What isn't read as a journal is refused with.
+fn of_journal(error: JournalError) -> ResumeError
+    ensures { result ≡ journal_refusal error }
+{
+    match error {
+        JournalError::BadLine(line) => ResumeError::BadLine(line),
+        JournalError::Memory => ResumeError::Memory,
     }
 }
