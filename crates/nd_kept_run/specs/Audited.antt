@@ -1,6 +1,6 @@
 -- What `audit` answers of a journal: whether the history that it tells is legal, and else the first entry that isn't allowed with the first rule that
 -- refuses it. The contract of `audit_journal_engine` cites this. `IsUnjudged` serves that of a private function too.
-use Rattle.std.specs.Prelude.{◌≡◌, ◌⊎◌, ◌×◌, ℕ, ◌≤◌, true, List, length, Option, Some, Result, MatchResult}
+use Rattle.std.specs.Prelude.{◌≡◌, ◌⊎◌, ℕ, ◌≤◌, true, List, length, Option, Some, Result, MatchResult}
 use Rattle.std.specs.Io.KnownBytes.{Appends}
 use Rattle.nd_cli.specs.declared.options.ParkOptions.{ParkOptions}
 use Rattle.nd_cli.specs.declared.fault.CliFault.TheVariants.{Write}

@@ -1,5 +1,5 @@
 -- The verdict on the history that a journal tells, before it is written. No public clause cites this: it serves private clauses alone.
-use Rattle.std.specs.Prelude.{◌≡◌, ◌×◌, ℕ, true, List, length, reverse, Option, Some, Result, Ok, Err, MatchResult}
+use Rattle.std.specs.Prelude.{◌≡◌, ℕ, true, List, length, reverse, Option, Some, Result, Ok, Err, MatchResult}
 use Rattle.nd_cli.specs.declared.options.ParkOptions.{ParkOptions}
 use Rattle.nd_commands.specs.Audited.{legal_line, illegal_line}
 use Rattle.nd_history.specs.declared.entry.Entry.{Entry}
