@@ -222,7 +222,10 @@ fn are_of(
 
 /// Whether a run of two derivations on two machines, whose workers were handed in the other way round, came to the
 /// receipts of each.
-fn are_otherwise(end: Ran<StandIn>) -> bool {
+fn are_otherwise(end: Option<Ran<StandIn>>) -> bool {
+    let Some(end) = end else {
+        return false;
+    };
     let history = end.dispatch.history();
     let right = end.fault.is_none()
         && are_of(end.receipts.get(0), history, 1, &[2, 1], false)
@@ -232,7 +235,10 @@ fn are_otherwise(end: Ran<StandIn>) -> bool {
 }
 
 /// Whether a run from two live leases, the second of which was started, came to the receipts of each.
-fn are_half_again(end: Ran<StandIn>) -> bool {
+fn are_half_again(end: Option<Ran<StandIn>>) -> bool {
+    let Some(end) = end else {
+        return false;
+    };
     let history = end.dispatch.history();
     let right = end.fault.is_none()
         && history.len() == 6
@@ -242,22 +248,21 @@ fn are_half_again(end: Ran<StandIn>) -> bool {
     right
 }
 
-/// Whether a run of this dispatch by plain workers on these places came to what it should.
+/// What comes back of a run of this dispatch by plain workers on these places.
 fn comes_to<R: Threads + Wait + Sync>(
     rt: &R,
     alloc: Global,
     opened: Option<Dispatch>,
     places: &[ParkPlace],
-    check: fn(Ran<StandIn>) -> bool,
-) -> bool {
+) -> Option<Ran<StandIn>> {
     let Some(opened) = opened else {
-        return false;
+        return None;
     };
     match ran(rt, opened, workers(alloc, places, Stand::Plain)) {
-        Ok(end) => check(end),
+        Ok(end) => Some(end),
         Err(refused) => {
             close_refused(refused);
-            false
+            None
         }
     }
 }
@@ -266,7 +271,7 @@ fn comes_to<R: Threads + Wait + Sync>(
 fn workers_in_another_order(rt: HostRuntime) {
     let alloc = rt.alloc();
     let plain = dispatch(alloc, PLAIN_2, "m;n");
-    assert!(rt; comes_to(&rt, alloc, plain, &[SECOND, FIRST], are_otherwise));
+    assert!(rt; are_otherwise(comes_to(&rt, alloc, plain, &[SECOND, FIRST])));
 }
 
 /// Leases two derivations on two machines, and starts the second lease.
@@ -293,7 +298,7 @@ fn half_started(alloc: Global) -> Option<Dispatch> {
 #[test]
 fn live_leases_of_two_workers(rt: HostRuntime) {
     let alloc = rt.alloc();
-    assert!(rt; comes_to(&rt, alloc, half_started(alloc), &TWO, are_half_again));
+    assert!(rt; are_half_again(comes_to(&rt, alloc, half_started(alloc), &TWO)));
 }
 
 /// Leases two derivations, and stops.
