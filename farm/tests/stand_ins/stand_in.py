@@ -1,0 +1,150 @@
+"""What the stand-ins of Nix's commands share: the world that they act in, which is a JSON text and a folder.
+
+`FARM_WORLD` names the text, which `farm/tests/world.py` writes; the folder `state` beside it has what has come about: a file in
+`valid` for each valid path, a line of `calls` for each call of a stand-in, and a line of `tries` for each build, copy or
+ping, by which the next one knows which of the happenings it is. A happening is an object with some of these members:
+
+    says      what is written on standard error, a character for each byte
+    status    the status at the end, 0 where it isn't there
+    seconds   how long it takes
+    waits     a file that it waits for, a minute at most
+    kills     the number of a signal that the command ends itself by
+    loses     paths that are valid no longer
+
+Of several happenings the first is the first call's, and the last one stays.
+"""
+
+import fcntl
+import json
+import os
+import sys
+import time
+
+
+class World:
+    """The world as it was written, and what has come about in it."""
+
+    def __init__(self):
+        file = os.environ["FARM_WORLD"]
+        with open(file, encoding="ascii") as text:
+            self.__dict__.update(json.load(text))
+        self.state = os.path.join(os.path.dirname(file), "state")
+
+    def note(self, **call):
+        """A line of `calls`."""
+        self.append("calls", json.dumps({"at": time.time(), "pid": os.getpid(), **call}))
+
+    def append(self, name, line):
+        with open(os.path.join(self.state, name), "a", encoding="ascii") as file:
+            file.write(line + "\n")
+
+    def is_valid(self, path):
+        return os.path.exists(self._mark(path))
+
+    def make_valid(self, path):
+        """Has a path in the store, as a file."""
+        file = self.root + path
+        if not os.path.lexists(file):
+            with open(file, "w", encoding="ascii") as text:
+                text.write("made\n")
+        with open(self._mark(path), "w", encoding="ascii"):
+            pass
+
+    def lose(self, path):
+        for file in (self._mark(path), self.root + path):
+            if os.path.lexists(file):
+                os.unlink(file)
+
+    def _mark(self, path):
+        return os.path.join(self.state, "valid", os.path.basename(path))
+
+    def happening(self, kind, *names):
+        """The happening of this call: the one of the first of these names that has any."""
+        known = getattr(self, kind, {})
+        name = next((one for one in names if one in known), None)
+        if name is None:
+            return {}
+        number = self._number(kind, name)
+        return known[name][min(number, len(known[name]) - 1)]
+
+    def _number(self, kind, name):
+        """How many of these calls there were before."""
+        with open(os.path.join(self.state, "tries"), "a+", encoding="ascii") as file:
+            fcntl.flock(file, fcntl.LOCK_EX)
+            file.seek(0)
+            line = json.dumps([kind, name]) + "\n"
+            number = sum(one == line for one in file)
+            file.write(line)
+            return number
+
+    def happen(self, what):
+        """Does what happens, and answers the status."""
+        say(what.get("says", ""))
+        time.sleep(what.get("seconds", 0))
+        left = 600
+        while "waits" in what and not os.path.exists(what["waits"]) and left > 0:
+            time.sleep(0.1)
+            left -= 1
+        for path in what.get("loses", []):
+            self.lose(path)
+        if "kills" in what:
+            os.kill(os.getpid(), what["kills"])
+        return what.get("status", 0)
+
+    def closure(self, paths):
+        """The paths with all that they refer to, each behind what it refers to."""
+        found, open_ones = [], set()
+
+        def walk(path):
+            if path in open_ones:
+                return
+            open_ones.add(path)
+            for other in self.references(path):
+                if other != path:
+                    walk(other)
+            found.append(path)
+
+        for one in paths:
+            walk(one)
+        return found
+
+    def references(self, path):
+        if not self.is_valid(path):
+            fail(f"error: path '{path}' is not valid")
+        return self.paths.get(path, [])
+
+
+def say(words):
+    """Writes words on standard error, a byte for each character."""
+    sys.stderr.buffer.write(words.encode("latin-1"))
+    sys.stderr.flush()
+
+
+def fail(words, status=1):
+    say(words + "\n")
+    raise SystemExit(status)
+
+
+def option(words, name, default=None):
+    """The word behind another one."""
+    return words[words.index(name) + 1] if name in words else default
+
+
+# Options of Nix that have a word of their own behind them, or two.
+_WITH_ONE = {"--max-jobs", "--builders", "--store", "--from", "--to", "--timeout", "--max-silent-time", "--cores", "--add-root", "--expr", "--extra-experimental-features"}
+_WITH_TWO = {"--option"}
+
+
+def plain_words(words):
+    """The words that are no options and no values of options."""
+    found, at = [], 0
+    while at < len(words):
+        if words[at] in _WITH_TWO:
+            at += 3
+        elif words[at] in _WITH_ONE:
+            at += 2
+        else:
+            if not words[at].startswith("-"):
+                found.append(words[at])
+            at += 1
+    return found
