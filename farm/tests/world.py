@@ -232,8 +232,13 @@ class World:
 
     def builds(self, how: str = "begin") -> List[Tuple[str, str]]:
         """The names and the URIs of the builds that began, or ended, in their order."""
-        told = [line.split() for line in self.lines("state/builds")]
-        return [(one[3], self.plain(one[4])) for one in told if one[1] == how]
+        told = [json.loads(line) for line in self.lines("state/builds")]
+        return [(one[2], self.plain(one[3])) for one in told if one[0] == how]
+
+    def settings_of(self, name: str) -> Dict[str, str]:
+        """Nix's settings of the last build of a name."""
+        told = [json.loads(line) for line in self.lines("state/builds")]
+        return [one[4] for one in told if one[0] == "begin" and one[2] == name][-1]
 
     def built(self) -> List[str]:
         return [name for name, _ in self.builds()]
@@ -241,6 +246,10 @@ class World:
     def plain(self, uri: str) -> str:
         """The name of a machine by its URI."""
         return os.path.basename(uri).replace(".example.org", "").split("?")[0]
+
+    def pings(self) -> List[str]:
+        """The machines that were asked for a connection, each time."""
+        return [self.plain(line) for line in self.lines("state/pings")]
 
     def copied(self) -> List[Tuple[str, str]]:
         """The machine and the path of each copy."""

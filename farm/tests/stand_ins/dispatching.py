@@ -55,6 +55,8 @@ class Park:
         if machine == 0:
             return self.jobs > 0 and system in self.local and set(features) <= set(self.features)
         entry = self.entries[machine - 1]
+        if entry[3] == "0":
+            return False
         has, must = ([] if entry[at] == "-" else entry[at].split(",") for at in (5, 6))
         return system in entry[1].split(",") and set(features) <= {*has, *must} and set(must) <= set(features)
 

@@ -1,10 +1,11 @@
 """What the stand-ins of Nix's commands share: the world that they act in, which is a JSON text and a folder.
 
 `FARM_WORLD` names the text, which `farm/tests/world.py` writes; the folder `state` beside it has what has come about: a file in
-`valid` for each valid path, a line of `calls` for each call of a stand-in, and a line of `tries` for each build, copy or
-ping, by which the next one knows which of the happenings it is. A happening is an object with some of these members:
+`valid` for each valid path, and lines in `calls` for each call of a stand-in, in `pings`, `copied` and `builds` for what
+was done, and in `tries`, by which the next one knows which of the happenings it is. A happening is an object with some of
+these members:
 
-    says      what is written on standard error, a character for each byte
+    says      what is said, a character for each byte
     status    the status at the end, 0 where it isn't there
     seconds   how long it takes
     waits     a file that it waits for, a minute at most
@@ -17,6 +18,7 @@ Of several happenings the first is the first call's, and the last one stays.
 import fcntl
 import json
 import os
+import re
 import sys
 import time
 
@@ -77,9 +79,9 @@ class World:
             file.write(line)
             return number
 
-    def happen(self, what):
-        """Does what happens, and answers the status."""
-        say(what.get("says", ""))
+    def happen(self, what, tell=None):
+        """Does what happens, and answers the status. What is said goes to `tell`, or to standard error."""
+        (tell or say)(what.get("says", ""))
         time.sleep(what.get("seconds", 0))
         left = 600
         while "waits" in what and not os.path.exists(what["waits"]) and left > 0:
@@ -90,6 +92,38 @@ class World:
         if "kills" in what:
             os.kill(os.getpid(), what["kills"])
         return what.get("status", 0)
+
+    def ping(self, uri, tell=None):
+        """A connection that is asked for."""
+        self.append("pings", uri)
+        return self.happen(self.happening("pings", uri), tell)
+
+    def copy(self, uri, path):
+        self.append("copied", f"{uri} {path}")
+
+    def build(self, drv, builders, settings, tell=None):
+        """A build as Nix does it: here, or by its hook on the one machine of the builders list; the status."""
+        tell = tell or say
+        if not self.is_valid(drv):
+            tell(f"don't know how to build these paths:\n  {drv}\nerror: cannot build missing derivation '{drv}'\n")
+            return 1
+        outputs = self.drvs[drv]["outputs"].values()
+        if all(self.is_valid(path) for path in outputs):
+            return 0
+        uri = plain_uri(builders.split()[0]) if builders.split() else "local"
+        name = self.drvs[drv]["name"]
+        tell(f"this derivation will be built:\n  {drv}\n")
+        tell(f"building '{drv}'" + ("...\n" if uri == "local" else f" on '{uri}'...\n"))
+        self.append("builds", json.dumps(["begin", os.getpid(), name, uri, {**settings, "builders": builders}]))
+        status = self.happen(self.happening("builds", f"{name} on {uri}", name), tell)
+        self.append("builds", json.dumps(["end", os.getpid(), name, uri, status]))
+        for path in outputs if status == 0 else []:
+            self.make_valid(path)
+        return status
+
+    def size(self, path):
+        """The bytes of a path's NAR."""
+        return self.sizes.get(path, 120)
 
     def closure(self, paths):
         """The paths with all that they refer to, each behind what it refers to."""
@@ -112,6 +146,11 @@ class World:
         if not self.is_valid(path):
             fail(f"error: path '{path}' is not valid")
         return self.paths.get(path, [])
+
+
+def plain_uri(uri):
+    """A store's URI without its keys."""
+    return re.sub(r"[?&](ssh-key|base64-ssh-public-host-key)=[^&]*", "", uri)
 
 
 def say(words):
