@@ -1,0 +1,269 @@
+"""A `nix-daemon --stdio` that is spoken with by Nix's worker protocol, for as long as it is of use.
+
+One process answers many questions, where a command of Nix would be started, and would open the store, for each. It ends
+by itself where its input does, as when farm/build is killed. What it says of a build is told as `nix-store --realise`
+says it on standard error.
+"""
+
+import asyncio
+import re
+import tempfile
+from typing import IO, Dict, Iterable, List, Mapping, NamedTuple, Optional, Sequence, Set
+
+from . import wire
+from .process import Processes, status_of
+from .wire import Message, Operation
+
+# What Nix colours its words with.
+_ESCAPES = re.compile(rb"\x1b\[[0-9;]*[A-Za-z]|\x1b\][^\x07]*\x07|\r(?=\n)")
+
+
+class PathInfo(NamedTuple):
+    """What a store knows of a valid path; `size` is that of its NAR, in bytes."""
+
+    path: str
+    deriver: str
+    digest: str
+    references: List[str]
+    registered: int
+    size: int
+    ultimate: int
+    signatures: List[str]
+    content: str
+
+
+class Failed(Exception):
+    """What was asked for wasn't done: the status, and what was said."""
+
+    def __init__(self, status: int, said: bytes) -> None:
+        super().__init__(said.decode(errors="replace"))
+        self.status = status
+        self.said = said
+
+
+class Daemon:
+    """One such process. It answers one question at a time; whoever asks sees to that."""
+
+    def __init__(self, processes: Processes, folder: str, env: Optional[Mapping[str, str]] = None, name: str = "") -> None:
+        """`env` are the variables that the process has; what it says by itself is kept in the file `name` of a folder."""
+        self._processes = processes
+        self._env = env
+        self._said: IO[bytes] = open(f"{folder}/{name}.said", "w+b") if name else tempfile.TemporaryFile(dir=folder)
+        self._process: Optional[asyncio.subprocess.Process] = None
+        self._settings = b""
+
+    @property
+    def is_open(self) -> bool:
+        return self._process is not None and self._process.returncode is None
+
+    async def open(self) -> None:
+        """Starts the process and greets it; Failed where it doesn't answer, or can't open its store."""
+        words = ["nix-daemon", "--stdio"]
+        pipe = asyncio.subprocess.PIPE
+        try:
+            self._process = await self._processes.start(words, self._env, stdin=pipe, stdout=pipe, stderr=self._said)
+        except OSError as error:
+            raise Failed(127, f"error: nix-daemon: {error.strerror}".encode()) from error
+        assert self._process.stdout is not None
+        self._hear = wire.Hearing(self._process.stdout)
+        self._settings = b""
+        try:
+            await self._greet()
+        except (EOFError, OSError, wire.NotSpoken) as error:
+            raise await self._gone() from error
+
+    async def _greet(self) -> None:
+        self._send(wire.number(wire.MAGIC_OF_CLIENT))
+        if await self._hear.number() != wire.MAGIC_OF_SERVER:
+            raise wire.NotSpoken("another magic number")
+        await self._hear.number()
+        # the version, and no processor and no reserved space
+        self._send(wire.number(wire.VERSION) + wire.number(0) + wire.number(0))
+        await self._answered(None)
+
+    def _send(self, data: bytes) -> None:
+        assert self._process is not None and self._process.stdin is not None
+        self._process.stdin.write(data)
+
+    async def _gone(self) -> Failed:
+        """The failure of a process that is gone, or that speaks of something else."""
+        process = self._process
+        assert process is not None
+        await self.close()
+        return Failed(status_of(process.returncode or 0) or 1, self.said())
+
+    def said(self) -> bytes:
+        """What the process itself has said on standard error: ssh speaks there."""
+        self._said.seek(0)
+        return _ESCAPES.sub(b"", self._said.read())
+
+    async def close(self) -> None:
+        """Ends the process, by the end of its input."""
+        process, self._process = self._process, None
+        if process is None:
+            return
+        if process.stdin is not None:
+            process.stdin.close()
+        try:
+            await asyncio.wait_for(asyncio.shield(process.wait()), 1)
+        except asyncio.TimeoutError:
+            pass
+        await self._processes.end(process)
+
+    async def _ask(self, operation: Operation, words: bytes, told: Optional[IO[bytes]] = None) -> None:
+        """Asks, and hears what is said up to the answer. Failed where there is none."""
+        if not self.is_open:
+            await self.open()
+        try:
+            self._send(wire.number(operation) + words)
+            await self._answered(told)
+        except (EOFError, OSError, wire.NotSpoken) as error:
+            raise await self._gone() from error
+
+    async def _answered(self, told: Optional[IO[bytes]]) -> None:
+        hear = self._hear
+        while True:
+            kind = await hear.number()
+            if kind == Message.LAST:
+                return
+            if kind == Message.NEXT:
+                line = await hear.string()
+            elif kind == Message.START_ACTIVITY:
+                line = await self._activity()
+            elif kind == Message.RESULT:
+                line = await self._result()
+            elif kind == Message.STOP_ACTIVITY:
+                await hear.number()
+                continue
+            elif kind == Message.ERROR:
+                said = _plain(await hear.string())
+                raise Failed(await hear.number() or 1, said)
+            else:
+                raise wire.NotSpoken(f"a message {kind:x}")
+            if told is not None and line:
+                told.write(_plain(line))
+
+    async def _fields(self) -> List[bytes]:
+        """The strings of a message's fields."""
+        found = []
+        for _ in range(await self._hear.number()):
+            if await self._hear.number() == 0:
+                await self._hear.number()
+            else:
+                found.append(await self._hear.string())
+        return found
+
+    async def _activity(self) -> bytes:
+        _number, level, _kind = [await self._hear.number() for _ in range(3)]
+        words = await self._hear.string()
+        await self._fields()
+        await self._hear.number()
+        return words + b"..." if words and level <= wire.INFO else b""
+
+    async def _result(self) -> bytes:
+        await self._hear.number()
+        kind = await self._hear.number()
+        fields = await self._fields()
+        return fields[0] + b"\n" if kind in wire.LOG_LINES and fields else b""
+
+    async def set_options(self, settings: "Settings") -> None:
+        """What the builds that follow go by."""
+        words = settings.spoken()
+        if words != self._settings or not self.is_open:
+            await self._ask(Operation.SET_OPTIONS, words)
+            self._settings = words
+
+    async def build(self, drv: str, told: IO[bytes]) -> int:
+        """Builds a derivation; what is said goes to `told`. The status is that of `nix-store --realise`."""
+        try:
+            await self._ask(Operation.BUILD_PATHS, wire.strings([drv]) + wire.number(0), told)
+            await self._hear.number()
+        except Failed as failed:
+            told.write(failed.said)
+            return failed.status
+        except EOFError:
+            failed = await self._gone()
+            told.write(failed.said)
+            return failed.status
+        return 0
+
+    async def valid_paths(self, paths: Iterable[str]) -> Set[str]:
+        """Those of the paths that are valid."""
+        await self._ask(Operation.QUERY_VALID_PATHS, wire.strings(paths))
+        return set(await self._answer(self._hear.strings()))
+
+    async def path_info(self, path: str) -> Optional[PathInfo]:
+        """What the store knows of a path; None where it isn't valid."""
+        await self._ask(Operation.QUERY_PATH_INFO, wire.words(path))
+        return await self._answer(self._path_info(path))
+
+    async def _answer(self, answer):  # type: ignore[no-untyped-def]
+        try:
+            return await answer
+        except (EOFError, OSError, wire.NotSpoken) as error:
+            raise await self._gone() from error
+
+    async def _path_info(self, path: str) -> Optional[PathInfo]:
+        hear = self._hear
+        if await hear.number() == 0:
+            return None
+        deriver, digest = await hear.words(), await hear.words()
+        references = await hear.strings()
+        registered, size, ultimate = [await hear.number() for _ in range(3)]
+        return PathInfo(path, deriver, digest, references, registered, size, ultimate, await hear.strings(), await hear.words())
+
+    async def nar(self, info: PathInfo) -> bytes:
+        """The NAR of a path, all of it."""
+        await self._ask(Operation.NAR_FROM_PATH, wire.words(info.path))
+        return await self._answer(self._hear.bytes(info.size))
+
+    async def add(self, info: PathInfo, nar: bytes) -> None:
+        """Adds a path by its NAR, without a look at signatures."""
+        words = [
+            wire.words(info.path),
+            wire.words(info.deriver),
+            wire.words(info.digest),
+            wire.strings(info.references),
+            *(wire.number(value) for value in (info.registered, info.size, 0)),
+            wire.strings(info.signatures),
+            wire.words(info.content),
+            # no repair, and no check of signatures
+            wire.number(0),
+            wire.number(1),
+            wire.framed(nar),
+        ]
+        await self._ask(Operation.ADD_TO_STORE_NAR, b"".join(words))
+
+    async def keep(self, path: str, link: Optional[str] = None) -> None:
+        """Keeps a path from the garbage collector as long as this process lives, or as long as a link to it stands."""
+        operation = Operation.ADD_TEMP_ROOT if link is None else Operation.ADD_INDIRECT_ROOT
+        await self._ask(operation, wire.words(path if link is None else link))
+        await self._answer(self._hear.number())
+
+    async def keep_all(self, links: Sequence[str]) -> None:
+        """The same of many links at once."""
+        for link in links:
+            await self.keep("", link)
+
+
+class Settings(NamedTuple):
+    """What a build goes by, as Nix's settings have it; `others` are settings by their names."""
+
+    keep_failed: bool
+    fallback: bool
+    jobs: int
+    silent: int
+    cores: int
+    others: Dict[str, str]
+
+    def spoken(self) -> bytes:
+        """The words of the operation that sets them: builds are said in full, and substituters aren't asked."""
+        values = [self.keep_failed, False, self.fallback, wire.INFO, self.jobs, self.silent, True, 0, 0, 0, self.cores, False]
+        others = [wire.words(name) + wire.words(value) for name, value in self.others.items()]
+        return b"".join([*(wire.number(int(value)) for value in values), wire.number(len(others)), *others])
+
+
+def _plain(words: bytes) -> bytes:
+    """A message as it stands in a file: without colours, with an end."""
+    words = _ESCAPES.sub(b"", words)
+    return words if words.endswith(b"\n") else words + b"\n"
