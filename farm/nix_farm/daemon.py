@@ -8,11 +8,13 @@ says it on standard error.
 import asyncio
 import re
 import tempfile
-from typing import IO, Dict, Iterable, List, Mapping, NamedTuple, Optional, Sequence, Set
+from typing import IO, Awaitable, Callable, Dict, Iterable, List, Mapping, NamedTuple, Optional, Set, TypeVar
 
 from . import wire
 from .process import Processes, status_of
 from .wire import Message, Operation
+
+_T = TypeVar("_T")
 
 # What Nix colours its words with.
 _ESCAPES = re.compile(rb"\x1b\[[0-9;]*[A-Za-z]|\x1b\][^\x07]*\x07|\r(?=\n)")
@@ -51,6 +53,7 @@ class Daemon:
         self._said: IO[bytes] = open(f"{folder}/{name}.said", "w+b") if name else tempfile.TemporaryFile(dir=folder)
         self._process: Optional[asyncio.subprocess.Process] = None
         self._settings = b""
+        self._asked = False
 
     @property
     def is_open(self) -> bool:
@@ -98,27 +101,47 @@ class Daemon:
         return _ESCAPES.sub(b"", self._said.read())
 
     async def close(self) -> None:
-        """Ends the process, by the end of its input."""
+        """Ends the process, by the end of its input; one that was called off in the middle at once."""
         process, self._process = self._process, None
+        asked, self._asked = self._asked, False
         if process is None:
             return
         if process.stdin is not None:
             process.stdin.close()
-        try:
-            await asyncio.wait_for(asyncio.shield(process.wait()), 1)
-        except asyncio.TimeoutError:
-            pass
+        if not asked:
+            try:
+                await asyncio.wait_for(asyncio.shield(process.wait()), 1)
+            except asyncio.TimeoutError:
+                pass
         await self._processes.end(process)
 
-    async def _ask(self, operation: Operation, words: bytes, told: Optional[IO[bytes]] = None) -> None:
-        """Asks, and hears what is said up to the answer. Failed where there is none."""
+    async def _call(
+        self,
+        operation: Operation,
+        words: bytes,
+        answer: Optional[Callable[[], Awaitable[_T]]] = None,
+        told: Optional[IO[bytes]] = None,
+    ) -> Optional[_T]:
+        """Asks, hears what is said up to the answer, and the answer. Failed where there is none.
+
+        A question that was called off leaves a process that still answers it: the next one has another process.
+        """
+        if self._asked:
+            await self.close()
         if not self.is_open:
             await self.open()
+        self._asked = True
         try:
             self._send(wire.number(operation) + words)
             await self._answered(told)
+            answered = await answer() if answer is not None else None
+        except Failed:
+            self._asked = False
+            raise
         except (EOFError, OSError, wire.NotSpoken) as error:
             raise await self._gone() from error
+        self._asked = False
+        return answered
 
     async def _answered(self, told: Optional[IO[bytes]]) -> None:
         hear = self._hear
@@ -170,38 +193,29 @@ class Daemon:
         """What the builds that follow go by."""
         words = settings.spoken()
         if words != self._settings or not self.is_open:
-            await self._ask(Operation.SET_OPTIONS, words)
+            await self._call(Operation.SET_OPTIONS, words)
             self._settings = words
 
     async def build(self, drv: str, told: IO[bytes]) -> int:
         """Builds a derivation; what is said goes to `told`. The status is that of `nix-store --realise`."""
         try:
-            await self._ask(Operation.BUILD_PATHS, wire.strings([drv]) + wire.number(0), told)
-            await self._hear.number()
+            await self._call(Operation.BUILD_PATHS, wire.strings([drv]) + wire.number(0), self._heard_number, told)
         except Failed as failed:
-            told.write(failed.said)
-            return failed.status
-        except EOFError:
-            failed = await self._gone()
             told.write(failed.said)
             return failed.status
         return 0
 
     async def valid_paths(self, paths: Iterable[str]) -> Set[str]:
         """Those of the paths that are valid."""
-        await self._ask(Operation.QUERY_VALID_PATHS, wire.strings(paths))
-        return set(await self._answer(self._hear.strings()))
+        found = await self._call(Operation.QUERY_VALID_PATHS, wire.strings(paths), self._heard_strings)
+        return set(found or ())
+
+    async def _heard_strings(self) -> List[str]:
+        return await self._hear.strings()
 
     async def path_info(self, path: str) -> Optional[PathInfo]:
         """What the store knows of a path; None where it isn't valid."""
-        await self._ask(Operation.QUERY_PATH_INFO, wire.words(path))
-        return await self._answer(self._path_info(path))
-
-    async def _answer(self, answer):  # type: ignore[no-untyped-def]
-        try:
-            return await answer
-        except (EOFError, OSError, wire.NotSpoken) as error:
-            raise await self._gone() from error
+        return await self._call(Operation.QUERY_PATH_INFO, wire.words(path), lambda: self._path_info(path))
 
     async def _path_info(self, path: str) -> Optional[PathInfo]:
         hear = self._hear
@@ -210,12 +224,13 @@ class Daemon:
         deriver, digest = await hear.words(), await hear.words()
         references = await hear.strings()
         registered, size, ultimate = [await hear.number() for _ in range(3)]
-        return PathInfo(path, deriver, digest, references, registered, size, ultimate, await hear.strings(), await hear.words())
+        signatures, content = await hear.strings(), await hear.words()
+        return PathInfo(path, deriver, digest, references, registered, size, ultimate, signatures, content)
 
     async def nar(self, info: PathInfo) -> bytes:
         """The NAR of a path, all of it."""
-        await self._ask(Operation.NAR_FROM_PATH, wire.words(info.path))
-        return await self._answer(self._hear.bytes(info.size))
+        found = await self._call(Operation.NAR_FROM_PATH, wire.words(info.path), lambda: self._hear.bytes(info.size))
+        return found or b""
 
     async def add(self, info: PathInfo, nar: bytes) -> None:
         """Adds a path by its NAR, without a look at signatures."""
@@ -232,18 +247,18 @@ class Daemon:
             wire.number(1),
             wire.framed(nar),
         ]
-        await self._ask(Operation.ADD_TO_STORE_NAR, b"".join(words))
+        await self._call(Operation.ADD_TO_STORE_NAR, b"".join(words))
 
-    async def keep(self, path: str, link: Optional[str] = None) -> None:
-        """Keeps a path from the garbage collector as long as this process lives, or as long as a link to it stands."""
-        operation = Operation.ADD_TEMP_ROOT if link is None else Operation.ADD_INDIRECT_ROOT
-        await self._ask(operation, wire.words(path if link is None else link))
-        await self._answer(self._hear.number())
+    async def keep(self, path: str) -> None:
+        """Keeps a path from the garbage collector as long as this process lives."""
+        await self._call(Operation.ADD_TEMP_ROOT, wire.words(path), self._heard_number)
 
-    async def keep_all(self, links: Sequence[str]) -> None:
-        """The same of many links at once."""
-        for link in links:
-            await self.keep("", link)
+    async def keep_link(self, link: str) -> None:
+        """Keeps what a link leads to from the garbage collector as long as the link stands."""
+        await self._call(Operation.ADD_INDIRECT_ROOT, wire.words(link), self._heard_number)
+
+    async def _heard_number(self) -> int:
+        return await self._hear.number()
 
 
 class Settings(NamedTuple):
