@@ -8,7 +8,7 @@ says it on standard error.
 import asyncio
 import re
 import tempfile
-from typing import IO, Awaitable, Callable, Dict, Iterable, List, Mapping, NamedTuple, Optional, Set, TypeVar
+from typing import IO, Awaitable, Callable, Dict, Iterable, List, Mapping, NamedTuple, Optional, Sequence, Set, TypeVar
 
 from . import wire
 from .process import Processes, status_of
@@ -50,7 +50,9 @@ class Daemon:
         """`env` are the variables that the process has; what it says by itself is kept in the file `name` of a folder."""
         self._processes = processes
         self._env = env
-        self._said: IO[bytes] = open(f"{folder}/{name}.said", "w+b") if name else tempfile.TemporaryFile(dir=folder)
+        self._folder = folder
+        self._name = name
+        self._said: Optional[IO[bytes]] = None
         self._process: Optional[asyncio.subprocess.Process] = None
         self._settings = b""
         self._asked = False
@@ -63,6 +65,10 @@ class Daemon:
         """Starts the process and greets it; Failed where it doesn't answer, or can't open its store."""
         words = ["nix-daemon", "--stdio"]
         pipe = asyncio.subprocess.PIPE
+        if self._said is not None:
+            self._said.close()
+        file = f"{self._folder}/{self._name}.said"
+        self._said = open(file, "w+b") if self._name else tempfile.TemporaryFile(dir=self._folder)
         try:
             self._process = await self._processes.start(words, self._env, stdin=pipe, stdout=pipe, stderr=self._said)
         except OSError as error:
@@ -97,6 +103,8 @@ class Daemon:
 
     def said(self) -> bytes:
         """What the process itself has said on standard error: ssh speaks there."""
+        if self._said is None:
+            return b""
         self._said.seek(0)
         return _ESCAPES.sub(b"", self._said.read())
 
@@ -253,9 +261,20 @@ class Daemon:
         """Keeps a path from the garbage collector as long as this process lives."""
         await self._call(Operation.ADD_TEMP_ROOT, wire.words(path), self._heard_number)
 
-    async def keep_link(self, link: str) -> None:
-        """Keeps what a link leads to from the garbage collector as long as the link stands."""
-        await self._call(Operation.ADD_INDIRECT_ROOT, wire.words(link), self._heard_number)
+    async def keep_links(self, links: Sequence[str]) -> None:
+        """Keeps what links lead to from the garbage collector as long as these stand. Many are asked for at once."""
+        for at in range(0, len(links), 128):
+            part = links[at : at + 128]
+            asked = [wire.words(link) for link in part]
+            operation = wire.number(Operation.ADD_INDIRECT_ROOT)
+            await self._call(Operation.ADD_INDIRECT_ROOT, operation.join(asked), lambda: self._kept(len(part)))
+
+    async def _kept(self, count: int) -> None:
+        """The answers to so many links, of which the first one's messages have been heard."""
+        for left in range(count - 1, -1, -1):
+            await self._hear.number()
+            if left:
+                await self._answered(None)
 
     async def _heard_number(self) -> int:
         return await self._hear.number()

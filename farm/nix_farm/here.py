@@ -76,7 +76,7 @@ class Here:
                     os.unlink(new)
                 os.symlink(path, new)
                 os.replace(new, link)
-                await self._daemon.keep_link(link)
+            await self._daemon.keep_links(list(links))
 
     async def close(self) -> None:
         await self._daemon.close()
