@@ -116,7 +116,7 @@ def fault_of(message: bytes, call: str, status: int, where: str, drv: str = "") 
 
     message  all that Nix, ssh and the builder wrote, in any encoding
     call     `build`, `copy` or `connect`
-    status   Nix's status as a shell has it; `TIMED_OUT` where it took longer than it was given, 137 where it was killed
+    status   Nix's status as a shell has it; `TIMED_OUT` where it took longer than it was given
     where    `here` for a slot of this machine, `there` for one of another machine
     drv      of a build the path of its derivation
     """
@@ -207,7 +207,7 @@ def _row_of(words: bytes, rows: Sequence[Row]) -> Tuple[Optional[Row], Optional[
 def _of_way(said: _Said, call: str, status: int) -> Fault:
     """Who is to blame where no builder is: the machine, the way to it, or this machine."""
     refused = "lost" if call == "build" else "no"
-    if status in (TIMED_OUT, 137):
+    if status == TIMED_OUT:
         return Fault(refused, "machine", "no answer in time")
     full = said.last(lambda line: line.startswith(b"error: ") and _NO_ROOM in line)
     if full >= 0:

@@ -137,7 +137,7 @@ class MadeUp(unittest.TestCase):
         self.assertTrue(fault.cause.startswith("no space left here: "), fault.cause)
 
     def test_what_took_too_long(self) -> None:
-        for status in (124, 137):
+        for status in (124,):
             self.assertEqual(fault_of(b"", "connect", status, "there"), ("no", "machine", "no answer in time"))
 
     def test_nothing_said(self) -> None:
