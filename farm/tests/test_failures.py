@@ -104,12 +104,12 @@ class Builders(FarmCase):
     def test_messages_of_any_encoding(self) -> None:
         world = self.world
         root = world.drv("root")
-        world.happens("builds", "root", {"says": "gru\xdf \\n \xff\xfe\n\x00\nerror: something \xe4 \\1 \x1b[1m\"new\"\n", "status": 1})
+        world.happens("builds", "root", {"says": "gru\xdf \\n \xff\xfe\n\x00\nerror: something \xe4 \\1 \x01\"new\"\n", "status": 1})
         ran = world.build("--retries", "0", root)
         self.ended(ran, 1)
         one = world.report()["by_name"]["root"]
-        self.assertEqual(one["cause"], 'something ? \\1 ?[1m"new"')
-        self.assertIn(["0", "0", "lost", root, "here", "something", "?", "\\1", '?[1m"new"'], world.events())
+        self.assertEqual(one["cause"], 'something ? \\1 ?"new"')
+        self.assertIn(["0", "0", "lost", root, "here", "something", "?", "\\1", '?"new"'], world.events())
         self.assertIn(b"gru\xdf \\n \xff\xfe\n", world.bytes("out/0.0.log"))
 
 
@@ -406,7 +406,7 @@ class Faults(FarmCase):
         os.close(reading)
         import subprocess
 
-        done = subprocess.run(command, env=world.env(), stdin=subprocess.DEVNULL, stdout=writing, stderr=writing, timeout=60, check=False)
+        done = subprocess.run(command, env=world.env(), stdin=subprocess.DEVNULL, stdout=writing, stderr=writing, timeout=300, check=False)
         os.close(writing)
         self.assertEqual(done.returncode, 0)
         self.assertEqual(world.report()["counts"]["built"], 1)

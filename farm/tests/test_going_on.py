@@ -26,8 +26,9 @@ class Stopped(FarmCase):
             self.root = world.drv("root", [self.second])
             self.uri = world.machine("one", jobs=2, ssh=ssh)
             world.happens("builds", "second", {"waits": world.at("gate")})
+        before = world.built().count("second")
         begun = world.begin(*words, self.root, jobs=0, out=out)
-        world.soon(lambda: "second" in world.built(), "the second was never begun")
+        world.soon(lambda: world.built().count("second") > before, "the second was never begun")
         return begun
 
     def open_gate(self) -> None:
@@ -350,7 +351,7 @@ class Watched(Stopped):
         world.started.append(done)
         os.close(its)
         said = self.read_all(mine)
-        self.assertEqual(done.wait(60), 0)
+        self.assertEqual(done.wait(300), 0)
         shown = b"".join(said).decode("latin-1")
         self.assertRegex(shown, r"\r\x1b\[Kbuilt 0, leased 1, failed 0, waiting 1  0\.0 first")
         self.assertRegex(shown, r"\r\x1b\[Kbuilt 2, leased 0, failed 0, waiting 0")

@@ -21,7 +21,7 @@ HERE = os.path.dirname(os.path.abspath(__file__))
 FARM = os.environ.get("FARM", os.path.dirname(HERE))
 LETTERS = "0123456789abcdfghijklmnpqrsvwxyz"
 # How long anything in a test may take, in seconds.
-PATIENCE = 60.0
+PATIENCE = 300.0
 
 
 def store_path(name: str) -> str:
@@ -134,7 +134,6 @@ class World:
         given = {
             "PATH": os.pathsep.join([self.at("bin"), os.path.join(HERE, "stand_ins"), "/usr/bin", "/bin"]),
             "FARM_WORLD": self.at("world.json"), "NIX_REMOTE": self.root, "HOME": self.folder, "TMPDIR": self.at("tmp"),
-            "PYTHONDONTWRITEBYTECODE": "1",
         }
         program = os.environ.get("FARM_PROGRAM")
         return {**given, **({"NIX_DISPATCH": program} if program else {}), **self.environment}
