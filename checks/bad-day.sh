@@ -6,7 +6,7 @@
 #
 # A case is a function below or in bad-day/killed.sh; without a name all are run. Each says in a line what it saw. FARM
 # names the folder of the scripts, which is farm where it isn't set, and NIX_DISPATCH the program. It needs Nix 2.8 or
-# later, a static busybox, Python 3, OpenSSH's sshd, a shell `dash` and root, and installs nothing. The sshd listens on
+# later, a static busybox, Python 3, OpenSSH's sshd and root, and installs nothing. The sshd listens on
 # port 2223 of 127.0.0.1, or on that of PORT, and ends with the script. With -k the folder with all that it made stays.
 set -u
 
