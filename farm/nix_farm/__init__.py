@@ -11,6 +11,7 @@ The graph
     derivation  the parts of a derivation's text
     cut         a graph cut down to what is still to be built, what others wait for longest first
     gather      what Nix is asked for a graph, the bundle and the info text; `farm/gather`
+    substitutes what Nix's substituters have of it
     nobuilder   why no machine may build a derivation
 
 Processes
@@ -22,25 +23,29 @@ Processes
 Machines and slots
     park        the machines and slots, as `nix-dispatch park` lists them, and their store URIs
     blame       whose fault a message is, as a table
+    here        this machine's store, as all slots ask it
     machine     the connections of a machine: asked once, up or down, whose fault
     copies      copies to a machine
     builds      a build on a machine or here
+    pipe        the pipes of a slot: calls, and answers
     slot        the agent of a slot: reads its calls, and answers them
     events      what agents note, in their logs and in `events`
 
 A run
     folder      the folder of a run: its lock, what lies in it, files that are put into it whole
     history     journals and histories, entry by entry
+    program     nix-dispatch: where it is, and what it is asked for
     resume      whether a run is gone on from, and its rounds
     roots       what is kept from the garbage collector
-    rounds      rounds: the program on the agents' pipes, the audit, whom to shut out, and whether there is another one
-    run         a run from its words to its status
+    rounds      the program on the agents' pipes, and whom to shut out behind a round
+    run         a run from its words to its status: its rounds, their audits, and whether there is another one
     build       `farm/build`: signals, and the order of all that
 
 What is told
     report      how each derivation stands after all rounds, as text
     report_json the same as report.json
     trace       the timeline of copies and builds
+    account     all of that, put into the folder
     display     how far a run is, while it goes on
     watch       `farm/watch`: the same of a folder, from elsewhere
 """

@@ -7,6 +7,7 @@ import os
 import re
 import shutil
 import tempfile
+import time
 from typing import List, Optional
 
 from . import guard
@@ -59,6 +60,19 @@ def _is_locked(file: str) -> bool:
     return False
 
 
+def _lock(file: int) -> bool:
+    """Takes the lock of a folder. Whoever only looks whether it is taken, as farm/watch, has it for a moment."""
+    for _ in range(5):
+        try:
+            fcntl.flock(file, fcntl.LOCK_EX | fcntl.LOCK_NB)
+            return True
+        except BlockingIOError:
+            time.sleep(0.02)
+        except OSError:
+            return True
+    return False
+
+
 class Folder:
     """The folder of a run, which is the only one that runs there, and the one of its agents below /tmp."""
 
@@ -80,10 +94,8 @@ class Folder:
             self._lock = os.open(self.at(".lock"), os.O_WRONLY | os.O_APPEND | os.O_CREAT | os.O_CLOEXEC, 0o666)
         except OSError as error:
             raise GivenUp(5, f"the folder {self.out} can't be written to") from error
-        try:
-            fcntl.flock(self._lock, fcntl.LOCK_EX | fcntl.LOCK_NB)
-        except OSError as error:
-            raise GivenUp(5, f"another build goes on in {self.out}") from error
+        if not _lock(self._lock):
+            raise GivenUp(5, f"another build goes on in {self.out}")
 
     def at(self, name: str) -> str:
         return f"{self.out}/{name}"
@@ -173,6 +185,9 @@ class Folder:
                 file.write(text)
         except OSError:
             pass
+
+    def remove(self, name: str) -> None:
+        _remove(self.at(name))
 
     def make_durable(self, names: List[str]) -> None:
         """Has files, and that the folder has them, survive a machine that stops."""

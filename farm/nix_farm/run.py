@@ -1,11 +1,11 @@
 """A run from its words to its status."""
 
-import os
 import signal
 import sys
 from typing import Dict, List, Mapping, Optional, Set
 
 from . import history, nobuilder, roots, settings
+from .account import Account
 from .builds import Builds
 from .copies import Copies
 from .cut import Cut
@@ -21,13 +21,10 @@ from .options import Options
 from .park import Machine, Place, places, read_park
 from .process import Processes
 from .program import AUDIT_LIMIT, Program
-from .report import Report, RoundText, Told
-from .report_json import Sources, report_json
 from .resume import Round, goes_on
 from .rounds import Running, allow_descriptors, to_blame_twice
 from .slot import Slot
 from .substitutes import fetch
-from .trace import trace
 
 _SIGNALS = {"HUP": 129, "INT": 130, "TERM": 143}
 
@@ -54,7 +51,6 @@ class Run:
         self._number = 0
         self._noted: Set[int] = set()
         self._graph: Optional[List[Derivation]] = None
-        self._nobuilder: Dict[str, str] = {}
         self._status = 0
         self._verdict = 0
         self._is_unfinished = False
@@ -99,7 +95,8 @@ class Run:
         if not self._rounds:
             await self._gather_first()
         first = self._rounds[0].drvs if self._rounds else []
-        self._nobuilder = nobuilder.reasons(first, nobuilder.abilities(self.options, self._builders))
+        never = nobuilder.reasons(first, nobuilder.abilities(self.options, self._builders))
+        self._account = Account(self.options, self.folder, self._machines, self._here, self._store, self._rounds, never)
         await self._run_rounds()
         self._display.end()
         return await self._end()
@@ -297,12 +294,7 @@ class Run:
     async def _next_round(self, one: Round) -> bool:
         """Whether there is something to be tried again; it is gathered then."""
         self._shut_out(self._number + 1)
-        report = self._report(self._number)
-        failed = {
-            path
-            for path, state in report.standing.items()
-            if state.status == "failed" and (state.how.startswith(("status", "references")) or path in self._nobuilder)
-        }
+        failed = self._account.failed_by_itself(self._number)
         if self._number > self.options.retries or (failed and not self.options.keep_going):
             return False
         if not history.lost_something(one.history):
@@ -327,68 +319,23 @@ class Run:
                 say(f"machine {number} gets nothing more, since it was to blame in two rounds: {cause}")
                 connections.shut_out = f"to blame in two rounds: {cause}"
 
-    def _report(self, count: int) -> Report:
-        """How each derivation stands behind so many rounds."""
-        report = Report(self._machines, self.options.keep_going)
-        for number, one in enumerate(self._rounds[:count], 1):
-            drvs = [(drv.path, [path for path, _ in drv.inputs]) for drv in one.drvs]
-            report.add_round(number, RoundText(drvs, history.entries(one.history), one.left))
-        return report
-
     async def _end(self) -> int:
         """How it stands, and what was made: the status."""
-        folder = self.folder
-        status = self.signal_status(self._verdict or self._status)
-        report = self._report(len(self._rounds))
-        if status == 0 and not report.is_all_built:
-            status = 1
-        notes = read_events(folder.at("events"))
-        full = any(note.words[0] == "lost" and note.words[2:6] == ["here", "no", "space", "left"] for note in notes)
-        if status == 1 and full:
-            say(f"the disk of {self._root or '/nix/store'} is full")
-            status = 5
-        sources = Sources(Told(notes), await self._sizes(), self._nobuilder, folder.out)
-        self._put_report(report, sources, status)
-        if self._number > 0:
-            folder.put("trace.json", trace(self._machines, notes).encode())
-        for path, one in report.standing.items():
-            if one.how == "nobuilder":
-                write_error(f"nobuilder: {path}: {self._nobuilder.get(path, 'each machine that may build it is down')}\n")
-        write_out(report.text(self._number, self.interrupted))
+        folder, account = self.folder, self._account
+        status = await account.read(self.signal_status(self._verdict or self._status))
+        account.put(status, self._number, self.interrupted)
+        account.tell(self._number, self.interrupted)
         await self._hand_over()
         if self.interrupted and status == 0:
             # an interruption that came behind the report
             status = self.signal_status(status)
-            self._put_report(report, sources, status)
+            account.put(status, self._number, self.interrupted)
         if self._has_ended and not self.interrupted:
             self._is_unfinished = False
-            try:
-                os.unlink(folder.at(".unfinished"))
-            except OSError:
-                pass
+            folder.remove(".unfinished")
         elif self._number > 0:
             say(f"the same command with -o {folder.out} goes on with it")
         return 5 if folder.is_stranded else status
-
-    def _put_report(self, report: Report, sources: Sources, status: int) -> None:
-        rounds = self._number
-        self.folder.put("report", report.text(rounds, self.interrupted).encode(errors="surrogateescape"))
-        text = report_json(report, sources, status, self.interrupted, rounds)
-        self.folder.put("report.json", text.encode())
-
-    async def _sizes(self) -> Dict[str, int]:
-        """The sizes as NAR of the paths that were copied, in bytes."""
-        copied = {
-            path
-            for one in self._rounds
-            for entry in history.entries(one.history)
-            if entry[0] == "started"
-            for path in entry[2:]
-        }
-        known = {path: self._here.known_size(path) for path in copied}
-        found = {path: size for path, size in known.items() if size is not None}
-        unknown = sorted(path for path in copied if path not in found)
-        return {**found, **(await self._store.sizes(unknown) if unknown else {})}
 
     async def _hand_over(self) -> None:
         """Prints the paths that the roots have made, and links to them."""
