@@ -8,7 +8,7 @@ says it on standard error.
 import asyncio
 import re
 import tempfile
-from typing import IO, Awaitable, Callable, Dict, Iterable, List, Mapping, NamedTuple, Optional, Sequence, Set, TypeVar
+from typing import IO, Callable, Dict, Iterable, List, Mapping, NamedTuple, Optional, Sequence, Set, Tuple, TypeVar
 
 from . import wire
 from .process import Processes, status_of
@@ -83,9 +83,9 @@ class Daemon:
 
     async def _greet(self) -> None:
         self._send(wire.number(wire.MAGIC_OF_CLIENT))
-        if await self._hear.number() != wire.MAGIC_OF_SERVER:
+        magic, _version = await self._hear.hear(lambda hear: (hear.number(), hear.number()))
+        if magic != wire.MAGIC_OF_SERVER:
             raise wire.NotSpoken("another magic number")
-        await self._hear.number()
         # the version, and no processor and no reserved space
         self._send(wire.number(wire.VERSION) + wire.number(0) + wire.number(0))
         await self._answered(None)
@@ -127,7 +127,7 @@ class Daemon:
         self,
         operation: Operation,
         words: bytes,
-        answer: Optional[Callable[[], Awaitable[_T]]] = None,
+        answer: Optional[Callable[[wire.Hearing], _T]] = None,
         told: Optional[IO[bytes]] = None,
     ) -> Optional[_T]:
         """Asks, hears what is said up to the answer, and the answer. Failed where there is none.
@@ -142,7 +142,7 @@ class Daemon:
         try:
             self._send(wire.number(operation) + words)
             await self._answered(told)
-            answered = await answer() if answer is not None else None
+            answered = await self._hear.hear(answer) if answer is not None else None
         except Failed:
             self._asked = False
             raise
@@ -152,50 +152,15 @@ class Daemon:
         return answered
 
     async def _answered(self, told: Optional[IO[bytes]]) -> None:
-        hear = self._hear
+        """Hears what is said before an answer, and tells what a builder and Nix say of a build."""
         while True:
-            kind = await hear.number()
+            kind, words, status = await self._hear.hear(_message)
             if kind == Message.LAST:
                 return
-            if kind == Message.NEXT:
-                line = await hear.string()
-            elif kind == Message.START_ACTIVITY:
-                line = await self._activity()
-            elif kind == Message.RESULT:
-                line = await self._result()
-            elif kind == Message.STOP_ACTIVITY:
-                await hear.number()
-                continue
-            elif kind == Message.ERROR:
-                said = _plain(await hear.string())
-                raise Failed(await hear.number() or 1, said)
-            else:
-                raise wire.NotSpoken(f"a message {kind:x}")
-            if told is not None and line:
-                told.write(_plain(line))
-
-    async def _fields(self) -> List[bytes]:
-        """The strings of a message's fields."""
-        found = []
-        for _ in range(await self._hear.number()):
-            if await self._hear.number() == 0:
-                await self._hear.number()
-            else:
-                found.append(await self._hear.string())
-        return found
-
-    async def _activity(self) -> bytes:
-        _number, level, _kind = [await self._hear.number() for _ in range(3)]
-        words = await self._hear.string()
-        await self._fields()
-        await self._hear.number()
-        return words + b"..." if words and level <= wire.INFO else b""
-
-    async def _result(self) -> bytes:
-        await self._hear.number()
-        kind = await self._hear.number()
-        fields = await self._fields()
-        return fields[0] + b"\n" if kind in wire.LOG_LINES and fields else b""
+            if kind == Message.ERROR:
+                raise Failed(status or 1, _plain(words))
+            if told is not None and words:
+                told.write(_plain(words))
 
     async def set_options(self, settings: "Settings") -> None:
         """What the builds that follow go by."""
@@ -207,7 +172,7 @@ class Daemon:
     async def build(self, drv: str, told: IO[bytes]) -> int:
         """Builds a derivation; what is said goes to `told`. The status is that of `nix-store --realise`."""
         try:
-            await self._call(Operation.BUILD_PATHS, wire.strings([drv]) + wire.number(0), self._heard_number, told)
+            await self._call(Operation.BUILD_PATHS, wire.strings([drv]) + wire.number(0), wire.Hearing.number, told)
         except Failed as failed:
             told.write(failed.said)
             return failed.status
@@ -215,29 +180,16 @@ class Daemon:
 
     async def valid_paths(self, paths: Iterable[str]) -> Set[str]:
         """Those of the paths that are valid."""
-        found = await self._call(Operation.QUERY_VALID_PATHS, wire.strings(paths), self._heard_strings)
+        found = await self._call(Operation.QUERY_VALID_PATHS, wire.strings(paths), wire.Hearing.strings)
         return set(found or ())
-
-    async def _heard_strings(self) -> List[str]:
-        return await self._hear.strings()
 
     async def path_info(self, path: str) -> Optional[PathInfo]:
         """What the store knows of a path; None where it isn't valid."""
-        return await self._call(Operation.QUERY_PATH_INFO, wire.words(path), lambda: self._path_info(path))
-
-    async def _path_info(self, path: str) -> Optional[PathInfo]:
-        hear = self._hear
-        if await hear.number() == 0:
-            return None
-        deriver, digest = await hear.words(), await hear.words()
-        references = await hear.strings()
-        registered, size, ultimate = [await hear.number() for _ in range(3)]
-        signatures, content = await hear.strings(), await hear.words()
-        return PathInfo(path, deriver, digest, references, registered, size, ultimate, signatures, content)
+        return await self._call(Operation.QUERY_PATH_INFO, wire.words(path), lambda hear: _path_info(hear, path))
 
     async def nar(self, info: PathInfo) -> bytes:
         """The NAR of a path, all of it."""
-        found = await self._call(Operation.NAR_FROM_PATH, wire.words(info.path), lambda: self._hear.bytes(info.size))
+        found = await self._call(Operation.NAR_FROM_PATH, wire.words(info.path), lambda hear: hear.bytes(info.size))
         return found or b""
 
     async def add(self, info: PathInfo, nar: bytes) -> None:
@@ -259,25 +211,74 @@ class Daemon:
 
     async def keep(self, path: str) -> None:
         """Keeps a path from the garbage collector as long as this process lives."""
-        await self._call(Operation.ADD_TEMP_ROOT, wire.words(path), self._heard_number)
+        await self._call(Operation.ADD_TEMP_ROOT, wire.words(path), wire.Hearing.number)
 
     async def keep_links(self, links: Sequence[str]) -> None:
         """Keeps what links lead to from the garbage collector as long as these stand. Many are asked for at once."""
         for at in range(0, len(links), 128):
-            part = links[at : at + 128]
-            asked = [wire.words(link) for link in part]
-            operation = wire.number(Operation.ADD_INDIRECT_ROOT)
-            await self._call(Operation.ADD_INDIRECT_ROOT, operation.join(asked), lambda: self._kept(len(part)))
+            part = [wire.words(link) for link in links[at : at + 128]]
+            asked = wire.number(Operation.ADD_INDIRECT_ROOT).join(part)
+            await self._call(Operation.ADD_INDIRECT_ROOT, asked, _answers_to(len(part)))
 
-    async def _kept(self, count: int) -> None:
-        """The answers to so many links, of which the first one's messages have been heard."""
-        for left in range(count - 1, -1, -1):
-            await self._hear.number()
-            if left:
-                await self._answered(None)
 
-    async def _heard_number(self) -> int:
-        return await self._hear.number()
+def _answers_to(count: int) -> Callable[[wire.Hearing], None]:
+    """Reads the numbers that answer so many questions, of which the first one's messages have been heard."""
+
+    def read(hear: wire.Hearing) -> None:
+        hear.number()
+        for _ in range(count - 1):
+            kind, words, status = _message(hear)
+            while kind not in (Message.LAST, Message.ERROR):
+                kind, words, status = _message(hear)
+            if kind == Message.ERROR:
+                raise wire.NotSpoken(words.decode(errors="replace"))
+            hear.number()
+
+    return read
+
+
+def _message(hear: wire.Hearing) -> Tuple[int, bytes, int]:
+    """What a daemon says next: the kind, the words, which may be none, and of an error the status."""
+    kind = hear.number()
+    words, status = b"", 0
+    if kind == Message.NEXT:
+        words = hear.string()
+    elif kind == Message.START_ACTIVITY:
+        level = [hear.number() for _ in range(3)][1]
+        words = hear.string()
+        words = words + b"..." if words and level <= wire.INFO else b""
+        _fields(hear)
+        hear.number()
+    elif kind == Message.RESULT:
+        result = [hear.number() for _ in range(2)][1]
+        fields = _fields(hear)
+        words = fields[0] + b"\n" if result in wire.LOG_LINES and fields else b""
+    elif kind == Message.STOP_ACTIVITY:
+        hear.number()
+    elif kind == Message.ERROR:
+        words, status = hear.string(), hear.number()
+    elif kind != Message.LAST:
+        raise wire.NotSpoken(f"a message {kind:x}")
+    return kind, words, status
+
+
+def _fields(hear: wire.Hearing) -> List[bytes]:
+    """The strings of a message's fields."""
+    found = []
+    for _ in range(hear.number()):
+        if hear.number() == 0:
+            hear.number()
+        else:
+            found.append(hear.string())
+    return found
+
+
+def _path_info(hear: wire.Hearing, path: str) -> Optional[PathInfo]:
+    if hear.number() == 0:
+        return None
+    deriver, digest, references = hear.words(), hear.words(), hear.strings()
+    registered, size, ultimate = hear.number(), hear.number(), hear.number()
+    return PathInfo(path, deriver, digest, references, registered, size, ultimate, hear.strings(), hear.words())
 
 
 class Settings(NamedTuple):

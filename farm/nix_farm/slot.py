@@ -22,7 +22,7 @@ from .park import Place
 from .pipe import Pipes
 
 # The seconds for which the process of a slot is kept that has nothing to build.
-_IDLE = 3.0
+_IDLE = 10.0
 
 
 class Slot:

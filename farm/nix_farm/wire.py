@@ -6,7 +6,9 @@ list of strings is their number and each of them.
 
 import asyncio
 from enum import IntEnum
-from typing import Iterable, List
+from typing import Callable, Iterable, List, TypeVar
+
+_T = TypeVar("_T")
 
 MAGIC_OF_CLIENT = 0x6E697863
 MAGIC_OF_SERVER = 0x6478696F
@@ -75,27 +77,57 @@ def framed(data: bytes) -> bytes:
     return (number(len(data)) + data if data else b"") + number(0)
 
 
+class _Short(Exception):
+    """There isn't enough yet of what is read."""
+
+
 class Hearing:
-    """Reads numbers and strings from a stream."""
+    """Reads numbers and strings from a stream.
+
+    What is read at once is a function over this object, which calls its methods; it is called again from its beginning
+    where there wasn't enough, and so has no effects.
+    """
 
     def __init__(self, stream: asyncio.StreamReader) -> None:
         self._stream = stream
+        self._held = b""
+        self._at = 0
 
-    async def number(self) -> int:
-        return int.from_bytes(await self._stream.readexactly(8), "little")
+    async def hear(self, read: "Callable[[Hearing], _T]") -> _T:
+        """What the function reads; EOFError where the stream ends before."""
+        begin = self._at
+        while True:
+            try:
+                return read(self)
+            except _Short:
+                part = await self._stream.read(1 << 16)
+                if not part:
+                    raise EOFError from None
+                self._held = self._held[begin:] + part
+                begin = self._at = 0
 
-    async def string(self) -> bytes:
-        length = await self.number()
+    def number(self) -> int:
+        at = self._at
+        if len(self._held) < at + 8:
+            raise _Short
+        self._at = at + 8
+        return int.from_bytes(self._held[at : at + 8], "little")
+
+    def string(self) -> bytes:
+        length = self.number()
         if length > LONGEST:
             raise NotSpoken(f"a string of {length} bytes")
-        padded = await self._stream.readexactly(length + -length % 8)
-        return padded[:length]
+        return self.bytes(length + -length % 8)[:length]
 
-    async def words(self) -> str:
-        return (await self.string()).decode(errors="surrogateescape")
+    def words(self) -> str:
+        return self.string().decode(errors="surrogateescape")
 
-    async def strings(self) -> List[str]:
-        return [await self.words() for _ in range(await self.number())]
+    def strings(self) -> List[str]:
+        return [self.words() for _ in range(self.number())]
 
-    async def bytes(self, count: int) -> bytes:
-        return await self._stream.readexactly(count)
+    def bytes(self, count: int) -> bytes:
+        at = self._at
+        if len(self._held) < at + count:
+            raise _Short
+        self._at = at + count
+        return self._held[at : at + count]
