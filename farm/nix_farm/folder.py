@@ -6,6 +6,7 @@ import glob
 import os
 import re
 import shutil
+import signal
 import tempfile
 import time
 from typing import List, Optional
@@ -104,10 +105,18 @@ class Folder:
         return f"{self.shared}/{name}"
 
     async def wait_for_killed(self) -> None:
-        """Waits for the run of a build that was killed, which its guard ends in a moment; takes away what it has left.
+        """Waits for the run of a build that was killed, which its guard ends in a moment, or which is ended here where the
+        guard was killed too; takes away what it has left.
 
         GivenUp where that run goes on for twenty seconds.
         """
+        try:
+            killed = os.readlink(self.at(".agents"))
+        except OSError:
+            killed = ""
+        is_one = re.fullmatch(r"/tmp/nix-dispatch\.[^/]*", killed) is not None
+        if is_one:
+            _end_left_run(killed)
         for journal in glob.glob(glob.escape(self.out) + "/journal.*"):
             beats = 0
             while _is_locked(journal):
@@ -117,11 +126,7 @@ class Folder:
                     raise GivenUp(5, f"{going}: {journal} is locked")
                 await asyncio.sleep(0.2)
         # what is left in /tmp of one that was killed together with its guard; what its agents had begun may still go on
-        try:
-            killed = os.readlink(self.at(".agents"))
-        except OSError:
-            return
-        if re.fullmatch(r"/tmp/nix-dispatch\.[^/]*", killed):
+        if is_one:
             guard.end_connections(killed, "stop")
             guard.remove(killed)
 
@@ -209,6 +214,17 @@ class Folder:
             _remove(self.at("gcroots"))
         if self._is_linked:
             _remove(self.at(".agents"))
+
+
+def _end_left_run(shared: str) -> None:
+    """Ends the program of a run whose other processes were killed: it waits for agents that are gone."""
+    try:
+        process = int(_read(f"{shared}/program") or b"0")
+        words = _read(f"/proc/{process}/cmdline") or b""
+        if process > 1 and f"{shared}/pipes".encode() in words.split(b"\0"):
+            os.kill(process, signal.SIGKILL)
+    except (ValueError, OSError):
+        pass
 
 
 def remove_shared(folder: str) -> None:

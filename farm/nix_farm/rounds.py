@@ -35,10 +35,11 @@ def _may_hand(slots: int) -> bool:
 class Running:
     """The run of a round: an agent for each slot, and the program."""
 
-    def __init__(self, processes: Processes, folder: str) -> None:
-        """`folder` is the one of the pipes."""
+    def __init__(self, processes: Processes, folder: str, started: Callable[[int], None]) -> None:
+        """`folder` is the one of the pipes, and `started` is told the number of the program's process."""
         self._processes = processes
         self._folder = folder
+        self._started = started
         self._program: Optional[asyncio.subprocess.Process] = None
         self._is_called_off = False
 
@@ -63,6 +64,7 @@ class Running:
             if self._is_called_off:
                 return 0
             self._program = await self._processes.start(words, stderr=2, handed=handed, ignores_pipe=True)
+            self._started(self._program.pid)
             tasks = [asyncio.ensure_future(slot.serve(pair)) for slot, pair in zip(slots, pipes)]
             return await self._until_end(tasks)
         finally:

@@ -230,7 +230,7 @@ class Run:
         drvs = {drv.path: drv for drv in one.drvs}
         pipes = folder.in_shared("pipes")
         files = (folder.in_shared("bundle"), folder.in_shared("info"), folder.at(f"journal.{number}"))
-        self._running = Running(self.processes, pipes)
+        self._running = Running(self.processes, pipes, lambda process: folder.keep("program", str(process).encode()))
         try:
             words = self._program.run_words(pipes, *files)
             return await self._running.run(words, places(self._machines), lambda place: self._slot(place, drvs))
