@@ -284,8 +284,7 @@ class Words(FarmCase):
         world.machine("one", ssh=True)
         world.environment["NIX_SSHOPTS"] = "-p 2222"
         self.ended(world.build("--connect-timeout", "3", world.drv("root"), jobs=0), 0)
-        told = [json.loads(line) for line in world.lines("state/calls")]
-        options = [one["ssh"] for one in told if "ConnectTimeout" in (one.get("ssh") or "")][0]
+        options = [one["ssh"] for one in world.noted("calls") if "ConnectTimeout" in (one.get("ssh") or "")][0]
         for words in ("-p 2222 ", "ConnectTimeout=3", "ServerAliveInterval=3", "ServerAliveCountMax=3"):
             self.assertIn(words, options)
 

@@ -270,11 +270,7 @@ class Anew(Stopped):
         world = self.world
         world.kill(self.begin())
         journal = world.bytes("out/journal.1")
-        program = world.at("program")
-        with open(program, "w", encoding="ascii") as file:
-            file.write('#!/bin/sh\n[ "$1" = help ] || exit 7\n')
-        os.chmod(program, 0o755)
-        world.environment["NIX_DISPATCH"] = program
+        world.environment["NIX_DISPATCH"] = world.script("program", '[ "$1" = help ] || exit 7')
         ran = self.again()
         self.ended(ran, 5)
         self.says(ran, "can't be looked at")

@@ -4,6 +4,7 @@
 `nix-dispatch` to use in place of the stand-in.
 """
 
+import ast
 import glob
 import hashlib
 import json
@@ -56,7 +57,7 @@ class World:
         self.root = self.at("local")
         for place in ("local/nix/store", "state/valid", "bin", "tmp"):
             os.makedirs(self.at(place))
-        os.symlink(sys.executable, self.at("bin/python3"))
+        self.script("bin/python3", f'exec "{sys.executable}" -S "$@"')
         self.settings = {"system": "x86_64-linux", "extra-platforms": "", "system-features": "", "max-jobs": "1", "builders": "", "substitute": "false"}
         self.drvs: Dict[str, Dict[str, Any]] = {}
         self.paths: Dict[str, List[str]] = {}
@@ -69,6 +70,13 @@ class World:
 
     def at(self, name: str) -> str:
         return os.path.join(self.folder, name)
+
+    def script(self, name: str, words: str) -> str:
+        """A script of the shell: its file."""
+        with open(self.at(name), "w", encoding="utf-8") as file:
+            file.write(f"#!/bin/sh\n{words}\n")
+        os.chmod(self.at(name), 0o755)
+        return self.at(name)
 
     # What there is.
 
@@ -224,20 +232,22 @@ class World:
     def lines(self, name: str) -> List[str]:
         return self.bytes(name).decode("latin-1").splitlines()
 
+    def noted(self, name: str) -> List[Any]:
+        """What the stand-ins have noted in a file of `state`."""
+        return [ast.literal_eval(line) for line in self.lines("state/" + name)]
+
     def calls(self, command: str, *words: str) -> List[List[str]]:
         """The words of each call of a stand-in that has all of these words."""
-        told = (json.loads(line) for line in self.lines("state/calls"))
+        told = self.noted("calls")
         return [one["argv"] for one in told if one["command"] == command and all(word in one["argv"] for word in words)]
 
     def builds(self, how: str = "begin") -> List[Tuple[str, str]]:
         """The names and the URIs of the builds that began, or ended, in their order."""
-        told = [json.loads(line) for line in self.lines("state/builds")]
-        return [(one[2], self.plain(one[3])) for one in told if one[0] == how]
+        return [(one[2], self.plain(one[3])) for one in self.noted("builds") if one[0] == how]
 
     def settings_of(self, name: str) -> Dict[str, str]:
         """Nix's settings of the last build of a name."""
-        told = [json.loads(line) for line in self.lines("state/builds")]
-        return [one[4] for one in told if one[0] == "begin" and one[2] == name][-1]
+        return [one[4] for one in self.noted("builds") if one[0] == "begin" and one[2] == name][-1]
 
     def built(self) -> List[str]:
         return [name for name, _ in self.builds()]
@@ -248,11 +258,11 @@ class World:
 
     def pings(self) -> List[str]:
         """The machines that were asked for a connection, each time."""
-        return [self.plain(line) for line in self.lines("state/pings")]
+        return [self.plain(uri) for uri in self.noted("pings")]
 
     def copied(self) -> List[Tuple[str, str]]:
         """The machine and the path of each copy."""
-        return [(self.plain(line.split()[0]), line.split()[1]) for line in self.lines("state/copied")]
+        return [(self.plain(uri), path) for uri, path in self.noted("copied")]
 
     def history(self, number: int = 1, out: str = "out") -> List[str]:
         return self.lines(f"{out}/history.{number}")[1:]

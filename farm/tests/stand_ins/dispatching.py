@@ -1,10 +1,9 @@
 """What the stand-in of `nix-dispatch` does: bundles, parks and histories, and runs of them by agents."""
 
 import os
-import re
-import signal
 import sys
 import threading
+import time
 
 from stand_in import option, say
 
@@ -22,12 +21,11 @@ class Bundle:
         number = {path: at for at, path in enumerate(self.paths)}
         self.inputs, self.outputs, self.needs, self.sources = [], [], [], []
         for _, text in lines:
-            outputs, inputs, sources, rest = re.fullmatch(r"Derive\(\[(.*?)\],\[(.*?)\],\[(.*?)\],(\".*)\)", text).groups()
-            self.outputs.append(re.findall(r'\("[^"]*","([^"]*)"', outputs))
-            self.inputs.append([number[path] for path in re.findall(r'\("([^"]*)",\[', inputs)])
-            self.sources.append(re.findall(r'"([^"]*)"', sources))
-            features = re.search(r'\("requiredSystemFeatures","([^"]*)"\)', rest)
-            self.needs.append((rest.split('"')[1], (features.group(1).split() if features else [])))
+            outputs, inputs, sources, system, _, _, env = eval(text, {"Derive": lambda *parts: parts})
+            self.outputs.append([output[1] for output in outputs])
+            self.inputs.append([number[path] for path, _ in inputs])
+            self.sources.append(sources)
+            self.needs.append((system, dict(env).get("requiredSystemFeatures", "").split()))
 
 
 class Park:
@@ -41,7 +39,7 @@ class Park:
         if told.startswith("@"):
             with open(told[1:], encoding="latin-1") as text:
                 told = text.read()
-        fields = [re.sub("#.*", "", line).split() for line in re.split("[\n;]", told)]
+        fields = [entry.split() for line in told.split("\n") for entry in line.partition("#")[0].split(";")]
         self.entries = [(line + ["-"] * 8)[:8] for line in fields if line]
 
     def machines(self):
@@ -184,7 +182,8 @@ class Run:
         self.added += 1
         if self.added == self.told.get("kills", [0])[0]:
             os.kill(os.getpid(), self.told["kills"][1])
-            signal.pause()
+            while True:
+                time.sleep(1)
         if self.added == self.told.get("faults"):
             self.write("stop")
             self.fault = True

@@ -13,12 +13,13 @@ these members:
     loses     paths that are valid no longer
 
 Of several happenings the first is the first call's, and the last one stays.
+
+A stand-in is started many times in a test, so it imports little: a JSON text without true, false and null is read as an
+expression, and what is noted is one in each line.
 """
 
 import fcntl
-import json
 import os
-import re
 import sys
 import time
 
@@ -29,16 +30,17 @@ class World:
     def __init__(self):
         file = os.environ["FARM_WORLD"]
         with open(file, encoding="ascii") as text:
-            self.__dict__.update(json.load(text))
+            self.__dict__.update(eval(text.read(), {}))
         self.state = os.path.join(os.path.dirname(file), "state")
 
     def note(self, **call):
         """A line of `calls`."""
-        self.append("calls", json.dumps({"at": time.time(), "pid": os.getpid(), **call}))
+        self.append("calls", {"at": time.time(), "pid": os.getpid(), **call})
 
-    def append(self, name, line):
+    def append(self, name, value):
+        """A line of a file: a value as an expression."""
         with open(os.path.join(self.state, name), "a", encoding="ascii") as file:
-            file.write(line + "\n")
+            file.write(ascii(value) + "\n")
 
     def is_valid(self, path):
         return os.path.exists(self._mark(path))
@@ -74,7 +76,7 @@ class World:
         with open(os.path.join(self.state, "tries"), "a+", encoding="ascii") as file:
             fcntl.flock(file, fcntl.LOCK_EX)
             file.seek(0)
-            line = json.dumps([kind, name]) + "\n"
+            line = ascii([kind, name]) + "\n"
             number = sum(one == line for one in file)
             file.write(line)
             return number
@@ -99,7 +101,7 @@ class World:
         return self.happen(self.happening("pings", uri), tell)
 
     def copy(self, uri, path):
-        self.append("copied", f"{uri} {path}")
+        self.append("copied", [uri, path])
 
     def build(self, drv, builders, settings, tell=None):
         """A build as Nix does it: here, or by its hook on the one machine of the builders list; the status."""
@@ -114,9 +116,9 @@ class World:
         name = self.drvs[drv]["name"]
         tell(f"this derivation will be built:\n  {drv}\n")
         tell(f"building '{drv}'" + ("...\n" if uri == "local" else f" on '{uri}'...\n"))
-        self.append("builds", json.dumps(["begin", os.getpid(), name, uri, {**settings, "builders": builders}]))
+        self.append("builds", ["begin", os.getpid(), name, uri, {**settings, "builders": builders}])
         status = self.happen(self.happening("builds", f"{name} on {uri}", name), tell)
-        self.append("builds", json.dumps(["end", os.getpid(), name, uri, status]))
+        self.append("builds", ["end", os.getpid(), name, uri, status])
         for path in outputs if status == 0 else []:
             self.make_valid(path)
         return status
@@ -150,7 +152,9 @@ class World:
 
 def plain_uri(uri):
     """A store's URI without its keys."""
-    return re.sub(r"[?&](ssh-key|base64-ssh-public-host-key)=[^&]*", "", uri)
+    plain, _, words = uri.partition("?")
+    left = [word for word in words.split("&") if not word.startswith(("ssh-key=", "base64-ssh-public-host-key="))]
+    return plain + ("?" + "&".join(left) if "&".join(left) else "")
 
 
 def say(words):
