@@ -51,6 +51,15 @@ class Graphs(FarmCase):
         self.ended(world.build(world.drv("first", sources=sources), jobs=0), 0)
         self.assertEqual(sorted(path for _, path in world.copied()), sorted(sources))
 
+    def test_what_is_large_is_copied_too(self) -> None:
+        world = self.world
+        sources = [world.source(name) for name in ("large", "small")]
+        world.sizes[sources[0]] = 20 << 20
+        world.machine("one", ssh=True)
+        self.ended(world.build(world.drv("root", sources=sources), jobs=0), 0)
+        self.assertEqual(sorted(path for _, path in world.copied()), sorted(sources))
+        self.assertEqual(world.report()["by_name"]["root"]["bytes"], (20 << 20) + 120)
+
     def test_a_second_machine_gets_what_it_lacks_too(self) -> None:
         world = self.world
         source = world.source("source")
@@ -372,9 +381,11 @@ class Substitutes(FarmCase):
         tool = world.drv("tool")
         root = world.drv("root", [tool])
         world.substitutes = {world.output(tool): "ok"}
-        ran = world.build("--substitute", root)
+        ran = world.build("--substitute", "--option", "require-sigs", "false", root)
         self.ended(ran, 0)
         self.says(ran, "1 paths are fetched from the substituters")
+        for call in world.calls("nix-store", "--realise"):
+            self.assertIn("--option require-sigs false", " ".join(call))
         self.assertEqual(world.built(), ["root"])
 
     def test_what_cannot_be_fetched_is_built(self) -> None:

@@ -3,10 +3,11 @@
 import json
 import os
 import signal
+import subprocess
 import unittest
 
 from tests.parallel import load_side_by_side
-from tests.world import FarmCase
+from tests.world import FARM, FarmCase
 
 load_tests = load_side_by_side
 
@@ -183,6 +184,31 @@ class Machines(FarmCase):
         world.happens("copies", one, failed, failed, {})
         self.ended(world.build(root, jobs=0), 0)
         self.assertEqual(world.builds(), [("root", "one")])
+
+    def test_a_machine_that_never_answers_is_down(self) -> None:
+        """It has three times the bound on connecting."""
+        world = self.world
+        bad = world.machine("bad", ssh=True, speed=9)
+        world.machine("good", ssh=True)
+        world.happens("pings", bad, {"seconds": 100})
+        ran = world.build("--connect-timeout", "1", world.drv("root"), jobs=0)
+        self.ended(ran, 0)
+        self.says(ran, "down: ssh://bad.*: no answer in time")
+        self.assertEqual(world.builds(), [("root", "good")])
+        self.is_over()
+
+    def test_a_process_of_nix_that_is_killed(self) -> None:
+        world = self.world
+        root = world.drv("root", sources=[world.source("source")])
+        one = world.machine("one", ssh=True)
+        world.machine("two", ssh=True)
+        world.happens("builds", "root", {"says": "a line\n", "kills": 9}, {})
+        world.happens("copies", one, {"kills": 9}, {})
+        ran = world.build(root, jobs=0)
+        self.ended(ran, 0)
+        self.says(ran, "lost: root on ssh://")
+        self.assertEqual(world.report()["rounds"], 2)
+        self.assertIn(b"a line\n", b"".join(world.bytes(f"out/{name}.0.log") for name in (1, 2)))
 
     def test_what_is_lost_is_built_in_another_round(self) -> None:
         world = self.world
@@ -368,6 +394,25 @@ class Faults(FarmCase):
         self.ended(ran, 143)
         self.assertIn("interrupted TERM", world.lines("out/report"))
 
+    def test_a_history_of_more_than_an_audit_reads(self) -> None:
+        """It isn't audited, and that is no fault of the run."""
+        world = self.world
+        lines = ("import sys", f"sys.path.insert(0, {FARM!r})", "from nix_farm.build import main",
+                 "for one in list(sys.modules.values()):", "    if hasattr(one, 'AUDIT_LIMIT'):", "        one.AUDIT_LIMIT = 30",
+                 "sys.exit(main(sys.argv[1:], ''))")
+        ran = world.call([world.at("bin/python3"), "-c", "\n".join(lines), *world.command([world.drv("root")])[1:]])
+        self.ended(ran, 0)
+        self.says(ran, "the history of round 1 has more than the 64 MiB that an audit reads, so it isn't audited")
+        self.assertEqual(world.lines("out/verdict.1"), ["not audited: the history has more than 64 MiB"])
+        self.assertEqual(world.calls("nix-dispatch", "audit"), [])
+
+    def test_a_park_of_many_slots_has_the_open_files_that_it_needs(self) -> None:
+        world = self.world
+        command = world.command([world.drv("root")], jobs=60)
+        ran = world.call(["sh", "-c", 'ulimit -S -n 64; exec "$@"', "sh", *command])
+        self.ended(ran, 0)
+        self.assertEqual(len(world.lines("out/park")), 60)
+
     def test_a_folder_that_cannot_be_made(self) -> None:
         world = self.world
         open(world.at("file"), "w", encoding="ascii").close()
@@ -404,8 +449,6 @@ class Faults(FarmCase):
         command = world.command([world.drv("root")])
         reading, writing = os.pipe()
         os.close(reading)
-        import subprocess
-
         done = subprocess.run(command, env=world.env(), stdin=subprocess.DEVNULL, stdout=writing, stderr=writing, timeout=300, check=False)
         os.close(writing)
         self.assertEqual(done.returncode, 0)

@@ -108,6 +108,39 @@ class Signals(Stopped):
             world.soon(lambda: not world.processes(), "something goes on")
         self.ended(world.build(root, jobs=1), 0)
 
+    def test_in_a_copy(self) -> None:
+        world = self.world
+        root = world.drv("root", sources=[world.source(f"source{number}") for number in range(1001)])
+        uri = world.machine("one", ssh=True)
+        world.happens("copies", uri, {"waits": world.at("gate")})
+        begun = world.begin(root, jobs=0)
+        world.soon(lambda: any(one[2:3] == ["copy"] for one in world.events()))
+        begun.send_signal(signal.SIGTERM)
+        self.ended(world.wait(begun), 143)
+        self.assertEqual(world.history(), ["chosen 0 1 0"])
+        world.soon(lambda: not world.processes(), "something goes on")
+        self.open_gate()
+        self.ended(world.build(root, jobs=0), 0)
+
+    def test_behind_the_report(self) -> None:
+        """It isn't status 0 then, though all is built."""
+        world = self.world
+        reading, writing = os.pipe()
+        fcntl.fcntl(writing, 1031, 4096)  # F_SETPIPE_SZ: so the report, which nobody reads yet, fills it
+        os.write(writing, bytes(4096))
+        begun = subprocess.Popen(world.command([world.drv("root")]), env=world.env(), stdin=subprocess.DEVNULL, stdout=writing,
+                                 stderr=subprocess.DEVNULL, start_new_session=True)
+        world.started.append(begun)
+        os.close(writing)
+        world.soon(lambda: os.path.exists(world.at("out/report.json")))
+        time.sleep(0.2)
+        begun.send_signal(signal.SIGTERM)
+        time.sleep(0.2)
+        with os.fdopen(reading, "rb") as said:
+            self.assertIn(b"built 1\n", said.read())
+        self.assertEqual(begun.wait(300), 143)
+        self.assertEqual((world.report()["status"], world.report()["counts"]["built"]), (143, 1))
+
     def test_what_the_agents_lost_by_it_is_cut_out(self) -> None:
         world = self.world
         self.interrupted_by(signal.SIGTERM)
@@ -137,12 +170,13 @@ class Killed(Stopped):
         self.went_on(self.again(), second_begun=3)
 
     def test_farm_build_alone(self) -> None:
-        """What it has started ends with it."""
+        """What it has started ends with it, and so do the connections that its slots shared."""
         world = self.world
-        begun = self.begin()
+        begun = self.begin(ssh=True)
         begun.kill()
         begun.wait()
         world.soon(lambda: not world.processes(), "something goes on")
+        self.assertTrue(world.calls("ssh", "-O", "exit"))
         self.assertFalse(os.path.lexists(os.path.join(os.readlink(world.at("out/.agents")), "pipes")))
         self.went_on(self.again())
 
@@ -352,6 +386,25 @@ class Watched(Stopped):
         self.assertRegex(shown, r"\r\x1b\[Kbuilt 0, leased 1, failed 0, waiting 1  0\.0 first")
         self.assertRegex(shown, r"\r\x1b\[Kbuilt 2, leased 0, failed 0, waiting 0")
         self.assertNotIn("1 of 2", shown)
+
+    def test_from_elsewhere(self) -> None:
+        """farm/watch tells what has ended by now and what ends, and ends with the run."""
+        world = self.world
+        begun = self.begin()
+        with open(world.at("watched"), "wb") as said:
+            watching = subprocess.Popen([os.path.join(FARM, "watch"), world.at("out")], env=world.env(), stdin=subprocess.DEVNULL, stderr=said)
+        world.started.append(watching)
+        world.soon(lambda: b"1 of 3: built first on 1." in world.bytes("watched"))
+        self.assertIsNone(watching.poll())
+        self.open_gate()
+        self.ended(world.wait(begun), 0)
+        self.assertEqual(watching.wait(300), 0)
+        self.assertIn(b"3 of 3: built root on 1.", world.bytes("watched"))
+
+    def test_what_is_no_folder_of_a_run(self) -> None:
+        ran = self.world.call([os.path.join(FARM, "watch"), self.world.at("none")])
+        self.assertNotEqual(ran.status, 0)
+        self.assertTrue(ran.err)
 
     def read_all(self, terminal: int) -> List[bytes]:
         said = []
