@@ -26,15 +26,22 @@ class Agent(FarmCase):
         source = world.source("source")
         drv = world.drv("root", sources=[source], outputs=["dev", "out"], refs={"out": [source]})
         uri = world.machine("one", ssh=True)
-        answers = self.answers(world.builders[0], "connect", f"copy {source}", f"build {drv} {world.output(drv, 'dev')} {world.output(drv)}")
+        answers = self.answers(
+            world.builders[0], "connect", f"copy {source}",
+            f"build {drv} {world.output(drv, 'dev')} {world.output(drv)}",
+        )
         self.assertEqual(answers, ["yes", "yes", f"built o o {source}"])
-        self.assertEqual((world.pings(), world.copied(), world.builds()), (["one"], [("one", source)], [("root", "one")]))
+        self.assertEqual(
+            (world.pings(), world.copied(), world.builds()), (["one"], [("one", source)], [("root", "one")])
+        )
         self.assertEqual(world.settings_of("root")["builders"], f"{uri} x86_64-linux - 1 1 - - -")
 
     def test_a_build_here(self) -> None:
         world = self.world
         drv = world.drv("root")
-        self.assertEqual(self.answers("local", "connect", "copy", f"build {drv} {world.output(drv)}"), ["yes", "yes", "built o"])
+        self.assertEqual(
+            self.answers("local", "connect", "copy", f"build {drv} {world.output(drv)}"), ["yes", "yes", "built o"]
+        )
         self.assertEqual(world.builds(), [("root", "local")])
 
     def test_keys(self) -> None:
@@ -52,10 +59,21 @@ class Agent(FarmCase):
         words = f"builder for '{here}' failed with exit code 3\n"
         world.happens("builds", "here", {"says": "error: " + words, "status": 100})
         words = f"error: build of '{there}' on '{uri}' failed: builder for '{there}' failed with exit code 4;\n"
-        world.happens("builds", "there", {"says": words + f"error: builder for '{there}' failed with exit code 1\n", "status": 1})
-        world.happens("builds", "lost", {"says": f"error: unexpected end-of-file\nerror: builder for '{lost}' failed with exit code 1\n", "status": 1})
+        world.happens(
+            "builds", "there", {"says": words + f"error: builder for '{there}' failed with exit code 1\n", "status": 1}
+        )
+        world.happens(
+            "builds", "lost",
+            {
+                "says": f"error: unexpected end-of-file\nerror: builder for '{lost}' failed with exit code 1\n",
+                "status": 1,
+            },
+        )
         source = world.source("source")
-        answers = self.answers(world.builders[0], "connect", f"copy {source}", f"build {there} {world.output(there)}", f"build {lost} {world.output(lost)}")
+        answers = self.answers(
+            world.builders[0], "connect", f"copy {source}", f"build {there} {world.output(there)}",
+            f"build {lost} {world.output(lost)}",
+        )
         self.assertEqual(answers, ["no", "no", "failed 4", "lost"])
         self.assertEqual(self.answers("local", f"build {here} {world.output(here)}"), ["failed 3"])
 

@@ -77,7 +77,10 @@ class MadeUp(unittest.TestCase):
     """Messages with what has gone wrong once, or might."""
 
     def test_a_builder_that_plays_the_hook_is_not_believed(self) -> None:
-        fault = there(hook(builder(b"failed with exit code 9")), b"more of the log", hook(builder(b"failed with exit code 3")), END)
+        fault = there(
+            hook(builder(b"failed with exit code 9")), b"more of the log", hook(builder(b"failed with exit code 3")),
+            END,
+        )
         self.assertEqual(fault[:2], ("failed 3", "builder"))
 
     def test_a_builder_that_plays_this_nix_is_not_believed(self) -> None:
@@ -110,8 +113,11 @@ class MadeUp(unittest.TestCase):
         self.assertEqual(fault[:2], ("failed 104", "builder"))
 
     def test_what_nix_refuses(self) -> None:
-        for words in (b"output '/nix/store/x' is not allowed to have direct references", b"output size check for 'out' contains too much",
-                      b"derivation contains an illegal reference specifier 'x'", b"suspicious ownership or permission on '/nix/store/x'"):
+        for words in (
+            b"output '/nix/store/x' is not allowed to have direct references",
+            b"output size check for 'out' contains too much", b"derivation contains an illegal reference specifier 'x'",
+            b"suspicious ownership or permission on '/nix/store/x'",
+        ):
             self.assertEqual(here(b"error: " + words)[:2], ("failed 100", "builder"), words)
 
     def test_a_full_disk_there_is_the_machine_s(self) -> None:
@@ -126,7 +132,10 @@ class MadeUp(unittest.TestCase):
         self.assertEqual(here(END, note)[:2], ("lost", "here"))
 
     def test_a_builder_that_tells_of_a_full_disk_has_failed(self) -> None:
-        self.assertEqual(here(b"sh: write error: No space left on device", b"error: " + builder(b"failed with exit code 2")).answer, "failed 2")
+        self.assertEqual(
+            here(b"sh: write error: No space left on device", b"error: " + builder(b"failed with exit code 2")).answer,
+            "failed 2",
+        )
 
     def test_no_space_in_a_copy(self) -> None:
         lines = b"copying path '/nix/store/x' to 'ssh://one'...\nerror: writing to file: No space left on device\n"
@@ -150,11 +159,15 @@ class MadeUp(unittest.TestCase):
         self.assertEqual(here(b"error: something new"), ("lost", "here", "something new"))
 
     def test_the_first_message_is_the_cause(self) -> None:
-        fault = fault_of(b"error: cannot connect to 'one'\nerror: the cause\nerror: what came of it\n", "copy", 1, "there")
+        fault = fault_of(
+            b"error: cannot connect to 'one'\nerror: the cause\nerror: what came of it\n", "copy", 1, "there"
+        )
         self.assertEqual(fault.cause, "the cause")
 
     def test_what_only_says_that_there_was_one(self) -> None:
-        self.assertEqual(fault_of(b"error: cannot connect to 'one'\n", "connect", 1, "there").cause, "cannot connect to 'one'")
+        self.assertEqual(
+            fault_of(b"error: cannot connect to 'one'\n", "connect", 1, "there").cause, "cannot connect to 'one'"
+        )
 
     def test_another_try_is_for_connections_alone(self) -> None:
         words = b"ssh: connect to host one port 22: Connection refused\r\n"
@@ -163,17 +176,25 @@ class MadeUp(unittest.TestCase):
         self.assertEqual(there(words.strip()).answer, "lost")
 
     def test_each_way_that_ssh_may_be_tried_again(self) -> None:
-        for words in (b"kex_exchange_identification: read", b"Connection reset by peer", b"Connection closed by one", b"mux_client: Session open refused by peer"):
+        for words in (
+            b"kex_exchange_identification: read", b"Connection reset by peer", b"Connection closed by one",
+            b"mux_client: Session open refused by peer",
+        ):
             self.assertEqual(fault_of(words, "connect", 255, "there")[:2], ("again", "machine"), words)
 
     def test_each_way_that_it_may_not(self) -> None:
-        for words in (b"Connection timed out", b"Timeout, server one not responding.", b"one: Permission denied (publickey).", b"No route to host",
-                      b"Host key verification failed.", b"Could not resolve hostname one", b"sh: nix-store: command not found"):
+        for words in (
+            b"Connection timed out", b"Timeout, server one not responding.", b"one: Permission denied (publickey).",
+            b"No route to host", b"Host key verification failed.", b"Could not resolve hostname one",
+            b"sh: nix-store: command not found",
+        ):
             self.assertEqual(fault_of(words, "connect", 255, "there")[:2], ("no", "machine"), words)
 
     def test_this_store_is_to_blame(self) -> None:
-        for words in (b"error: path '/nix/store/x' is not valid", b"error: path '/nix/store/x' does not exist in the store",
-                      b"error: cannot open connection to remote store 'daemon'", b"error: interrupted by the user"):
+        for words in (
+            b"error: path '/nix/store/x' is not valid", b"error: path '/nix/store/x' does not exist in the store",
+            b"error: cannot open connection to remote store 'daemon'", b"error: interrupted by the user",
+        ):
             self.assertEqual(fault_of(words, "copy", 1, "there")[:2], ("no", "here"), words)
 
     def test_a_cause_is_one_line_of_ascii(self) -> None:
@@ -187,7 +208,12 @@ class MadeUp(unittest.TestCase):
 
     def test_a_long_log_takes_no_long_time(self) -> None:
         log = b"a line of a log that has many of them\n" * 200_000
-        self.assertEqual(fault_of(log + hook(builder(b"failed with exit code 3")) + b"\n" + END + b"\n", "build", 1, "there", DRV).answer, "failed 3")
+        self.assertEqual(
+            fault_of(
+                log + hook(builder(b"failed with exit code 3")) + b"\n" + END + b"\n", "build", 1, "there", DRV
+            ).answer,
+            "failed 3",
+        )
 
 
 if __name__ == "__main__":

@@ -1,4 +1,4 @@
-"""How the farm's modules are laid out: short files and functions, each with what it is for, in the words of Python 3.9."""
+"""How the farm's modules are laid out: short files and functions that say what they are for, in words of Python 3.9."""
 
 import ast
 import glob
@@ -50,7 +50,9 @@ class Layout(unittest.TestCase):
             for place, node in functions(file):
                 self.assertIsNotNone(node.returns, place)
                 given = [*node.args.posonlyargs, *node.args.args, *node.args.kwonlyargs]
-                self.assertFalse([one.arg for one in given if one.annotation is None and one.arg not in ("self", "cls")], place)
+                self.assertFalse(
+                    [one.arg for one in given if one.annotation is None and one.arg not in ("self", "cls")], place
+                )
 
     def test_nothing_is_global_but_constants(self) -> None:
         for file in MODULES:

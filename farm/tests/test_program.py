@@ -1,4 +1,4 @@
-"""Runs with the real `nix-dispatch`, where it was built: what the stand-in of it doesn't do, and a bit of what it does."""
+"""Runs with the real `nix-dispatch`, where it was built: what its stand-in doesn't do, and a bit of what it does."""
 
 import os
 import shutil

@@ -58,7 +58,10 @@ class World:
         for place in ("local/nix/store", "state/valid", "bin", "tmp"):
             os.makedirs(self.at(place))
         self.script("bin/python3", f'exec "{sys.executable}" -S "$@"')
-        self.settings = {"system": "x86_64-linux", "extra-platforms": "", "system-features": "", "max-jobs": "1", "builders": "", "substitute": "false"}
+        self.settings = {
+            "system": "x86_64-linux", "extra-platforms": "", "system-features": "", "max-jobs": "1", "builders": "",
+            "substitute": "false",
+        }
         self.drvs: Dict[str, Dict[str, Any]] = {}
         self.paths: Dict[str, List[str]] = {}
         self.sizes: Dict[str, int] = {}
@@ -88,12 +91,13 @@ class World:
 
     def drv(self, name: str, inputs: Sequence[str] = (), sources: Sequence[str] = (), outputs: Sequence[str] = ("out",),
             system: str = "x86_64-linux", features: str = "", refs: Optional[Dict[str, List[str]]] = None) -> str:
-        """A derivation that needs all outputs of these inputs. `refs` are the references of its outputs, by their names."""
+        """A derivation that needs all outputs of these inputs. `refs` are the references of its own ones."""
         made = {one: store_path(name if one == "out" else f"{name}-{one}") for one in sorted(outputs)}
         tell = "".join(f'("{one}",[{quoted(sorted(self.drvs[one]["outputs"]))}]),' for one in sorted(inputs))
         named = ",".join(f'("{one}","{path}","","")' for one, path in made.items())
         wants = f',("requiredSystemFeatures","{features}")' if features else ""
-        text = f'Derive([{named}],[{tell[:-1]}],[{quoted(sorted(sources))}],"{system}","/bin/sh",[],[("name","{name}"){wants}])'
+        env = f'("name","{name}"){wants}'
+        text = f'Derive([{named}],[{tell[:-1]}],[{quoted(sorted(sources))}],"{system}","/bin/sh",[],[{env}])'
         path = store_path(f"{name}.drv")
         self.drvs[path] = {"name": name, "outputs": made}
         self.paths[path] = [*sources, *inputs]
@@ -134,7 +138,11 @@ class World:
     def save(self) -> None:
         with open(self.at("builders"), "w", encoding="latin-1") as file:
             file.write("".join(line + "\n" for line in self.builders))
-        told = {name: getattr(self, name) for name in ("root", "settings", "drvs", "paths", "sizes", "substitutes", "dispatch")}
+        told = {
+            name: getattr(self, name) for name in (
+                "root", "settings", "drvs", "paths", "sizes", "substitutes", "dispatch"
+            )
+        }
         with open(self.at("world.json"), "w", encoding="ascii") as file:
             json.dump({**told, **self.happenings}, file)
 
@@ -158,15 +166,20 @@ class World:
 
     def call(self, command: Sequence[Any], **more: Any) -> Ran:
         self.save()
-        done = subprocess.run(command, env=self.env(), stdin=subprocess.DEVNULL, stdout=subprocess.PIPE, stderr=subprocess.PIPE,
-                              timeout=PATIENCE, cwd=self.folder, start_new_session=True, check=False, **more)
+        done = subprocess.run(
+            command, env=self.env(), stdin=subprocess.DEVNULL, stdout=subprocess.PIPE, stderr=subprocess.PIPE,
+            timeout=PATIENCE, cwd=self.folder, start_new_session=True, check=False, **more,
+        )
         return Ran(done.returncode, done.stdout, done.stderr)
 
     def begin(self, *words: Any, **given: Any) -> subprocess.Popen:
         """The same in the background, as the leader of a process group; its words go to files of the folder."""
         command = self.command(words, **given)
         with open(self.at("begun.out"), "wb") as out, open(self.at("begun.err"), "wb") as err:
-            one = subprocess.Popen(command, env=self.env(), stdin=subprocess.DEVNULL, stdout=out, stderr=err, cwd=self.folder, start_new_session=True)
+            one = subprocess.Popen(
+                command, env=self.env(), stdin=subprocess.DEVNULL, stdout=out, stderr=err, cwd=self.folder,
+                start_new_session=True,
+            )
         self.started.append(one)
         return one
 

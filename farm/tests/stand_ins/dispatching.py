@@ -112,7 +112,9 @@ def report_of(bundle, park, entries):
     standing = Standing(bundle)
     for entry in entries:
         standing.take(entry)
-    counts = [f"{kind} {standing.status.count(kind)}\n" for kind in ("waiting", "leased", "built", "failed", "cancelled")]
+    counts = [
+        f"{kind} {standing.status.count(kind)}\n" for kind in ("waiting", "leased", "built", "failed", "cancelled")
+    ]
     machines = [f"machine {at} up 0/{jobs} {uri}\n" for at, (uri, jobs, _, _) in enumerate(park.machines())]
     drvs = [f"drv {at} {status} {bundle.paths[at]}\n" for at, status in enumerate(standing.status)]
     return "".join([f"total {len(bundle.paths)}\n", *counts, *machines, *drvs])

@@ -1,9 +1,9 @@
 """What the stand-ins of Nix's commands share: the world that they act in, which is a JSON text and a folder.
 
-`FARM_WORLD` names the text, which `farm/tests/world.py` writes; the folder `state` beside it has what has come about: a file in
-`valid` for each valid path, and lines in `calls` for each call of a stand-in, in `pings`, `copied` and `builds` for what
-was done, and in `tries`, by which the next one knows which of the happenings it is. A happening is an object with some of
-these members:
+`FARM_WORLD` names the text, which `farm/tests/world.py` writes; the folder `state` beside it has what has come about: a
+file in `valid` for each valid path, and lines in `calls` for each call of a stand-in, in `pings`, `copied` and `builds`
+for what was done, and in `tries`, by which the next one knows which of the happenings it is. A happening is an object
+with some of these members:
 
     says      what is said, a character for each byte
     status    the status at the end, 0 where it isn't there
@@ -174,7 +174,10 @@ def option(words, name, default=None):
 
 
 # Options of Nix that have a word of their own behind them, or two.
-_WITH_ONE = {"--max-jobs", "--builders", "--store", "--from", "--to", "--timeout", "--max-silent-time", "--cores", "--add-root", "--expr", "--extra-experimental-features"}
+_WITH_ONE = {
+    "--max-jobs", "--builders", "--store", "--from", "--to", "--timeout", "--max-silent-time", "--cores", "--add-root",
+    "--expr", "--extra-experimental-features",
+}
 _WITH_TWO = {"--option"}
 
 
