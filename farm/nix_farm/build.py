@@ -5,42 +5,53 @@ import os
 import signal
 import sys
 import tempfile
-from typing import List, Sequence
+import traceback
+from typing import Sequence, Tuple
 
 from . import guard
 from .errors import GivenUp, Interrupted, Usage
-from .folder import remove_shared, say
+from .folder import remove_shared, say, write_error
 from .options import Options, parse
 from .process import Processes, watch_children_by_descriptor
 from .program import find_program
 from .run import Run
 
+_SIGNALS = ("HUP", "INT", "TERM")
 _USAGE = "usage: build [-o FOLDER] [--builders @FILE] [OPTION ..] ROOT.drv .."
 
 
-async def _go(run: Run) -> int:
-    """The status of a run. Each end of it has said why."""
-    watch_children_by_descriptor()
+def _hear_signals(run: Run) -> None:
     loop = asyncio.get_running_loop()
-    for name in ("HUP", "INT", "TERM"):
+    for name in _SIGNALS:
         number = getattr(signal, f"SIG{name}")
         # what nohup has this process ignore stays so
         if name != "HUP" or signal.getsignal(number) is not signal.SIG_IGN:
             loop.add_signal_handler(number, run.interrupt, name)
+
+
+async def _go(options: Options, program: str, ends: guard.Guard, shared: str) -> Tuple[int, bool]:
+    """The status of a run, and whether the folder of its agents stays. Each end of it has said why."""
+    watch_children_by_descriptor()
+    run = Run(options, program, Processes(ends, shared), shared)
+    _hear_signals(run)
     try:
-        return await run.go()
+        status = await run.go()
     except Interrupted:
-        return run.signal_status(5)
+        status = run.signal_status(5)
     except GivenUp as end:
-        if run.interrupted:
-            return run.signal_status(end.status)
-        say(str(end))
-        return end.status
+        status = run.signal_status(end.status)
+        if not run.interrupted:
+            say(str(end))
     except OSError as error:
         say(f"{error}, as where a disk is full")
-        return 5
+        status = 5
+    except Exception:
+        write_error(traceback.format_exc())
+        say("this is a fault of the farm itself")
+        status = 5
     finally:
         await run.close()
+    return status, run.is_stranded
 
 
 def _run(options: Options, program: str) -> int:
@@ -55,13 +66,16 @@ def _run(options: Options, program: str) -> int:
     except OSError as error:
         remove_shared(shared)
         raise GivenUp(5, f"the guard can't be started: {error.strerror}") from error
-    run = Run(options, program, Processes(ends, shared), shared)
+    is_left = False
     try:
-        return asyncio.run(_go(run))
+        status, is_left = asyncio.run(_go(options, program, ends, shared))
+        return status
     finally:
+        for name in _SIGNALS:
+            signal.signal(getattr(signal, f"SIG{name}"), signal.SIG_IGN)
         guard.end_connections(shared, "exit")
         ends.stop()
-        if not run.is_stranded:
+        if not is_left:
             remove_shared(shared)
 
 
@@ -83,5 +97,3 @@ def main(words: Sequence[str], page: str) -> int:
     except KeyboardInterrupt:
         return 130
 
-
-__all__: List[str] = ["main"]

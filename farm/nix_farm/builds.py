@@ -66,8 +66,6 @@ class Builds:
                 _hand_on(said, log)
                 ended(status)
                 return None
-            if not self._daemon.is_open:
-                said.write(self._daemon.said())
             _hand_on(said, log)
             ended(status)
             self._keep(drv.path, said)

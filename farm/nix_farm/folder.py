@@ -208,9 +208,9 @@ class Folder:
             finally:
                 os.close(file)
 
-    def leave(self, is_unfinished: bool) -> None:
-        """Takes away what only a run that goes on needs."""
-        if not is_unfinished:
+    def leave(self, has_ended: bool) -> None:
+        """Takes away what only this process needs, and what only a run needs that goes on."""
+        if has_ended:
             _remove(self.at("gcroots"))
         if self._is_linked:
             _remove(self.at(".agents"))

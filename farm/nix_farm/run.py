@@ -54,6 +54,7 @@ class Run:
         self._status = 0
         self._verdict = 0
         self._is_unfinished = False
+        self._is_rooted = False
         self._has_ended = True
         self._folder: Optional[Folder] = None
         self._events: Optional[Events] = None
@@ -188,7 +189,8 @@ class Run:
         while self._number < len(self._rounds) and self._rounds[self._number].bundle:
             one = self._rounds[self._number]
             self._number += 1
-            self._is_unfinished, self._has_ended = True, False
+            self._is_unfinished = self._is_rooted = True
+            self._has_ended = False
             await self._keep_round(one)
             if self.interrupted:
                 return
@@ -359,4 +361,4 @@ class Run:
         if self._events is not None:
             self._events.close()
         if self._folder is not None:
-            self._folder.leave(self._is_unfinished)
+            self._folder.leave(self._is_rooted and not self._is_unfinished)

@@ -8,9 +8,9 @@
 """
 
 import asyncio
-from typing import Mapping, Optional, Sequence
+from typing import Awaitable, Mapping, Optional, Sequence
 
-from .blame import Fault
+from .blame import Fault, printable
 from .builds import Builds
 from .copies import Copies
 from .daemon import Failed
@@ -59,15 +59,25 @@ class Slot:
         """Answers calls until it is called off."""
         while True:
             call = (await self._next(pipes)).split()
-            if call[:1] == ["connect"]:
-                answer = self._yes_or_no(await self._connections.connect(self.place.slot, self._log))
-            elif call[:1] == ["copy"]:
-                answer = self._yes_or_no(await self._copy(call[1:]))
-            elif call[:1] == ["build"]:
-                answer = await self._build(call[1:])
-            else:
-                raise ValueError(f"the call {' '.join(call)[:100]!r}")
-            await pipes.write_line(answer)
+            await pipes.write_line(await self._answer(call[0] if call else "", call[1:]))
+
+    async def _answer(self, call: str, words: Sequence[str]) -> str:
+        """The answer to a call. ValueError where it is none."""
+        if call == "connect":
+            return self._yes_or_no(await self._or_fault(self._connections.connect(self.place.slot, self._log)))
+        if call == "copy":
+            return self._yes_or_no(await self._or_fault(self._copy(words)))
+        if call == "build":
+            return await self._build(words)
+        raise ValueError(f"the call {call[:100]!r}")
+
+    @staticmethod
+    async def _or_fault(doing: Awaitable[Optional[Fault]]) -> Optional[Fault]:
+        """What is done, or that this machine is to blame where it can't be, as where its disk is full."""
+        try:
+            return await doing
+        except OSError as error:
+            return Fault("no", "here", printable(str(error).encode(errors="replace")))
 
     async def _next(self, pipes: Pipes) -> str:
         """The next call. Where there is none for a while the process of the slot ends."""
@@ -107,8 +117,10 @@ class Slot:
         try:
             return await self._built(drv, outputs)
         except Failed as failed:
-            cause = failed.said.decode("ascii", errors="replace").strip().split("\n")[-1]
+            cause = printable(failed.said.strip().split(b"\n")[-1])
             return self._lose(drv, Fault("lost", "here", cause or "this store can't be asked"))
+        except OSError as error:
+            return self._lose(drv, Fault("lost", "here", printable(str(error).encode(errors="replace"))))
 
     async def _built(self, drv: str, outputs: Sequence[str]) -> str:
         """The answer to a build: what is valid already isn't built, but copied to the machine."""
