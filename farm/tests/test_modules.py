@@ -40,7 +40,8 @@ class Derivations(unittest.TestCase):
     def test_the_parts_of_a_text(self) -> None:
         text = (
             'Derive([("dev","/nix/store/a-dev","",""),("out","/nix/store/a","r:sha256","00")],'
-            '[("/nix/store/b.drv",["dev","out"]),("/nix/store/c.drv",["out"])],["/nix/store/d","/nix/store/e"],"i686-linux","/bin/sh",["],["],[("x","],[\\"")])'
+            '[("/nix/store/b.drv",["dev","out"]),("/nix/store/c.drv",["out"])],["/nix/store/d","/nix/store/e"],'
+            '"i686-linux","/bin/sh",["],["],[("x","],[\\"")])'
         )
         one = read_line("/nix/store/a.drv " + text)
         self.assertEqual(one.outputs, [("dev", "/nix/store/a-dev"), ("out", "/nix/store/a")])
