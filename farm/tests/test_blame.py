@@ -1,4 +1,8 @@
-"""What blame.py says of each message that Nix 2.8 gave, and of messages that were made up."""
+"""What blame.py says of each message that Nix 2.8 gave, and of messages that were made up.
+
+Where `BLAME_MESSAGES` names a folder that checks/blame/capture.sh has filled, those messages are looked at in place of the
+kept ones, with the statuses that Nix ended with.
+"""
 
 import os
 import re
@@ -7,19 +11,25 @@ from typing import List, Tuple
 
 from nix_farm.blame import Fault, fault_of
 
-MESSAGES = os.path.join(os.path.dirname(__file__), "..", "..", "checks", "blame")
+KEPT = os.path.join(os.path.dirname(__file__), "..", "..", "checks", "blame")
+CAPTURED = os.environ.get("BLAME_MESSAGES")
+MESSAGES = CAPTURED or os.path.join(KEPT, "messages")
 DRV = "/nix/store/0c9kxh7bfgvj3z6gslmk4b0a1ynw2ppd-thing.drv"
 
 
 def table() -> List[Tuple[str, int, str, str]]:
     """The rows of checks/blame/table: a message, Nix's status, the answer, and who is to blame."""
-    with open(os.path.join(MESSAGES, "table"), encoding="ascii") as text:
+    with open(os.path.join(KEPT, "table"), encoding="ascii") as text:
         rows = [line.split() for line in text]
-    return [(row[0], int(row[1]), " ".join(row[2:-1]), row[-1]) for row in rows]
+    statuses = {row[0]: row[1] for row in rows}
+    if CAPTURED:
+        with open(os.path.join(CAPTURED, "statuses"), encoding="ascii") as text:
+            statuses.update(line.split() for line in text)
+    return [(row[0], int(statuses[row[0]]), " ".join(row[2:-1]), row[-1]) for row in rows]
 
 
 def read(name: str) -> bytes:
-    with open(os.path.join(MESSAGES, "messages", name), "rb") as text:
+    with open(os.path.join(MESSAGES, name), "rb") as text:
         return text.read()
 
 
@@ -36,7 +46,7 @@ class Kept(unittest.TestCase):
     """A test for each of the messages in checks/blame/messages."""
 
     def test_there_are_rows_for_all(self) -> None:
-        self.assertEqual(sorted(row[0] for row in table()), sorted(os.listdir(os.path.join(MESSAGES, "messages"))))
+        self.assertEqual(sorted(row[0] for row in table()), sorted(set(os.listdir(MESSAGES)) - {"statuses"}))
 
 
 def _test_of(name: str, status: int, answer: str, who: str):
