@@ -1,7 +1,7 @@
 """What blame.py says of each message that Nix 2.8 gave, and of messages that were made up.
 
-Where `BLAME_MESSAGES` names a folder that checks/blame/capture.sh has filled, those messages are looked at in place of the
-kept ones, with the statuses that Nix ended with.
+Where `BLAME_MESSAGES` names a folder that checks/blame/capture.sh has filled, those messages are looked at in place of
+the kept ones, with the statuses that Nix ended with.
 """
 
 import os
