@@ -1,7 +1,8 @@
 //! A run by workers of any kind.
 
-ghost use Rattle.std.specs.Prelude.{map};
+ghost use Rattle.std.specs.Prelude.{◌≡◌, map, IfErr, IfOk};
 ghost use Rattle.nd_workers.specs.Runs.{AreManned};
+ghost use Rattle.nix_dispatch.specs.Statuses.{fault_in};
 
 use crate::endings::{Ending, common};
 use crate::journal_files::Kept;
@@ -59,7 +60,10 @@ pub(crate) fn run_workers<'a, T: Transport, R: Print + AllocGlobal + Threads + W
 fn ended<'a, W: Write + Drop>(
     answer: Result<u8, CliFault>,
     output: Heard<W>,
-) -> Result<u8, Failure<'a>> {
+) -> Result<u8, Failure<'a>>
+    ensures status { IfOk result (λ status. answer ≡ Ok status) }
+    ensures fault { IfErr result (λ failure. answer ≡ Err failure.fault) }
+{
     match answer {
         Ok(status) => {
             drop(output);
@@ -81,7 +85,10 @@ fn ended<'a, W: Write + Drop>(
 fn kept_ended<'a, W: Write + Drop>(
     end: KeptEnd<Kept<'a, File>>,
     output: Heard<W>,
-) -> Result<u8, Ending<'a>> {
+) -> Result<u8, Ending<'a>>
+    ensures status { IfOk result (λ status. end.answer ≡ Ok status) }
+    ensures fault { IfErr result (λ ending. end.answer ≡ Err (fault_in ending)) }
+{
     let KeptEnd { answer, journal } = end;
     match answer {
         Ok(status) => {
@@ -94,9 +101,8 @@ fn kept_ended<'a, W: Write + Drop>(
             common(ended(Err(fault), output))
         }
         Err(fault) => {
-            drop(fault);
             drop(output);
-            Err(Ending::Journal(journal.into_failure()))
+            Err(Ending::Journal(journal.into_failure(fault)))
         }
     }
 }

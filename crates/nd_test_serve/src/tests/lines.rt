@@ -75,12 +75,7 @@ fn ends_within<R: Threads + Sync>(
 }
 
 /// Whether the session with the whole lines of these bytes alone leaves the same journal.
-fn is_journal_of_lines<R: Threads + Sync>(
-    rt: &R,
-    alloc: Global,
-    cut: &[u8],
-    held: &Held,
-) -> bool {
+fn is_journal_of_lines<R: Threads + Sync>(rt: &R, alloc: Global, cut: &[u8], held: &Held) -> bool {
     let lines = first_lines(cut, newline_count(cut));
     match hold(rt, alloc, TWO_SLOTS, b"", Grants::ALL, lines) {
         Some(other) => other.journal.bytes.as_slice() == held.journal.bytes.as_slice(),
