@@ -3,11 +3,17 @@
 use Rattle.std.specs.Prelude.{ℕ, Option, None, Some, Result, Ok, Err, codes, List}
 use Rattle.clap.specs.Matches.{found_of, first_value}
 use Rattle.clap.specs.declared.parser.matches.ArgMatches.{ArgMatches}
+use Rattle.nd_explain.specs.declared.failures.Failure.{Failure}
 use Rattle.nd_serve_command.specs.Faults.{fault_status}
 use Rattle.nd_serve_command.specs.declared.fault.ServeFault.{ServeFault}
 use Rattle.nd_serve_command.specs.declared.fault.ServeFault.TheVariants.{Cli}
 use Rattle.nix_dispatch.specs.declared.endings.Ending.{Ending}
 use Rattle.nix_dispatch.specs.declared.endings.Ending.TheVariants.{Common, Journal}
+
+-- the answer of a command that has no journal
+abbrev pub as_ending : Result ℕ Failure → Result ℕ Ending
+as_ending (Ok status) = Ok status
+as_ending (Err failure) = Err (Common failure)
 
 -- the fault that a command ended with
 abbrev pub fault_in : Ending → ServeFault

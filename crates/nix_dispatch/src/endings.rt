@@ -1,9 +1,9 @@
 //! How a command ends that gives no status, and what is said of it.
 
-ghost use Rattle.std.specs.Prelude.{◌≡◌, IfErr, IfOk};
+ghost use Rattle.std.specs.Prelude.{◌≡◌};
 ghost use Rattle.nd_cli.specs.Statuses.{exit_status};
 ghost use Rattle.nd_serve_command.specs.Faults.{fault_status};
-ghost use Rattle.nix_dispatch.specs.Statuses.{exit_of, fault_in};
+ghost use Rattle.nix_dispatch.specs.Statuses.{as_ending, exit_of, fault_in};
 
 use crate::commands::{not_understood, say, told};
 use nd_explain::Failure;
@@ -20,9 +20,7 @@ pub(crate) enum Ending<'a> {
 
 /// The answer of a command that has no journal.
 pub(crate) fn common<'a>(answer: Result<u8, Failure<'a>>) -> Result<u8, Ending<'a>>
-    ensures status { IfOk result (λ status. answer ≡ Ok status) }
-    ensures fault { IfErr result (λ ending. IfErr answer (λ failure. ending ≡ Ending.Common failure)) }
-    ensures none { OnErr result (OnErr answer) }
+    ensures { result ≡ as_ending answer }
 {
     match answer {
         Ok(status) => Ok(status),

@@ -69,15 +69,7 @@ fn ended<'a, W: Write + Drop>(
             drop(output);
             Ok(status)
         }
-        Err(CliFault::Write) => {
-            let failure = write_failure(&output);
-            drop(output);
-            Err(failure)
-        }
-        Err(fault) => {
-            drop(output);
-            Err(Failure::of(fault))
-        }
+        Err(fault) => Err(failed(fault, output)),
     }
 }
 
@@ -98,11 +90,28 @@ fn kept_ended<'a, W: Write + Drop>(
         }
         Err(ServeFault::Cli(fault)) => {
             drop(journal);
-            common(ended(Err(fault), output))
+            Err(Ending::Common(failed(fault, output)))
         }
         Err(fault) => {
             drop(output);
             Err(Ending::Journal(journal.into_failure(fault)))
+        }
+    }
+}
+
+/// What is known of a fault that a run ended with over this output.
+fn failed<'a, W: Write + Drop>(fault: CliFault, output: Heard<W>) -> Failure<'a>
+    ensures { result.fault ≡ fault }
+{
+    match fault {
+        CliFault::Write => {
+            let failure = write_failure(&output);
+            drop(output);
+            failure
+        }
+        fault => {
+            drop(output);
+            Failure::of(fault)
         }
     }
 }
