@@ -35,41 +35,32 @@ front_plain (b ∷ text) = by (b == 10) refl (front_plain text)
     by true e later = rw e (All-nil (λ c. c ≢ 10))
     by false e later = rw e (All-cons (λ c. c ≢ 10) b (front text) (eqb-false b 10 e) later)
 
+-- what isn't a newline is passed
+passed : (b : ℕ) (text : List ℕ) → (b == 10) ≡ false → behind (λ c. c == 10) (take_through 10 (b ∷ text)) ≡ behind (λ c. c == 10) (take_through 10 text)
+passed b text is = rw (is, is) refl
+
+-- .. and what is one is found
+found : (b : ℕ) (text : List ℕ) → (b == 10) ≡ true → behind (λ c. c == 10) (take_through 10 (b ∷ text)) ≡ Some []
+found b text is = rw (is, is) refl
+
 -- a text with a newline is what stands before it, the newline, and what stands behind it
 split_there : (text more : List ℕ) → behind (λ b. b == 10) (take_through 10 text) ≡ Some more → text ≡ front text ++ 10 ∷ drop_through 10 text
-split_there [] more found = cc
-split_there (b ∷ text) more found = by (b == 10) refl found (split_there text more)
+split_there [] more newline = cc
+split_there (b ∷ text) more newline = by (b == 10) refl (split_there text more)
   where
-    by : (t : Bool) → (b == 10) ≡ t → behind (λ c. c == 10) (take_through 10 (b ∷ text)) ≡ Some more
-        → (behind (λ c. c == 10) (take_through 10 text) ≡ Some more → text ≡ front text ++ 10 ∷ drop_through 10 text)
+    by : (t : Bool) → (b == 10) ≡ t → (behind (λ c. c == 10) (take_through 10 text) ≡ Some more → text ≡ front text ++ 10 ∷ drop_through 10 text)
         → b ∷ text ≡ front (b ∷ text) ++ 10 ∷ drop_through 10 (b ∷ text)
-    by true e here later = rw (e, e) (ap (λ (c : ℕ). c ∷ text) (eqb-true b 10 e))
-    by false e here later =
-        let deeper : behind (λ c. c == 10) (take_through 10 text) ≡ Some more = there b text e here in
-        rw (e, e) (ap (λ (l : List ℕ). b ∷ l) (later deeper))
-      where
-        there : (c : ℕ) (rest : List ℕ) → (c == 10) ≡ false → behind (λ d. d == 10) (take_through 10 (c ∷ rest)) ≡ Some more → behind (λ d. d == 10) (take_through 10 rest) ≡ Some more
-        there c rest is here = sym (passed c rest is) ∙ here
-
-        passed : (c : ℕ) (rest : List ℕ) → (c == 10) ≡ false → behind (λ d. d == 10) (take_through 10 (c ∷ rest)) ≡ behind (λ d. d == 10) (take_through 10 rest)
-        passed c rest is = rw (is, is) refl
+    by true e later = rw (e, e) (ap (λ (c : ℕ). c ∷ text) (eqb-true b 10 e))
+    by false e later = rw (e, e) (ap (λ (l : List ℕ). b ∷ l) (later (sym (passed b text e) ∙ newline)))
 
 -- .. and one without any is plain
 plain_there : (text : List ℕ) → behind (λ b. b == 10) (take_through 10 text) ≡ None → IsPlain text
 plain_there [] none = All-nil (λ b. b ≢ 10)
-plain_there (b ∷ text) none = by (b == 10) refl none (plain_there text)
+plain_there (b ∷ text) none = by (b == 10) refl (plain_there text)
   where
-    by : (t : Bool) → (b == 10) ≡ t → behind (λ c. c == 10) (take_through 10 (b ∷ text)) ≡ None → (behind (λ c. c == 10) (take_through 10 text) ≡ None → IsPlain text) → IsPlain (b ∷ text)
-    by true e here later = absurd (found e here)
-      where
-        found : (b == 10) ≡ true → behind (λ c. c == 10) (take_through 10 (b ∷ text)) ≡ None → ⊥
-        found is none = let some : behind (λ c. c == 10) (take_through 10 (b ∷ text)) ≡ Some [] = rw (is, is) refl in cc
-    by false e here later =
-        let deeper : behind (λ c. c == 10) (take_through 10 text) ≡ None = sym (passed e) ∙ here in
-        All-cons (λ c. c ≢ 10) b text (eqb-false b 10 e) (later deeper)
-      where
-        passed : (b == 10) ≡ false → behind (λ c. c == 10) (take_through 10 (b ∷ text)) ≡ behind (λ c. c == 10) (take_through 10 text)
-        passed is = rw (is, is) refl
+    by : (t : Bool) → (b == 10) ≡ t → (behind (λ c. c == 10) (take_through 10 text) ≡ None → IsPlain text) → IsPlain (b ∷ text)
+    by true e later = let some = found b text e in cc
+    by false e later = All-cons (λ c. c ≢ 10) b text (eqb-false b 10 e) (later (sym (passed b text e) ∙ none))
 
 -- ---- a reader's line
 
@@ -91,10 +82,15 @@ line_heard (Some text) new before bytes n none is rest ends =
     })
 
 -- there was no newline
-pub none_heard : (old new : Option (List ℕ)) (before bytes : List ℕ) → before ≡ [] → IfSome old (λ xs. bytes ≡ before ++ take_through 10 xs) → IsEndless bytes → IsLineHeard old new None
-none_heard None new before bytes none is endless = tt
-none_heard (Some text) new before bytes none is endless =
-    let read : bytes ≡ take_through 10 text = is ∙ ap (λ (l : List ℕ). l ++ take_through 10 text) none in
-    record { plain = plain_there text (ap (behind (λ b. b == 10)) (sym read) ∙ endless.none) }
+pub none_heard : (old new : Option (List ℕ)) (before bytes text : List ℕ) → IsEndless text → text ≡ bytes → before ≡ [] → IfSome old (λ xs. bytes ≡ before ++ take_through 10 xs)
+    → IsLineHeard old new None
+none_heard None new before bytes text endless same none is = tt
+none_heard (Some left) new before bytes text endless same none is =
+    let read : text ≡ take_through 10 left = same ∙ is ∙ ap (λ (l : List ℕ). l ++ take_through 10 left) none in
+    record { plain = plain_there left (ap (behind (λ b. b == 10)) (sym read) ∙ endless.none) }
+
+-- where the first newline stands
+pub ends_there : (text before : List ℕ) (rest : Option (List ℕ)) (more : List ℕ) → before ≡ front text → rest ≡ behind (λ b. b == 10) text → rest ≡ Some more → EndsAt text (length before)
+ends_there text before rest more one other there = record { at = ap length one; more = more; newline = sym other ∙ there }
 
 pub ruleset readings = (line_heard, none_heard)

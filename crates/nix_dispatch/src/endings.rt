@@ -20,7 +20,7 @@ pub(crate) enum Ending<'a> {
 
 /// The answer of a command that has no journal.
 pub(crate) fn common<'a>(answer: Result<u8, Failure<'a>>) -> Result<u8, Ending<'a>>
-    ensures { result ≡ as_ending answer }
+    ensures { result ≡ as_ending answer.entry }
 {
     match answer {
         Ok(status) => Ok(status),
@@ -35,7 +35,7 @@ pub(crate) fn exit_by<R: Eprint>(
     answer: Option<Result<u8, Ending<'_>>>,
     explain: bool,
 ) -> u8
-    ensures { result ≡ exit_of answer }
+    ensures { result ≡ exit_of answer.entry }
 {
     match answer {
         Some(Ok(status)) => status,

@@ -78,8 +78,8 @@ fn kept_ended<'a, W: Write + Drop>(
     end: KeptEnd<Kept<'a, File>>,
     output: Heard<W>,
 ) -> Result<u8, Ending<'a>>
-    ensures status { IfOk result (λ status. end.answer ≡ Ok status) }
-    ensures fault { IfErr result (λ ending. end.answer ≡ Err (fault_in ending)) }
+    ensures status { IfOk result (λ status. end.entry.answer ≡ Ok status) }
+    ensures fault { IfErr result (λ ending. end.entry.answer ≡ Err (fault_in ending)) }
 {
     let KeptEnd { answer, journal } = end;
     match answer {
