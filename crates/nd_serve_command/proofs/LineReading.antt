@@ -82,10 +82,10 @@ line_heard (Some text) new before bytes n none is rest ends =
     })
 
 -- there was no newline
-pub none_heard : (old new : Option (List ℕ)) (before bytes text : List ℕ) → IsEndless text → text ≡ bytes → before ≡ [] → IfSome old (λ xs. bytes ≡ before ++ take_through 10 xs)
+pub none_heard : (old new : Option (List ℕ)) (before bytes text : List ℕ) → IfSome old (λ xs. bytes ≡ before ++ take_through 10 xs) → IsEndless text → text ≡ bytes → before ≡ []
     → IsLineHeard old new None
-none_heard None new before bytes text endless same none is = tt
-none_heard (Some left) new before bytes text endless same none is =
+none_heard None new before bytes text is endless same none = tt
+none_heard (Some left) new before bytes text is endless same none =
     let read : text ≡ take_through 10 left = same ∙ is ∙ ap (λ (l : List ℕ). l ++ take_through 10 left) none in
     record { plain = plain_there left (ap (behind (λ b. b == 10)) (sym read) ∙ endless.none) }
 

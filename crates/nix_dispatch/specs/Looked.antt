@@ -17,7 +17,7 @@ AnswersAbout Audit options journal status remaining reader reader_after contents
 
 -- why there is none
 abbrev pub IsUnansweredFor : {R W : Type 0} → Question → ParkOptions → List ℕ → (R → Option (List ℕ)) → Watched R → Watched R → (W → Option (List ℕ)) → Watched W → Watched W → ServeFault → Type 0
-IsUnansweredFor Report options journal remaining reader reader_after contents writer writer_after fault =
-    IsReportFault options journal remaining reader reader_after contents writer writer_after fault
-IsUnansweredFor Audit options journal remaining reader reader_after contents writer writer_after fault =
-    IsAuditFault options journal remaining reader reader_after contents writer writer_after fault
+IsUnansweredFor Report options journal remaining reader reader_after contents writer writer_after =
+    IsReportFault options journal remaining reader reader_after contents writer writer_after
+IsUnansweredFor Audit options journal remaining reader reader_after contents writer writer_after =
+    IsAuditFault options journal remaining reader reader_after contents writer writer_after

@@ -71,7 +71,7 @@ fn look_at_bytes<'a, R: Files + Input + Print + AllocGlobal + Threads + Sync>(
         return Err(Ending::Common(Failure::of(CliFault::Memory)));
     };
     let mut output = Told::new(Heard::new(buffer));
-    let answer = answer_to(
+    let answer = answer_about(
         rt,
         alloc,
         asked,
@@ -95,7 +95,7 @@ fn look_at_bytes<'a, R: Files + Input + Print + AllocGlobal + Threads + Sync>(
 
 /// Writes the answer to what is asked of the history that a journal with these bytes tells, over the bundle on the
 /// input and the park of the options.
-fn answer_to<R: Read, W: Write>(
+fn answer_about<R: Read, W: Write>(
     rt: &(impl Threads + Sync),
     alloc: Global,
     asked: Question,
