@@ -1,6 +1,6 @@
 mod Apart
 pub mod Assembled
-pub mod Gathered
+pub mod Gathering
 pub mod Newlines
 pub mod OneBundle
 pub mod OneDrvPath

@@ -22,7 +22,7 @@ pub(crate) struct Gathered {
 
 impl Gathered {
     /// What is read of no lines. It takes no memory.
-    #[tactic(auto, using(crate::proofs::Gathered::read_nowhere))]
+    #[tactic(auto, using(crate::proofs::Gathering::read_nowhere))]
     pub(crate) fn new(alloc: Global) -> Gathered
         ensures { IsReadNowhere result }
     {
@@ -32,10 +32,25 @@ impl Gathered {
         }
     }
 
+    /// Reads a line, or few, by this thread. They aren't taken yet.
+    #[tactic(auto, using(crate::proofs::Gathering::reads_settled))]
+    pub(crate) fn read_line(
+        &mut self,
+        alloc: Global,
+        text: &[u8],
+        manner: Manner,
+    ) -> Result<(), AllocError>
+        requires { self.old.found.refused ≡ None }
+        ensures { OnOk result (ReadsLines manner text.now self.old self.new) }
+    {
+        self.add_piece(alloc, text, manner)?;
+        self.settle(alloc)
+    }
+
     /// Reads the lines of a text behind those before, unless one of these is refused: by this thread where the text
     /// hasn't enough for two, and else by many. With `manner.check` each line's path has to be the text path of its
-    /// derivation. Behind that it looks for the first refusal, in the order of the lines.
-    #[tactic(auto, using(crate::proofs::Gathered::reads_none, crate::proofs::Gathered::reads_settled))]
+    /// derivation.
+    #[tactic(auto, using(crate::proofs::Gathering::reads_none))]
     pub(crate) fn read_lines<R: Threads + Sync>(
         &mut self,
         rt: &R,
@@ -49,17 +64,41 @@ impl Gathered {
             Some(_) => Ok(()),
             None => {
                 if is_short(text) {
-                    self.add_piece(alloc, text, manner)?;
-                } else {
-                    self.read_beside(rt, alloc, text, manner)?;
+                    return self.read_short(alloc, text, manner);
                 }
-                self.settle(alloc)
+                self.read_long(rt, alloc, text, manner)
             }
         }
     }
 
+    /// Reads the lines of a short text by this thread, and takes all.
+    #[tactic(auto, using(crate::proofs::Gathering::reads_settled))]
+    fn read_short(&mut self, alloc: Global, text: &[u8], manner: Manner) -> Result<(), AllocError>
+        requires { self.old.found.refused ≡ None }
+        ensures { OnOk result (ReadsLines manner text.now self.old self.new) }
+    {
+        self.add_piece(alloc, text, manner)?;
+        self.take_pieces(alloc)
+    }
+
+    /// Reads the lines of a long text by many threads, and then looks for the first refusal, in the order of the lines.
+    #[tactic(auto, using(crate::proofs::Gathering::reads_settled))]
+    fn read_long<R: Threads + Sync>(
+        &mut self,
+        rt: &R,
+        alloc: Global,
+        text: &[u8],
+        manner: Manner,
+    ) -> Result<(), AllocError>
+        requires { self.old.found.refused ≡ None }
+        ensures { OnOk result (ReadsLines manner text.now self.old self.new) }
+    {
+        self.read_beside(rt, alloc, text, manner)?;
+        self.settle(alloc)
+    }
+
     /// Reads a piece by this thread.
-    #[tactic(auto, using(crate::proofs::Gathered::reads_piece))]
+    #[tactic(auto, using(crate::proofs::Gathering::reads_piece))]
     fn add_piece(&mut self, alloc: Global, text: &[u8], manner: Manner) -> Result<(), AllocError>
         requires { self.old.found.refused ≡ None }
         ensures { OnOk result (ReadsLines manner text.now self.old self.new) }
@@ -69,7 +108,7 @@ impl Gathered {
     }
 
     /// Reads the lines of a text by many threads, while this one takes what was read before.
-    #[tactic(auto, using(crate::proofs::Gathered::reads_pieces))]
+    #[tactic(auto, using(crate::proofs::Gathering::reads_pieces))]
     fn read_beside<R: Threads + Sync>(
         &mut self,
         rt: &R,
@@ -97,7 +136,7 @@ impl Gathered {
     }
 
     /// Takes what was read where some of it is refused, so that nothing is read behind that.
-    #[tactic(auto, using(crate::proofs::Gathered::stays_read))]
+    #[tactic(auto, using(crate::proofs::Gathering::stays_read))]
     fn settle(&mut self, alloc: Global) -> Result<(), AllocError>
         ensures { OnOk result (StaysRead self.old self.new) }
     {
@@ -108,7 +147,7 @@ impl Gathered {
     }
 
     /// Takes what was read, unless a line before it is refused.
-    #[tactic(auto, using(crate::proofs::Gathered::stays_read, crate::proofs::Gathered::takes_pieces))]
+    #[tactic(auto, using(crate::proofs::Gathering::stays_read, crate::proofs::Gathering::takes_pieces))]
     fn take_pieces(&mut self, alloc: Global) -> Result<(), AllocError>
         ensures { OnOk result (StaysRead self.old self.new) }
     {
@@ -122,7 +161,7 @@ impl Gathered {
     }
 
     /// What the lines say with their paths numbered, or the first refusal.
-    #[tactic(auto, using(crate::proofs::Gathered::refused_before, crate::proofs::Gathered::read_numbered, crate::proofs::Gathered::read_fault))]
+    #[tactic(auto, using(crate::proofs::Gathering::refused_before, crate::proofs::Gathering::read_numbered, crate::proofs::Gathering::read_fault))]
     pub(crate) fn into_numbered(self) -> Result<Numbered, GraphError>
         ensures ok { IfOk result (IsReadNumbered self) }
         ensures err { IfErr result (IsReadFault self) }

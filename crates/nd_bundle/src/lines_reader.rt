@@ -67,10 +67,7 @@ impl LinesReader {
     /// What the lines say with their paths numbered, or the first refusal. What stands behind the last newline is the
     /// last line.
     #[tactic(auto, using(crate::proofs::Parted::says_so_far, crate::proofs::Parted::fault_so_far))]
-    pub(crate) fn into_numbered(
-        self,
-        rt: &(impl Threads + Sync),
-    ) -> Result<Numbered, GraphError>
+    pub(crate) fn into_numbered(self) -> Result<Numbered, GraphError>
         ensures ok { IfOk result (SayNumbered self.manner (lines self.text)) }
         ensures err { IfErr result (IsFirstFault self.manner.check self.text) }
     {
@@ -81,7 +78,7 @@ impl LinesReader {
             ..
         } = self;
         // For the proof: each clause of the answer is met where the answer is known.
-        match reached.into_numbered(rt, alloc, manner) {
+        match reached.into_numbered(alloc, manner) {
             Ok(numbered) => Ok(numbered),
             Err(fault) => Err(fault),
         }

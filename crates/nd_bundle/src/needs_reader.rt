@@ -78,7 +78,7 @@ impl NeedsReader {
             → MatchResult result (λ needs. ArePlaced needs.table needs.places graph.needs) (λ e. e ≡ GraphError.Memory) }
     {
         let NeedsReader { alloc, lines } = self;
-        let numbered = lines.into_numbered(rt)?;
+        let numbered = lines.into_numbered()?;
         needs_side_by_side(rt, alloc, numbered)
     }
 }

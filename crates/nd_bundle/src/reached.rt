@@ -96,26 +96,21 @@ impl Reached {
                 Ok(())
             }
             Some((end, behind)) => {
-                self.end_line(rt, alloc, end, manner)?;
+                self.end_line(alloc, end, manner)?;
                 self.read_behind(rt, alloc, behind, manner)
             }
         }
     }
 
     /// Reads the line that hasn't ended, which ends so.
-    fn end_line(
-        &mut self,
-        rt: &(impl Threads + Sync),
-        alloc: Global,
-        end: &[u8],
-        manner: Manner,
-    ) -> Result<(), AllocError>
+    fn end_line(&mut self, alloc: Global, end: &[u8], manner: Manner) -> Result<(), AllocError>
         requires { self.old.gathered.found.refused ≡ None }
         ensures lines { OnOk result (ReadsLines manner (self.old.rest.items ++ end.now) self.old.gathered self.new.gathered) }
         ensures rest { OnOk result (self.new.rest.items ≡ []) }
     {
         self.rest.extend_from_slice(end)?;
-        self.gathered.read_lines(rt, alloc, self.rest.as_slice(), manner)?;
+        self.gathered
+            .read_line(alloc, self.rest.as_slice(), manner)?;
         self.rest.clear();
         Ok(())
     }
@@ -140,13 +135,8 @@ impl Reached {
 
     /// What the lines of the text that was read say, the last line being the rest where there is one; or the
     /// first refusal.
-    #[tactic(auto, using(crate::proofs::Parted::told_by, crate::proofs::Parted::fault_by, crate::proofs::Parted::fault_of_memory))]
-    pub(crate) fn into_numbered(
-        self,
-        rt: &(impl Threads + Sync),
-        alloc: Global,
-        manner: Manner,
-    ) -> Result<Numbered, GraphError>
+    #[tactic(auto, using(crate::proofs::Parted::told_by, crate::proofs::Parted::fault_by, crate::proofs::Parted::fault_before, crate::proofs::Parted::fault_of_memory))]
+    pub(crate) fn into_numbered(self, alloc: Global, manner: Manner) -> Result<Numbered, GraphError>
         ensures ok { IfOk result (IsToldBy manner self) }
         ensures err { IfErr result (IsFaultBy manner self) }
     {
@@ -155,7 +145,7 @@ impl Reached {
             Some(fault) => Err(fault),
             None => {
                 let mut gathered = gathered;
-                gathered.read_lines(rt, alloc, rest.as_slice(), manner)?;
+                gathered.read_line(alloc, rest.as_slice(), manner)?;
                 gathered.into_numbered()
             }
         }

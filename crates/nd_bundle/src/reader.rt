@@ -83,7 +83,7 @@ impl BundleReader {
             → MatchResult result (λ g. g ≡ graph) (λ e. e ≡ GraphError.Memory) }
     {
         let BundleReader { alloc, lines } = self;
-        let numbered = lines.into_numbered(rt)?;
+        let numbered = lines.into_numbered()?;
         graph_side_by_side(rt, alloc, numbered)
     }
 }

@@ -120,6 +120,7 @@ fn needs_of_blocks(
 /// Feeds the reader the whole input, or [`LIMIT`] bytes and one more, and answers how many these are.
 ///
 /// `Read`: the device refused a read, and is then marked. `Memory`.
+#[tactic(auto, using(crate::proofs::Fed::fed_first, crate::proofs::Fed::fed_on, crate::proofs::Fed::fed_whole, crate::proofs::Fed::fed_counted))]
 fn feed_input<T: Threads + Sync, R: Read, P: PartsReader>(
     rt: &T,
     alloc: Global,
@@ -195,6 +196,7 @@ fn next_size(size: usize) -> usize
 /// are.
 ///
 /// `Read`: the device refused a read, and is then marked. `Memory`.
+#[tactic(auto, using(crate::proofs::Fed::reads_next))]
 fn fill_next<R: Read>(
     alloc: Global,
     room: &mut Vec<u8>,

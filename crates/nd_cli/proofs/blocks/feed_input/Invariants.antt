@@ -1,5 +1,5 @@
-use Rattle.std.proofs.Common.{◌≡◌, ◌<◌, ◌≤◌, ◌+◌, ◌-◌, ◌++◌, length, take}
-use Rattle.std.specs.Io.KnownBytes.{Consumes, IsAtEnd}
+use Rattle.std.proofs.Common.{◌≡◌, ◌<◌, ◌+◌, ◌-◌, length}
+use Rattle.nd_cli.specs.Blocks.{IsFedAsFar}
 use Rattle.nd_cli.specs.Inputs.{limit}
 use Rattle.nd_cli.proofs.blocks.feed_input.Given as goal
 
@@ -7,11 +7,7 @@ use Rattle.nd_cli.proofs.blocks.feed_input.Given as goal
 abbrev pub invariant-feeding : goal.invariant-feeding
 invariant-feeding g l = record {
   check : (g.P.PartsReader.reading l.reader).check ≡ (g.P.PartsReader.reading l.fn.reader).check;
-  read : Consumes (g.R.Read.remaining l.fn.input.device) (g.R.Read.remaining l.input.device) ((g.P.PartsReader.reading l.reader).text ++ take l.filled l.room.items);
-  counted : l.fed ≡ length (g.P.PartsReader.reading l.reader).text;
-  bounded : l.fed + l.filled ≤ limit + 1;
-  bound : l.filled ≤ length l.room.items;
-  whole : l.filled < length l.room.items → l.fed + l.filled ≤ limit → IsAtEnd (g.R.Read.remaining l.input.device);
+  far : IsFedAsFar (g.R.Read.remaining l.fn.input.device) (g.R.Read.remaining l.input.device) (g.P.PartsReader.reading l.reader).text l.room.items l.fed l.filled;
   mark : l.input.is_marked ≡ l.fn.input.is_marked;
   some : 0 < length l.room.items;
 }
