@@ -58,11 +58,7 @@ impl NeedsReader {
     }
 
     /// Reads on, as [`BundleReader::feed`].
-    pub fn feed(
-        &mut self,
-        rt: &(impl Threads + Sync),
-        block: &[u8],
-    ) -> Result<(), AllocError>
+    pub fn feed(&mut self, rt: &(impl Threads + Sync), block: &[u8]) -> Result<(), AllocError>
         ensures check { self.new.check ≡ self.old.check }
         ensures text { self.new.text ≡ self.old.text ++ block.now }
     {

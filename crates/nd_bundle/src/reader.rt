@@ -59,11 +59,7 @@ impl BundleReader {
     /// meanwhile. Behind the first line that is refused nothing is read any more: `finish` tells of it.
     ///
     /// Refuses where an allocation is refused. Nothing is read any more then, and `finish` answers `Memory`.
-    pub fn feed(
-        &mut self,
-        rt: &(impl Threads + Sync),
-        block: &[u8],
-    ) -> Result<(), AllocError>
+    pub fn feed(&mut self, rt: &(impl Threads + Sync), block: &[u8]) -> Result<(), AllocError>
         ensures check { self.new.check ≡ self.old.check }
         ensures text { self.new.text ≡ self.old.text ++ block.now }
     {

@@ -16,11 +16,7 @@ pub(crate) trait PartsReader: Send {
     /// Reads on, as [`BundleReader::feed`]: the block stands behind what was read, whether this is refused or not.
     ///
     /// Refuses where an allocation is refused.
-    fn feed<T: Threads + Sync>(
-        &mut self,
-        rt: &T,
-        block: &[u8],
-    ) -> Result<(), AllocError>
+    fn feed<T: Threads + Sync>(&mut self, rt: &T, block: &[u8]) -> Result<(), AllocError>
         ensures check { (reading self.new).check ≡ (reading self.old).check }
         ensures text { (reading self.new).text ≡ (reading self.old).text ++ block.now };
 }
@@ -28,11 +24,7 @@ pub(crate) trait PartsReader: Send {
 impl PartsReader for BundleReader {
     ghost reading = { λ reader. reader };
 
-    fn feed<T: Threads + Sync>(
-        &mut self,
-        rt: &T,
-        block: &[u8],
-    ) -> Result<(), AllocError> {
+    fn feed<T: Threads + Sync>(&mut self, rt: &T, block: &[u8]) -> Result<(), AllocError> {
         BundleReader::feed(self, rt, block)
     }
 }
@@ -40,11 +32,7 @@ impl PartsReader for BundleReader {
 impl PartsReader for NeedsReader {
     ghost reading = { λ reader. reader };
 
-    fn feed<T: Threads + Sync>(
-        &mut self,
-        rt: &T,
-        block: &[u8],
-    ) -> Result<(), AllocError> {
+    fn feed<T: Threads + Sync>(&mut self, rt: &T, block: &[u8]) -> Result<(), AllocError> {
         NeedsReader::feed(self, rt, block)
     }
 }
