@@ -76,7 +76,7 @@ impl Reached {
     }
 
     /// Reads on, where no line was refused.
-    #[tactic(auto, using(crate::proofs::Parted::goes_within, crate::proofs::Parted::goes_behind, crate::proofs::Parted::goes_lines))]
+    #[tactic(auto, using(crate::proofs::Parted::goes_within, crate::proofs::Parted::goes_lines))]
     fn read_text(
         &mut self,
         rt: &(impl Threads + Sync),
@@ -88,7 +88,7 @@ impl Reached {
         ensures { OnOk result (GoesOn manner block.now self.old self.new) }
     {
         if self.rest.is_empty() {
-            return self.read_behind(rt, alloc, block, manner);
+            return self.read_afresh(rt, alloc, block, manner);
         }
         match cut_line(block) {
             None => {
@@ -100,6 +100,21 @@ impl Reached {
                 self.read_behind(rt, alloc, behind, manner)
             }
         }
+    }
+
+    /// Reads on, where no line was refused or had begun.
+    fn read_afresh(
+        &mut self,
+        rt: &(impl Threads + Sync),
+        alloc: Global,
+        block: &[u8],
+        manner: Manner,
+    ) -> Result<(), AllocError>
+        requires none { self.old.gathered.found.refused ≡ None }
+        requires rest { self.old.rest.items ≡ [] }
+        ensures { OnOk result (GoesOn manner block.now self.old self.new) }
+    {
+        self.read_behind(rt, alloc, block, manner)
     }
 
     /// Reads the line that hasn't ended, which ends so.
