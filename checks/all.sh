@@ -22,9 +22,10 @@
 # real-park.sh     a graph on real Nix stores; needs the built program, Nix 2.8 or later, a static busybox, Python 3
 #                  and root
 # bad-day.sh       graphs on machines behind ssh that break: connections refused, builds lost, collections in the middle,
-#                  full disks, signals, kills and silence; needs what ssh-park.sh needs and a shell `dash`, and takes some
+#                  full disks, signals, kills and silence; needs what ssh-park.sh needs, and takes some
 #                  twenty-five minutes
 # ssh-park.sh      the same graph on machines behind ssh; needs what real-park.sh needs, and OpenSSH's sshd
+# own-agent.sh     the same graph by agents that aren't farm/build's own; needs what real-park.sh needs
 # bodies-apply.py  each wrong body can still be applied; needs Python 3
 # allocations.sh   each allocation refused in turn; needs the built program, a C compiler, and the tests of
 #                  `nd_test_ledger` that `rt test` leaves in its folder
@@ -57,8 +58,8 @@ needs_of() {
     faults.py) echo program python3 cc ;;
     journal.py) echo program python3 cc root ;;
     first.sh) echo rt python3 ;;
-    real-park.sh) echo program nix-store busybox python3 root ;;
-    bad-day.sh) echo program nix-store busybox python3 root ssh-keygen sshd dash ;;
+    own-agent.sh|real-park.sh) echo program nix-store busybox python3 root ;;
+    bad-day.sh) echo program nix-store busybox python3 root ssh-keygen sshd ;;
     ssh-park.sh) echo program nix-store busybox python3 root ssh-keygen sshd ;;
     wrong-bodies.sh) echo rt git tar time ;;
     *) echo program ;;

@@ -6,7 +6,7 @@
 #
 # A case is a function below or in bad-day/killed.sh; without a name all are run. Each says in a line what it saw. FARM
 # names the folder of the scripts, which is farm where it isn't set, and NIX_DISPATCH the program. It needs Nix 2.8 or
-# later, a static busybox, Python 3, OpenSSH's sshd, a shell `dash` and root, and installs nothing. The sshd listens on
+# later, a static busybox, Python 3, OpenSSH's sshd and root, and installs nothing. The sshd listens on
 # port 2223 of 127.0.0.1, or on that of PORT, and ends with the script. With -k the folder with all that it made stays.
 set -u
 
@@ -17,7 +17,6 @@ for command in nix-store busybox python3 ssh ssh-keygen flock; do
 done
 cd "$(dirname "$0")/.." || exit 2
 farm=${FARM-farm}
-# the scripts that `shells` copies have no program beside them
 export NIX_DISPATCH="${NIX_DISPATCH-$PWD/crates/nix_dispatch/out/nix_dispatch}"
 graph=checks/bad-day/graph.nix
 folder=$(mktemp -d /tmp/bad-day.XXXXXX)
@@ -289,23 +288,25 @@ needed() {
   did="tools that a valid root needed aren't built, half valid builds 11 of 31, and all valid takes $quickest ms, $spent of a processor, and copies nothing"
 }
 
-# 5: progress, with the awk that holds its input back
+# 5: progress, here and by farm/watch
 progress() {
   machine one 1 > "$folder/builders"
   salt=progress
-  mkdir -p "$folder/mawk"
-  ln -sf "$(command -v mawk)" "$folder/mawk/awk"
-  path=$PATH
-  PATH=$folder/mawk:$PATH
   begin progress --jobs 0 "$(drv steps)"
-  PATH=$path
+  soon 300 [ -e "$folder/progress/events" ]
+  "$farm/watch" "$folder/progress" 2> "$folder/watched.err" &
+  watcher=$!
   soon 300 logged ' end '
   want 'a build has ended, and nothing is said of it' soon 30 has "$folder/progress.err" 'built '
+  want 'a build has ended, and farm/watch says nothing of it' soon 30 has "$folder/watched.err" 'built '
   want 'the run has ended by then' kill -0 "$builder"
   soon 900 ended
   wait "$builder"
-  did="with mawk the first line came while builds went on"
+  want 'farm/watch goes on behind the run' soon 50 gone_by_now "$watcher"
+  did="the first line came while builds went on, and farm/watch told the same and ended with the run"
 }
+
+gone_by_now() { ! kill -0 "$1" 2> /dev/null; }
 
 # 6: what is said of a failure, of what no machine has, and of a machine that is down
 told() {
@@ -407,7 +408,7 @@ END
   did="a machine that never answers is down after the bound on connecting, and this one builds"
 }
 
-# 9: an agent is killed
+# 9: the processes of Nix that an agent speaks with are killed
 killed_agent() {
   machine one 1 > "$folder/builders"
   salt=killagent
@@ -419,7 +420,7 @@ killed_agent() {
   soon 300 serving
   want 'nothing was begun on the machine' serving
   # shellcheck disable=SC2046  # process numbers
-  kill -9 $(below_with "$builder" "$farm/agent")
+  kill -9 $(below_with "$builder" 'nix-daemon')
   want "what it had started goes on after 20 seconds: nix-store here or there" soon 200 all_ended
   soon 300 ended
   wait "$builder"
@@ -429,10 +430,16 @@ killed_agent() {
   build killagent --jobs 0 "$(drv sourced)"
   want "again in the folder, it ends with status $status" is "$status" 0
   sound killagent 1
-  did="kill -9 of an agent: what it had started has ended, here and there"
+  did="kill -9 of an agent's processes: what they had started has ended, here and there"
 }
 serving() { [ -n "$(below_with "$(cat "$folder/sshd.pid")" 'nix-store --serve')" ]; }
-realising() { cat /proc/[0-9]*/cmdline 2> /dev/null | tr '\0' ' ' | grep -q -e "[-]-realise.*-$salt\.drv"; }
+# Whether a process of this side still builds, or may: a daemon that is spoken with, or a build hook.
+realising() {
+  for one in $(grep -l -s -a -e '[n]ix-daemon' -e '[_]_build-remote' /proc/[0-9]*/cmdline); do
+    ! grep -q -s -a -e "NIX_CONF_DIR=$folder/conf" "${one%cmdline}environ" || return 0
+  done
+  return 1
+}
 all_ended() { ! serving && ! realising; }
 
 # 10: the small ones
@@ -564,71 +571,34 @@ two_at_once() {
   did="two runs at once on one park: status 0 and 0; a third in the folder of the first is refused"
 }
 
-# Each awk and each shell.
-awks() {
+# Each Python.
+pythons() {
   machine one 2 > "$folder/builders"
   tried=''
-  for awk in mawk gawk busybox; do
-    command -v "$awk" > /dev/null || continue
-    mkdir -p "$folder/bin-$awk"
-    if [ "$awk" = busybox ]; then printf '#!/bin/sh\nexec busybox awk "$@"\n' > "$folder/bin-$awk/awk"; chmod +x "$folder/bin-$awk/awk"
-    else ln -sf "$(command -v "$awk")" "$folder/bin-$awk/awk"; fi
-    salt=awk$awk
+  for version in 9 10 11 12 13 14; do
+    python=$(command -v "python3.$version") || continue
+    "$python" -c '' 2> /dev/null || continue
+    mkdir -p "$folder/python$version"
+    ln -sf "$python" "$folder/python$version/python3"
+    salt=python$version
     path=$PATH
-    PATH=$folder/bin-$awk:$PATH
-    build "awk$awk" --jobs 1 -k "$(drv broken)" "$(drv none)"
+    PATH=$folder/python$version:$PATH
+    build "python$version" --jobs 1 -k "$(drv broken)" "$(drv none)"
     PATH=$path
-    want "$awk: status $status" is "$status" 1
-    sound "awk$awk" 35
-    want "$awk: $(counted built "awk$awk") are built" is "$(counted built "awk$awk")" 33
-    tried="$tried $awk"
+    want "Python 3.$version: status $status" is "$status" 1
+    sound "python$version" 35
+    want "Python 3.$version: $(counted built "python$version") are built" is "$(counted built "python$version")" 33
+    tried="$tried 3.$version"
   done
-  did="the same with the awk of:$tried"
-}
-
-shells() {
-  machine one 2 > "$folder/builders"
-  tried=''
-  for shell in dash 'busybox sh' bash; do
-    command -v "${shell% *}" > /dev/null || continue
-    mkdir -p "$folder/farm"
-    for script in "$farm"/*; do
-      case $script in
-        *.awk) cp "$script" "$folder/farm/" ;;
-        *) [ -d "$script" ] || { sed "1s|.*|#!$(command -v "${shell% *}")${shell#"${shell% *}"}|" "$script" > "$folder/farm/${script##*/}"; chmod +x "$folder/farm/${script##*/}"; } ;;
-      esac
-    done
-    salt=shell${shell%% *}
-    plain=$farm
-    farm=$folder/farm
-    build "$salt" --jobs 1 -k "$(drv broken)" "$(drv sourced)"
-    farm=$plain
-    want "$shell: status $status" is "$status" 1
-    sound "$salt" 5
-    tried="$tried, $shell"
-  done
-  did="the same with the scripts run by${tried#,}"
+  want 'there is none' [ -n "$tried" ]
+  did="the same by each Python of:$tried"
 }
 
 # What the table of messages says of those that Nix gave.
 blamed() {
-  [ -e "$farm/blame.awk" ] || { wrong="$wrong; there is no table of messages"; return; }
-  count=0
-  while read -r message status answer; do
-    case $message in
-      here-*) where=here call=build ;;
-      there-*) where=there call=build ;;
-      *) where=there call=${message%%-*} ;;
-    esac
-    [ "$call" != ping ] || call=connect
-    about=$(sed -n 's|^  \(/nix/store/.*\.drv\)$|\1|p' "checks/blame/messages/$message" | head -n 1)
-    for awk in mawk gawk 'busybox awk'; do
-      command -v "${awk%% *}" > /dev/null || continue
-      said=$($awk -f "$farm/blame.awk" -v call="$call" -v status="$status" -v where="$where" -v drv="$about" "checks/blame/messages/$message" | cut -f 1,2 | tr '\t' ' ')
-      want "$message by $awk is $said and not $answer" is "$said" "$answer"
-    done
-    count=$((count + 1))
-  done < checks/blame/table
+  want "$(python3 -m unittest discover -s farm/tests -t farm -p test_blame.py 2>&1 | tail -n 20)" \
+    python3 -m unittest discover -q -s farm/tests -t farm -p test_blame.py 2> /dev/null
+  count=$(wc -l < checks/blame/table | tr -d ' ')
   want 'a message has no row in the table' is "$count" "$(find checks/blame/messages -type f | wc -l | tr -d ' ')"
   did="$count messages of Nix are blamed as the table says"
 }
@@ -654,7 +624,7 @@ quick() {
 }
 
 failed=0
-all='blamed slots refused lost collected collected_there gone needed progress told interrupted killed_run killed_all killed_half killed_later begun_anew full_at_start full_folder silent stalled killed_agent small substituted full_machine full_store read_only two_at_once awks shells quick'
+all='blamed slots refused lost collected collected_there gone needed progress told interrupted killed_run killed_all killed_half killed_later begun_anew full_at_start full_folder silent stalled killed_agent small substituted full_machine full_store read_only two_at_once pythons quick'
 # shellcheck disable=SC2086  # words
 for case in ${*:-$all}; do
   wrong='' did=''

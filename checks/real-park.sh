@@ -9,8 +9,8 @@
 # 4. the valid paths of each machine's store are those that the history says it holds
 # 5. at no moment more builds ran on a machine than its jobs
 # 6. the same graph built by nix-build alone gives the same outputs, references and NAR hashes
-# 7. where an agent is killed in a build the run ends, its history is legal and says lost, and nothing is
-#    built twice
+# 7. where the process by which Nix builds is killed the run ends, its history is legal and says lost, and nothing
+#    is built twice
 #
 # It needs Nix 2.8 or later and a static busybox, as Debian's nix-bin and busybox-static have them, Python 3,
 # root, and no network. It installs nothing. With -k the folder with all that it made stays.
@@ -81,7 +81,7 @@ done
 python3 checks/real-park/look.py "$folder" same local.db alone.db
 echo '6: nix-build alone makes the same outputs, references and hashes'
 
-# 7: an agent is killed in the middle of a build
+# 7: the agent's process of Nix is killed in the middle of a build
 slow=$(nix-instantiate "$graph" -A slow 2> /dev/null)
 build killed --retries 0 "$slow" &
 runner=$!
@@ -96,7 +96,7 @@ done
 [ -n "$agent" ] || { echo 'real-park: no agent began the long build' >&2; exit 1; }
 kill -KILL "$agent"
 wait "$runner" || true
-grep -q '^failed 0 lost$' "$folder/killed/history" || { echo 'real-park: the history of the killed agent has no lost' >&2; exit 1; }
-grep -q '^legal ' "$folder/killed/verdict" || { echo 'real-park: the history of the killed agent is not legal' >&2; exit 1; }
+grep -q '^failed 0 lost$' "$folder/killed/history" || { echo 'real-park: the history of the killed build has no lost' >&2; exit 1; }
+grep -q '^legal ' "$folder/killed/verdict" || { echo 'real-park: the history of the killed build is not legal' >&2; exit 1; }
 [ "$(cat "$folder"/killed/*.log | grep -c '^[0-9]* begin ')" -eq 1 ] || { echo 'real-park: built twice' >&2; exit 1; }
-echo "7: the agent of slot $uri was killed in a build: lost, and a legal history"
+echo "7: the process of slot $uri was killed in a build: lost, and a legal history"

@@ -137,7 +137,8 @@ building() {
   done
 }
 
-# 7: the scripts and the program are killed, and what the agents had begun goes on: it isn't built a second time
+# 7: the farm, its guard and the program are killed, and not what they had begun: that ends by itself, and while it does
+# it isn't built a second time beside it
 killed_half() {
   for where in there here; do
     salt=half$where
@@ -149,15 +150,16 @@ killed_half() {
     soon 300 logged ' begin '
     is_building() { [ -n "$(building)" ]; }
     soon 100 is_building
+    want "$where: nothing was begun" is_building
     sleep 1
     # shellcheck disable=SC2046  # process numbers
-    kill -9 "$builder" $(below_with "$builder" "$farm/watch") $(below_with "$builder" 'run --agents') $(below_with "$builder" "$farm/agent")
+    kill -9 $(below_with "$builder" 'run --agents') $(below_with "$builder" 'nix_farm/guard') "$builder"
     wait "$builder" 2> /dev/null
-    want "$where: what an agent had begun is gone" realising
     mark "half$where"
     while :; do
-      building
-      sleep 0.2
+      # shellcheck disable=SC2046  # process numbers
+      echo $(building)
+      sleep 0.1
     done > "$folder/half$where.building" &
     looking=$!
     build "half$where" --jobs "$jobs" "$root"
@@ -165,10 +167,10 @@ killed_half() {
     want "$where: status $status" is "$status" 0
     sound "half$where" 2
     gone_on "$where"
-    times=$(sort -u "$folder/half$where.building" | wc -l)
-    want "$where: it is built $times times" is "$times" 1
+    want "$where: it is built twice at once" is "$(grep -c ' ' "$folder/half$where.building")" 0
+    want "$where: something goes on behind it" quiet
   done
-  did="kill -9 of the scripts and the program alone: the build that goes on, on a machine or here, is waited for and isn't done twice"
+  did="kill -9 of the farm and the program alone, on a machine and here: what they had begun ends, and isn't done twice at once"
 }
 
 # 7: the same in the second round, whose first one has lost something

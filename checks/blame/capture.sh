@@ -5,7 +5,10 @@
 #
 # FOLDER gets a file NAME of each, `here-..` of a build in this machine's store and `there-..` of one by Nix's
 # build hook on a machine behind ssh, and a line `NAME STATUS` of each in the file `statuses`. It needs Nix, sshd,
-# a static busybox and root, and room for stores; the files of `messages` are what Debian's Nix 2.8 said.
+# a static busybox and root, and room for stores; the files of `messages` are what Debian's Nix 2.8 said. What the farm
+# makes of those in FOLDER is seen by
+#
+#     BLAME_MESSAGES=FOLDER python3 -m unittest discover -s farm/tests -t farm -p test_blame.py
 set -u
 cd "$(dirname "$0")/../.." || exit 2
 into=$1

@@ -4,7 +4,7 @@
     look.py FOLDER RAN MACHINE ..      checks 1 to 5 of the run RAN; the machines are stores in FOLDER
     look.py FOLDER RAN outputs         the outputs that the run built
     look.py FOLDER same DUMP DUMP      whether two dumps register the same paths alike
-    look.py FOLDER agent LOG           the process that writes this log
+    look.py FOLDER agent LOG           the process that builds for the slot of this log
 """
 
 import glob
@@ -123,15 +123,13 @@ def registered(dump):
 
 
 def agent_of(log):
-    """The agent that writes this log, which another file stands in for during a build."""
-    for link in glob.glob("/proc/[0-9]*/fd/*"):
+    """The process by which Nix builds for the slot whose log this is: what it says itself is in a file named by the slot."""
+    place = os.path.basename(log)[: -len(".log")]
+    said = os.path.join(os.path.realpath(os.path.join(os.path.dirname(log), ".agents")), f"{place}.said")
+    for link in glob.glob("/proc/[0-9]*/fd/2"):
         try:
-            if os.readlink(link) != os.path.realpath(log):
-                continue
-            process = link.split("/")[2]
-            with open(f"/proc/{process}/cmdline", "rb") as words:
-                if b"agent" in words.read():
-                    return process
+            if os.readlink(link) == said:
+                return link.split("/")[2]
         except OSError:
             continue
     return ""

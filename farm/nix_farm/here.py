@@ -1,0 +1,82 @@
+"""This machine's store, as all slots of a run ask it: by one process that is spoken with."""
+
+import asyncio
+import os
+from typing import Dict, Iterable, List, Optional, Sequence
+
+from .daemon import Daemon, Failed, PathInfo
+from .process import Processes
+
+
+class Here:
+    """This machine's store, whose paths lie below a folder."""
+
+    def __init__(self, processes: Processes, folder: str, root: str) -> None:
+        self._daemon = Daemon(processes, folder)
+        self._root = root
+        self._lock = asyncio.Lock()
+        self._infos: Dict[str, PathInfo] = {}
+
+    def learn(self, info: PathInfo) -> None:
+        """What another process has told of a path."""
+        self._infos[info.path] = info
+
+    def known_size(self, path: str) -> Optional[int]:
+        """The size of a path as NAR, in bytes, where it was asked for by now."""
+        info = self._infos.get(path)
+        return None if info is None else info.size
+
+    async def infos(self, paths: Iterable[str]) -> List[PathInfo]:
+        """What the store knows of paths; Failed where one isn't valid."""
+        found = []
+        async with self._lock:
+            for path in paths:
+                info = self._infos.get(path) or await self._daemon.path_info(path)
+                if info is None:
+                    raise Failed(1, f"error: path '{path}' is not valid\n".encode())
+                self._infos[path] = info
+                found.append(info)
+        return found
+
+    async def nar(self, info: PathInfo) -> bytes:
+        """The NAR of a path; Failed where it isn't valid any more."""
+        async with self._lock:
+            return await self._daemon.nar(info)
+
+    def has_files(self, paths: Iterable[str]) -> bool:
+        """Whether there is something of each path, so that Nix is asked only then."""
+        return all(os.path.lexists(self._root + path) for path in paths)
+
+    async def are_valid(self, paths: Sequence[str]) -> bool:
+        """Whether all of the paths are valid; Failed where the store can't be asked."""
+        if not self.has_files(paths):
+            return False
+        async with self._lock:
+            return await self._daemon.valid_paths(paths) >= set(paths)
+
+    async def valid(self, paths: Sequence[str]) -> List[str]:
+        """Those of the paths that are valid, in their order; Failed where the store can't be asked."""
+        if not paths:
+            return []
+        async with self._lock:
+            valid = await self._daemon.valid_paths(paths)
+        return [path for path in paths if path in valid]
+
+    async def root(self, links: Dict[str, str]) -> None:
+        """Makes links to paths that keep these from the garbage collector; each once its path is valid.
+
+        Failed where the store refuses one, and OSError where a link can't be made.
+        """
+        async with self._lock:
+            for link, path in links.items():
+                if os.path.lexists(self._root + path):
+                    await self._daemon.keep(path)
+                new = f"{link}.new"
+                if os.path.islink(new):
+                    os.unlink(new)
+                os.symlink(path, new)
+                os.replace(new, link)
+            await self._daemon.keep_links(list(links))
+
+    async def close(self) -> None:
+        await self._daemon.close()

@@ -1,0 +1,71 @@
+"""What farm/build and farm/watch show while a run goes on."""
+
+import os
+import subprocess
+import unittest
+from typing import List
+
+from tests.parallel import load_side_by_side
+from tests.stopped import Stopped
+from tests.world import FARM
+
+load_tests = load_side_by_side
+
+
+class Watched(Stopped):
+    """What farm/build shows on a terminal."""
+
+    def test_a_line_that_is_written_anew(self) -> None:
+        world = self.world
+        root = world.drv("second", [world.drv("first")])
+        command = world.command([root])
+        mine, its = os.openpty()
+        done = subprocess.Popen(
+            command, env=world.env(), stdin=subprocess.DEVNULL, stdout=subprocess.DEVNULL, stderr=its,
+            start_new_session=True,
+        )
+        world.started.append(done)
+        os.close(its)
+        said = self.read_all(mine)
+        self.assertEqual(done.wait(300), 0)
+        shown = b"".join(said).decode("latin-1")
+        self.assertRegex(shown, r"\r\x1b\[Kbuilt 0, leased 1, failed 0, waiting 1  0\.0 first")
+        self.assertRegex(shown, r"\r\x1b\[Kbuilt 2, leased 0, failed 0, waiting 0")
+        self.assertNotIn("1 of 2", shown)
+
+    def test_from_elsewhere(self) -> None:
+        """farm/watch tells what has ended by now and what ends, and ends with the run."""
+        world = self.world
+        begun = self.begin()
+        with open(world.at("watched"), "wb") as said:
+            watching = subprocess.Popen(
+                [os.path.join(FARM, "watch"), world.at("out")], env=world.env(), stdin=subprocess.DEVNULL, stderr=said
+            )
+        world.started.append(watching)
+        world.soon(lambda: b"1 of 3: built first on 1." in world.bytes("watched"))
+        self.assertIsNone(watching.poll())
+        self.open_gate()
+        self.ended(world.wait(begun), 0)
+        self.assertEqual(watching.wait(300), 0)
+        self.assertIn(b"3 of 3: built root on 1.", world.bytes("watched"))
+
+    def test_what_is_no_folder_of_a_run(self) -> None:
+        ran = self.world.call([os.path.join(FARM, "watch"), self.world.at("none")])
+        self.assertNotEqual(ran.status, 0)
+        self.assertTrue(ran.err)
+
+    def read_all(self, terminal: int) -> List[bytes]:
+        said = []
+        while True:
+            try:
+                part = os.read(terminal, 65536)
+            except OSError:
+                part = b""
+            if not part:
+                os.close(terminal)
+                return said
+            said.append(part)
+
+
+if __name__ == "__main__":
+    unittest.main()
