@@ -6,7 +6,7 @@ use Rattle.std.specs.Prelude.{IfSome}
 use Rattle.std.specs.Io.BufRead.{take_through, drop_through, DropsThrough}
 use Rattle.std.specs.Io.KnownBytes.{Consumes}
 use Rattle.nd_bytes.specs.Cut.{behind}
-use Rattle.nd_desk.specs.Hearing.{IsPlain, HasNoLine, IsLineHeard, line_with}
+use Rattle.nd_desk.specs.Hearing.{IsPlain, IsLineHeard, line_with}
 use Rattle.nd_serve_command.specs.Lines.{front, EndsAt, IsEndless}
 
 -- ---- what stands before the first newline

@@ -1,6 +1,6 @@
 -- What a journal in a file takes, where it is known what its file holds. Clauses of the program's functions cite this. A real file says nothing of
 -- what it holds.
-use Rattle.std.specs.Prelude.{◌≡◌, ℕ, List, Option, Result}
+use Rattle.std.specs.Prelude.{◌≡◌, ℕ, List, Option}
 use Rattle.std.specs.Io.KnownBytes.{Appends}
 use Rattle.nix_dispatch.specs.declared.journal_files.Kept.{Kept}
 use Rattle.nix_dispatch.specs.declared.journal_files.Kept.TheVariants.{Nowhere, InFile}
