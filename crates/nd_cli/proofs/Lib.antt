@@ -1,0 +1,12 @@
+pub mod Accepted
+pub mod ClassReplying
+pub mod Fed
+pub mod Filled
+pub mod LocalTest
+pub mod PlacedReplying
+pub mod Refused
+pub mod Replying
+pub mod SameClass
+pub mod Sharing
+pub mod Slots
+pub mod Whole
