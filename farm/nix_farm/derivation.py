@@ -13,43 +13,26 @@ _STRUCTURED = re.compile(r'\\"requiredSystemFeatures\\":\[([^\]]+)\]')
 
 @dataclass
 class Derivation:
-    """A derivation: its path, and its text.
+    """A derivation: its path, and its text, which is empty where only its parts are kept.
 
-    outputs  the name and the path of each output, whose path is empty where it isn't known before
-    inputs   the path of each input derivation, and the names of those of its outputs that are wanted
-    sources  the paths of the sources
-    head     the text up to the inputs, and `tail` that behind the sources
+    outputs   the name and the path of each output, whose path is empty where it isn't known before
+    inputs    the path of each input derivation, and the names of those of its outputs that are wanted
+    sources   the paths of the sources
+    platform  the system that it is built for
+    features  the features that it requires of a machine
     """
 
     path: str
     text: str
-    head: str
-    tail: str
     outputs: List[Tuple[str, str]]
     inputs: List[Tuple[str, List[str]]]
     sources: List[str]
+    platform: str
+    features: List[str]
 
     @property
     def output_paths(self) -> List[str]:
         return [path for _, path in self.outputs if path]
-
-    @property
-    def platform(self) -> str:
-        """The system that it is built for."""
-        rest = self.tail[len('],"') :]
-        return rest[: rest.find('"')]
-
-    @property
-    def features(self) -> List[str]:
-        """The features that it requires of a machine."""
-        rest = self.tail[len('],"') :]
-        found = _FEATURES.search(rest)
-        if found:
-            return re.sub("[ \t]+", ",", found.group(1)).split(",")
-        found = _STRUCTURED.search(rest)
-        if found:
-            return re.sub("[ \t]+", ",", re.sub(r'[\\"]', "", found.group(1))).split(",")
-        return []
 
     def line(self) -> str:
         """Its line of a bundle."""
@@ -57,27 +40,41 @@ class Derivation:
 
     def recut(self, inputs: List[Tuple[str, List[str]]], sources: List[str]) -> str:
         """The text with these inputs and sources in place of its own."""
+        inputs_at, _, end = _places(self.text)
         written = ",".join(f'("{path}",[' + ",".join(f'"{name}"' for name in names) + "])" for path, names in inputs)
-        return self.head + written + "],[" + ",".join(f'"{path}"' for path in sources) + self.tail
+        listed = ",".join(f'"{path}"' for path in sources)
+        return self.text[:inputs_at] + written + "],[" + listed + self.text[end:]
 
 
-def read_line(line: str) -> Derivation:
-    """A derivation by its line of a bundle, which has no newline. ValueError where the text isn't one."""
-    path, _, text = line.partition(" ")
+def _places(text: str) -> Tuple[int, int, int]:
+    """Where in a text the inputs begin, where the sources begin, and where these end."""
     inputs_at = text.find("],[") + 3
     sources_at = text.find("],[", inputs_at) + 3
-    end = text.find('],"', sources_at)
+    return inputs_at, sources_at, text.find('],"', sources_at)
+
+
+def _features(text: str, end: int) -> List[str]:
+    """The features that a text requires behind a place."""
+    found = _FEATURES.search(text, end) or _STRUCTURED.search(text, end)
+    return re.sub("[ \t]+", ",", re.sub(r'[\\"]', "", found.group(1))).split(",") if found else []
+
+
+def read_line(line: str, keeps_text: bool = True) -> Derivation:
+    """A derivation by its line of a bundle, which has no newline. ValueError where the text isn't one."""
+    path, _, text = line.partition(" ")
+    inputs_at, sources_at, end = _places(text)
     if inputs_at < 3 or sources_at < 3 or end < 0:
         raise ValueError(f"{path} is no derivation")
     outputs = _OUTPUT.findall(text, 0, inputs_at)
     inputs = [(one, _WORD.findall(names)) for one, names in _INPUT.findall(text, inputs_at - 1, sources_at)]
     sources = _WORD.findall(text, sources_at, end)
-    return Derivation(path, text, text[:inputs_at], text[end:], outputs, inputs, sources)
+    platform = text[end + 3 : text.find('"', end + 3)]
+    return Derivation(path, text if keeps_text else "", outputs, inputs, sources, platform, _features(text, end))
 
 
-def read_bundle(text: str) -> List[Derivation]:
+def read_bundle(text: str, keeps_text: bool = True) -> List[Derivation]:
     """The derivations of a bundle."""
-    return [read_line(line) for line in text.split("\n") if line]
+    return [read_line(line, keeps_text) for line in text.split("\n") if line]
 
 
 def name_of(path: str) -> str:

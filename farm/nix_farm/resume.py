@@ -24,7 +24,7 @@ class Round:
 
     def __post_init__(self) -> None:
         if not self.drvs:
-            self.drvs = read_bundle(self.bundle.decode(errors="surrogateescape"))
+            self.drvs = read_bundle(self.bundle.decode(errors="surrogateescape"), keeps_text=False)
 
     @property
     def left_text(self) -> bytes:

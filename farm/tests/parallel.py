@@ -1,12 +1,12 @@
-"""Runs the tests of a module side by side: most of their time goes to processes that they wait for."""
+"""Runs tests side by side: most of their time goes to processes that they wait for."""
 
 import os
 import threading
 import unittest
 from concurrent.futures import ThreadPoolExecutor
-from typing import Any, Callable
+from typing import Any, Callable, Iterator
 
-LANES = max(2, min(8, (os.cpu_count() or 2)))
+LANES = max(4, min(16, 2 * (os.cpu_count() or 2)))
 
 
 class _Locked:
@@ -33,18 +33,14 @@ class SideBySide(unittest.TestSuite):
     def run(self, result: Any, debug: bool = False) -> Any:
         shared = _Locked(result)
         with ThreadPoolExecutor(LANES) as pool:
-            list(pool.map(lambda test: test.run(shared), _each(self)))
+            list(pool.map(lambda test: test.run(shared), each(self)))
         return result
 
 
-def _each(suite: Any) -> Any:
+def each(suite: Any) -> Iterator[Any]:
+    """The tests of a suite and of those within it."""
     for one in suite:
         if isinstance(one, unittest.TestSuite):
-            yield from _each(one)
+            yield from each(one)
         else:
             yield one
-
-
-def load_side_by_side(loader: Any, tests: Any, pattern: Any) -> Any:
-    """What a module has as its `load_tests`."""
-    return SideBySide(_each(tests))

@@ -4,10 +4,7 @@ import os
 import unittest
 from typing import List
 
-from tests.parallel import load_side_by_side
 from tests.world import FARM, FarmCase
-
-load_tests = load_side_by_side
 
 
 class Agent(FarmCase):

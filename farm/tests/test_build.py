@@ -5,10 +5,7 @@ import os
 import subprocess
 import unittest
 
-from tests.parallel import load_side_by_side
 from tests.world import FARM, FarmCase
-
-load_tests = load_side_by_side
 
 
 class Graphs(FarmCase):

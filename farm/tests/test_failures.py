@@ -3,10 +3,7 @@
 import os
 import unittest
 
-from tests.parallel import load_side_by_side
 from tests.world import FarmCase
-
-load_tests = load_side_by_side
 
 LOST = {"says": "error: unexpected end-of-file\n", "status": 1}
 DENIED = {"says": "nobody@one: Permission denied (publickey).\r\nerror: cannot connect to 'one'\n", "status": 1}

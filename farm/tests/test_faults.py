@@ -6,10 +6,7 @@ import signal
 import subprocess
 import unittest
 
-from tests.parallel import load_side_by_side
 from tests.world import FARM, FarmCase
-
-load_tests = load_side_by_side
 
 
 class Faults(FarmCase):

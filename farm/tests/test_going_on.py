@@ -7,11 +7,8 @@ import threading
 import time
 import unittest
 
-from tests.parallel import load_side_by_side
 from tests.stopped import Stopped
 from tests.world import Ran
-
-load_tests = load_side_by_side
 
 
 class Killed(Stopped):

@@ -3,10 +3,7 @@
 import unittest
 from typing import Dict
 
-from tests.parallel import load_side_by_side
 from tests.world import FarmCase
-
-load_tests = load_side_by_side
 
 LOST = {"says": "error: unexpected end-of-file\n", "status": 1}
 

@@ -5,10 +5,7 @@ import shutil
 import signal
 import unittest
 
-from tests.parallel import load_side_by_side
 from tests.world import FARM, FarmCase
-
-load_tests = load_side_by_side
 
 BUILT = os.path.join(os.path.dirname(FARM), "crates", "nix_dispatch", "out", "nix_dispatch")
 PROGRAM = os.environ.get("NIX_DISPATCH") or (BUILT if os.path.exists(BUILT) else None)

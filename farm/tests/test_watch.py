@@ -5,11 +5,8 @@ import subprocess
 import unittest
 from typing import List
 
-from tests.parallel import load_side_by_side
 from tests.stopped import Stopped
 from tests.world import FARM
-
-load_tests = load_side_by_side
 
 
 class Watched(Stopped):

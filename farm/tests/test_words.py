@@ -4,10 +4,7 @@ import os
 import re
 import unittest
 
-from tests.parallel import load_side_by_side
 from tests.world import FARM, FarmCase
-
-load_tests = load_side_by_side
 
 
 class Words(FarmCase):

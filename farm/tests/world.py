@@ -215,12 +215,13 @@ class World:
 
     def soon(self, what: Callable[[], Any], told: str = "it never came") -> Any:
         """Waits until something holds."""
-        end = time.monotonic() + PATIENCE
+        end, beat = time.monotonic() + PATIENCE, 0.01
         while time.monotonic() < end:
             found = what()
             if found:
                 return found
-            time.sleep(0.02)
+            time.sleep(beat)
+            beat = min(0.1, beat * 1.5)
         self.case.fail(f"{told}\n{self.bytes('begun.err').decode('latin-1')}")
 
     def end(self) -> None:
