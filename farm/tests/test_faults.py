@@ -3,7 +3,6 @@
 import json
 import os
 import signal
-import subprocess
 import unittest
 
 from tests.world import FARM, FarmCase
@@ -92,14 +91,11 @@ class Faults(FarmCase):
 
     def test_nobody_reads_what_is_said(self) -> None:
         world = self.world
-        command = world.command([world.drv("root")])
         reading, writing = os.pipe()
         os.close(reading)
-        done = subprocess.run(
-            command, env=world.env(), stdin=subprocess.DEVNULL, stdout=writing, stderr=writing, timeout=300, check=False
-        )
+        begun = world.start(world.command([world.drv("root")]), writing, writing)
         os.close(writing)
-        self.assertEqual(done.returncode, 0)
+        self.assertEqual(begun.wait(300), 0)
         self.assertEqual(world.report()["counts"]["built"], 1)
 
 
