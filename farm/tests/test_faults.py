@@ -2,6 +2,7 @@
 
 import json
 import os
+import shutil
 import signal
 import unittest
 
@@ -85,6 +86,7 @@ class Faults(FarmCase):
         self.ended(ran, 5)
         self.says(ran, "report.json is left in ")
         left = ran.err.split("report.json is left in ")[1].split("\n")[0]
+        self.addCleanup(shutil.rmtree, os.path.dirname(left))
         with open(left, encoding="ascii") as file:
             self.assertEqual(json.load(file)["counts"]["built"], 1)
         self.assertTrue(world.is_valid(world.output(root)))

@@ -228,6 +228,7 @@ class World:
         self.case.fail(f"{told}\n{self.bytes('begun.err').decode('latin-1')}")
 
     def end(self) -> None:
+        """Ends what still goes on, and takes away what killed runs have left elsewhere."""
         for one in self.started:
             if one.poll() is None:
                 self.kill(one)
@@ -236,6 +237,9 @@ class World:
                 os.kill(number, signal.SIGKILL)
             except ProcessLookupError:
                 pass
+
+        for link in glob.glob(glob.escape(self.folder) + "/*/.agents"):
+            shutil.rmtree(os.readlink(link), ignore_errors=True)
 
     # What has come of it.
 
