@@ -237,7 +237,6 @@ class World:
                 os.kill(number, signal.SIGKILL)
             except ProcessLookupError:
                 pass
-
         for link in glob.glob(glob.escape(self.folder) + "/*/.agents"):
             shutil.rmtree(os.readlink(link), ignore_errors=True)
 
