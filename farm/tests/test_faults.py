@@ -2,8 +2,8 @@
 
 import json
 import os
+import shutil
 import signal
-import subprocess
 import unittest
 
 from tests.world import FARM, FarmCase
@@ -86,20 +86,18 @@ class Faults(FarmCase):
         self.ended(ran, 5)
         self.says(ran, "report.json is left in ")
         left = ran.err.split("report.json is left in ")[1].split("\n")[0]
+        self.addCleanup(shutil.rmtree, os.path.dirname(left))
         with open(left, encoding="ascii") as file:
             self.assertEqual(json.load(file)["counts"]["built"], 1)
         self.assertTrue(world.is_valid(world.output(root)))
 
     def test_nobody_reads_what_is_said(self) -> None:
         world = self.world
-        command = world.command([world.drv("root")])
         reading, writing = os.pipe()
         os.close(reading)
-        done = subprocess.run(
-            command, env=world.env(), stdin=subprocess.DEVNULL, stdout=writing, stderr=writing, timeout=300, check=False
-        )
+        begun = world.start(world.command([world.drv("root")]), writing, writing)
         os.close(writing)
-        self.assertEqual(done.returncode, 0)
+        self.assertEqual(begun.wait(300), 0)
         self.assertEqual(world.report()["counts"]["built"], 1)
 
 

@@ -88,11 +88,7 @@ class Signals(Stopped):
         reading, writing = os.pipe()
         fcntl.fcntl(writing, 1031, 4096)  # F_SETPIPE_SZ: so the report, which nobody reads yet, fills it
         os.write(writing, bytes(4096))
-        begun = subprocess.Popen(
-            world.command([world.drv("root")]), env=world.env(), stdin=subprocess.DEVNULL, stdout=writing,
-            stderr=subprocess.DEVNULL, start_new_session=True,
-        )
-        world.started.append(begun)
+        begun = world.start(world.command([world.drv("root")]), writing, subprocess.DEVNULL)
         os.close(writing)
         world.soon(lambda: os.path.exists(world.at("out/report.json")))
         time.sleep(0.2)

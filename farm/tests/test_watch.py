@@ -17,11 +17,7 @@ class Watched(Stopped):
         root = world.drv("second", [world.drv("first")])
         command = world.command([root])
         mine, its = os.openpty()
-        done = subprocess.Popen(
-            command, env=world.env(), stdin=subprocess.DEVNULL, stdout=subprocess.DEVNULL, stderr=its,
-            start_new_session=True,
-        )
-        world.started.append(done)
+        done = world.start(command, subprocess.DEVNULL, its)
         os.close(its)
         said = self.read_all(mine)
         self.assertEqual(done.wait(300), 0)
@@ -35,10 +31,7 @@ class Watched(Stopped):
         world = self.world
         begun = self.begin()
         with open(world.at("watched"), "wb") as said:
-            watching = subprocess.Popen(
-                [os.path.join(FARM, "watch"), world.at("out")], env=world.env(), stdin=subprocess.DEVNULL, stderr=said
-            )
-        world.started.append(watching)
+            watching = world.start([os.path.join(FARM, "watch"), world.at("out")], subprocess.DEVNULL, said)
         world.soon(lambda: b"1 of 3: built first on 1." in world.bytes("watched"))
         self.assertIsNone(watching.poll())
         self.open_gate()

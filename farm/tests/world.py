@@ -164,24 +164,27 @@ class World:
     def build(self, *words: Any, **given: Any) -> Ran:
         return self.call(self.command(words, **given))
 
-    def call(self, command: Sequence[Any], **more: Any) -> Ran:
-        self.save()
-        done = subprocess.run(
-            command, env=self.env(), stdin=subprocess.DEVNULL, stdout=subprocess.PIPE, stderr=subprocess.PIPE,
-            timeout=PATIENCE, cwd=self.folder, start_new_session=True, check=False, **more,
+    def start(self, command: Sequence[Any], stdout: Any, stderr: Any) -> subprocess.Popen:
+        """Starts a command as the leader of a process group. Signals have their defaults there, also behind nohup."""
+        words = ["env", "--default-signal=HUP,INT,TERM", *command]
+        one = subprocess.Popen(
+            words, env=self.env(), stdin=subprocess.DEVNULL, stdout=stdout, stderr=stderr, cwd=self.folder,
+            start_new_session=True,
         )
-        return Ran(done.returncode, done.stdout, done.stderr)
-
-    def begin(self, *words: Any, **given: Any) -> subprocess.Popen:
-        """The same in the background, as the leader of a process group; its words go to files of the folder."""
-        command = self.command(words, **given)
-        with open(self.at("begun.out"), "wb") as out, open(self.at("begun.err"), "wb") as err:
-            one = subprocess.Popen(
-                command, env=self.env(), stdin=subprocess.DEVNULL, stdout=out, stderr=err, cwd=self.folder,
-                start_new_session=True,
-            )
         self.started.append(one)
         return one
+
+    def call(self, command: Sequence[Any]) -> Ran:
+        """Runs a command to its end."""
+        self.save()
+        one = self.start(command, subprocess.PIPE, subprocess.PIPE)
+        out, err = one.communicate(timeout=PATIENCE)
+        return Ran(one.returncode, out, err)
+
+    def begin(self, *words: Any, **given: Any) -> subprocess.Popen:
+        """farm/build in the background; its words go to files of the folder."""
+        with open(self.at("begun.out"), "wb") as out, open(self.at("begun.err"), "wb") as err:
+            return self.start(self.command(words, **given), out, err)
 
     def wait(self, one: subprocess.Popen) -> Ran:
         status = one.wait(PATIENCE)
@@ -225,6 +228,7 @@ class World:
         self.case.fail(f"{told}\n{self.bytes('begun.err').decode('latin-1')}")
 
     def end(self) -> None:
+        """Ends what still goes on, and takes away what killed runs have left elsewhere."""
         for one in self.started:
             if one.poll() is None:
                 self.kill(one)
@@ -233,6 +237,8 @@ class World:
                 os.kill(number, signal.SIGKILL)
             except ProcessLookupError:
                 pass
+        for link in glob.glob(glob.escape(self.folder) + "/*/.agents"):
+            shutil.rmtree(os.readlink(link), ignore_errors=True)
 
     # What has come of it.
 
