@@ -72,14 +72,15 @@ impl<'a, F: OpenFile + Drop> Kept<'a, F> {
 }
 
 impl<F: Write + OpenFile> Journal for Kept<'_, F> {
-    ghost use Rattle.std.specs.Prelude.{None, OnOk};
-    ghost use Rattle.nd_keeping.specs.Stored.{IsAppended};
+    ghost use Rattle.std.specs.Prelude.{None, OnErr, OnOk};
+    ghost use Rattle.nd_keeping.specs.Stored.{HoldsPart, IsAppended};
     ghost use Rattle.nix_dispatch.specs.Files.{KeepsBytes};
 
     ghost stored = { λ _. None };
 
     fn append(&mut self, bytes: &[u8]) -> io::Result<()>
         ensures stored { OnOk result (IsAppended None None bytes.now) }
+        ensures refused { OnErr result (HoldsPart None None bytes.now) }
         ensures written { OnOk result (KeepsBytes F.contents self.old self.new bytes.now) }
     {
         let Kept::InFile { file, refusal, .. } = self else {
