@@ -7,6 +7,7 @@ pub mod PlacedReplying
 pub mod Refused
 pub mod Replying
 pub mod SameClass
+pub mod Sent
 pub mod Sharing
 pub mod Slots
 pub mod Whole

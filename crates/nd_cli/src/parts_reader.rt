@@ -8,6 +8,7 @@ use std::thread::Threads;
 
 /// A reader of a bundle whose text comes in blocks, whatever it answers at the end.
 pub(crate) trait PartsReader: Send {
+    ghost use Rattle.std.specs.Thread.{IsSync};
     ghost use Rattle.nd_bundle.specs.Reading.{Reading};
 
     /// Whether paths are checked, and the text so far.
@@ -17,6 +18,7 @@ pub(crate) trait PartsReader: Send {
     ///
     /// Refuses where an allocation is refused.
     fn feed<T: Threads + Sync>(&mut self, rt: &T, block: &[u8]) -> Result<(), AllocError>
+        requires { IsSync T.row }
         ensures check { (reading self.new).check ≡ (reading self.old).check }
         ensures text { (reading self.new).text ≡ (reading self.old).text ++ block.now };
 }
