@@ -50,8 +50,8 @@ split_there (b ∷ text) more newline = by (b == 10) refl (split_there text more
   where
     by : (t : Bool) → (b == 10) ≡ t → (behind (λ c. c == 10) (take_through 10 text) ≡ Some more → text ≡ front text ++ 10 ∷ drop_through 10 text)
         → b ∷ text ≡ front (b ∷ text) ++ 10 ∷ drop_through 10 (b ∷ text)
-    by true e later = rw (e, e) (ap (λ (c : ℕ). c ∷ text) (eqb-true b 10 e))
-    by false e later = rw (e, e) (ap (λ (l : List ℕ). b ∷ l) (later (sym (passed b text e) ∙ newline)))
+    by true e later = rw e (ap (λ (c : ℕ). c ∷ text) (eqb-true b 10 e))
+    by false e later = rw e (ap (λ (l : List ℕ). b ∷ l) (later (sym (passed b text e) ∙ newline)))
 
 -- .. and one without any is plain
 plain_there : (text : List ℕ) → behind (λ b. b == 10) (take_through 10 text) ≡ None → IsPlain text
