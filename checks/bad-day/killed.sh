@@ -203,6 +203,7 @@ begun_anew() {
     root=$(drv steps)
     begin "anew$reason" --jobs 0 "$root"
     soon 300 logged ' end .* 0$'
+    soon 300 has "$folder/$name/journal.1" '^built '
     sleep 1
     kill_all
     want "$reason: something goes on behind it" soon 200 all_ended
@@ -216,8 +217,10 @@ begun_anew() {
         echo nothing >> "$folder/$name/journal.1" ;;
       store)
         said="isn't all there"
+        # with what refers to it, which may have come back and isn't noted yet: Nix deletes nothing that a valid path refers to
         # shellcheck disable=SC2046  # store paths
-        nix-store --delete --ignore-liveness $(xargs nix-store --query --outputs < "$folder/$name.ended") > /dev/null 2>&1
+        nix-store --delete --ignore-liveness $(xargs nix-store --query --outputs < "$folder/$name.ended" |
+          xargs nix-store --query --referrers-closure | sort -u) > /dev/null 2>&1
         : > "$folder/$name.ended" ;;
     esac
     build "anew$reason" --jobs "$jobs" "$root"

@@ -209,10 +209,6 @@ class Daemon:
         ]
         await self._call(Operation.ADD_TO_STORE_NAR, b"".join(words))
 
-    async def keep(self, path: str) -> None:
-        """Keeps a path from the garbage collector as long as this process lives."""
-        await self._call(Operation.ADD_TEMP_ROOT, wire.words(path), wire.Hearing.number)
-
     async def keep_links(self, links: Sequence[str]) -> None:
         """Keeps what links lead to from the garbage collector as long as these stand. Many are asked for at once."""
         for at in range(0, len(links), 128):

@@ -69,8 +69,6 @@ class Here:
         """
         async with self._lock:
             for link, path in links.items():
-                if os.path.lexists(self._root + path):
-                    await self._daemon.keep(path)
                 new = f"{link}.new"
                 if os.path.islink(new):
                     os.unlink(new)

@@ -20,7 +20,6 @@ class Operation(IntEnum):
     """What a daemon is asked for."""
 
     BUILD_PATHS = 9
-    ADD_TEMP_ROOT = 11
     ADD_INDIRECT_ROOT = 12
     SET_OPTIONS = 19
     QUERY_PATH_INFO = 26

@@ -157,11 +157,9 @@ class Graphs(FarmCase):
         self.assertEqual([os.readlink(world.at(f"out/{name}")) for name in ("result", "result-1", "result-2")], made)
 
     def test_no_link(self) -> None:
-        for word in ("--no-link", "--no-out-link"):
-            world = self.world
-            ran = world.build(word, world.drv("root"), out=word)
-            self.ended(ran, 0)
-            self.assertFalse(os.path.lexists(world.at(f"{word}/result")))
+        world = self.world
+        self.ended(world.build("--no-link", world.drv("root")), 0)
+        self.assertFalse(os.path.lexists(world.at("out/result")))
 
     def test_the_history_is_that_of_the_run(self) -> None:
         world = self.world

@@ -92,17 +92,21 @@ class Builders(FarmCase):
         self.assertEqual(world.report()["rounds"], 1)
 
     def test_statuses_of_nix(self) -> None:
+        world = self.world
         for status, words in (
             (101, "building of 'x' timed out after 2 seconds"), (102, "hash mismatch in fixed-output derivation 'x':"),
             (104, "derivation 'x' may not be deterministic"),
             (100, "output 'x' is not allowed to refer to the following paths:"),
         ):
-            world = self.world
-            name = f"root{status}"
-            root = world.drv(name)
-            world.happens("builds", name, {"says": f"error: {words}\n", "status": 100})
-            self.ended(world.build(root, out=name), 1)
-            self.assertEqual(world.history(out=name)[-1], f"failed 0 status {status}")
+            world.drv(f"status{status}")
+            world.happens("builds", f"status{status}", {"says": f"error: {words}\n", "status": 100})
+        self.ended(world.build("-k", *world.drvs), 1)
+        names = world.bundle()
+        for line in world.history():
+            words = line.split(" ")
+            if words[0] == "failed":
+                self.assertEqual("".join(words[2:]), names[int(words[1])])
+        self.assertEqual(world.counts()["failed"], 4)
 
     def test_a_failure_on_a_machine(self) -> None:
         world = self.world
@@ -245,13 +249,10 @@ class Machines(FarmCase):
 
     def test_retries(self) -> None:
         world = self.world
-        world.drv("root")
         world.happens("builds", "root", LOST)
-        for retries in (0, 1):
-            ran = world.build("--retries", str(retries), world.drv("root"), out=f"out{retries}")
-            self.ended(ran, 1)
-            self.assertEqual(world.report(f"out{retries}")["rounds"], retries + 1)
-            self.assertEqual(world.report(f"out{retries}")["by_name"]["root"]["cause"], "unexpected end-of-file")
+        self.ended(world.build("--retries", "1", world.drv("root")), 1)
+        self.assertEqual(world.report()["rounds"], 2)
+        self.assertEqual(world.report()["by_name"]["root"]["cause"], "unexpected end-of-file")
 
     def test_a_machine_to_blame_in_two_rounds_gets_nothing_more(self) -> None:
         world = self.world

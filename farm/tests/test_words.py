@@ -4,6 +4,8 @@ import os
 import re
 import unittest
 
+from nix_farm.errors import GivenUp, Usage
+from nix_farm.options import parse
 from tests.world import FARM, FarmCase
 
 
@@ -36,16 +38,9 @@ class Words(FarmCase):
         self.assertIn("farm/build [-o FOLDER] [OPTION ..] ROOT.drv ..", ran.out)
 
     def test_what_is_not_understood(self) -> None:
-        world = self.world
-        root = world.drv("root")
-        for words in (
-            [], ["--jobs", "08", root], ["--retries", "-1", root], ["--retries", "x", root], ["--none", root],
-            [root, "-o"], ["--option", "name", root], ["--option", "", "x", root],
-            ["--option", "name", "two words", root], ["--option", "Name", "x", root], ["not-a-derivation"],
-            ["--timeout", "", root],
-        ):
-            ran = world.call([os.path.join(FARM, "build"), *words])
-            self.assertEqual((words, ran.status), (words, 2))
+        for words in (["--none", self.world.drv("root")], ["not-a-derivation"]):
+            ran = self.world.call([os.path.join(FARM, "build"), *words])
+            self.ended(ran, 2)
             self.assertTrue(ran.err)
 
     def test_a_root_that_is_a_link(self) -> None:
@@ -114,6 +109,33 @@ class Words(FarmCase):
         self.ended(ran, 4)
         self.says(ran, "illegal 1 another machine")
         self.assertEqual(world.report()["status"], 4)
+
+
+class Parsed(unittest.TestCase):
+    """The words by themselves."""
+
+    def test_what_is_not_understood(self) -> None:
+        for words in (
+            [], ["--jobs", "08"], ["--jobs", ""], ["--retries", "-1"], ["--retries", "x"], ["--timeout", ""],
+            ["--none"], ["-o"], ["--option", "name"],
+        ):
+            with self.assertRaises(Usage, msg=str(words)):
+                parse(["/nix/store/x.drv", *words] if words else [])
+
+    def test_what_is_refused_in_words(self) -> None:
+        for words in (
+            ["--option", "", "x"], ["--option", "name", "two words"], ["--option", "Name", "x"], ["not-a-derivation"]
+        ):
+            with self.assertRaises(GivenUp, msg=str(words)) as caught:
+                parse(["/nix/store/x.drv", *words])
+            self.assertEqual(caught.exception.status, 2)
+
+    def test_names_of_one_thing(self) -> None:
+        for words in (["--jobs", "3"], ["-j", "3"], ["--max-jobs", "3"]):
+            self.assertEqual(parse([*words, "x.drv"]).jobs, "3")
+        for word in ("--no-link", "--no-out-link"):
+            self.assertFalse(parse([word, "x.drv"]).link)
+        self.assertEqual(parse(["-k", "-K", "x.drv"]), parse(["--keep-going", "--keep-failed", "x.drv"]))
 
 
 class Substitutes(FarmCase):
