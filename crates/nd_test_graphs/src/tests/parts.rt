@@ -222,8 +222,8 @@ fn is_read_in_blocks<R: Threads + Sync>(rt: &R, alloc: Global, text: &[u8], want
         && seen_of(read_parts(rt, alloc, &[front, middle, back])) == want
 }
 
-/// Whether 16,384 lines in blocks of which each has enough for many threads have this answer with a line that is refused at this place and the first line again behind it, where there is such a
-/// place. Want of memory is a no.
+/// Whether 16,384 lines in blocks of which each has enough for many threads have this answer with a line that is refused
+/// at this place and the first line again behind it, where there is such a place. Want of memory is a no.
 fn are_blocks_read<R: Threads + Sync>(rt: &R, alloc: Global, refused: usize, want: Seen) -> bool {
     let Ok(first) = many(alloc, 1, &[]) else {
         return false;
