@@ -89,7 +89,7 @@ fn kinds(alloc: Global, count: usize, kinds: usize) -> Result<Vec<u8>, AllocErro
     Ok(text)
 }
 
-/// How many needs the table has of so many derivations of so many kinds, in rooms of so many bytes, or none where they aren't
+/// How many needs the table has of so many derivations of so many kinds, in blocks of so many bytes, or none where they aren't
 /// those of their graph.
 fn shared<R: Threads + Sync>(
     rt: &R,
