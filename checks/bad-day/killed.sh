@@ -68,7 +68,7 @@ killed_run() {
   salt=killrun
   root=$(drv steps)
   begin killrun --jobs 0 "$root"
-  soon 300 logged ' end '
+  soon 300 has "$folder/$name/journal.1" '^built '
   # shellcheck disable=SC2046  # process numbers
   kill -9 $(below_with "$builder" 'run --agents')
   want 'it goes on' soon 300 ended

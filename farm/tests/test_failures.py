@@ -213,7 +213,7 @@ class Machines(FarmCase):
         bad = world.machine("bad", ssh=True, speed=9)
         world.machine("good", ssh=True)
         world.happens("pings", bad, {"seconds": 100})
-        ran = world.build("--connect-timeout", "1", world.drv("root"), jobs=0)
+        ran = world.build("--connect-timeout", "3", world.drv("root"), jobs=0)
         self.ended(ran, 0)
         self.says(ran, "down: ssh://bad.*: no answer in time")
         self.assertEqual(world.builds(), [("root", "good")])

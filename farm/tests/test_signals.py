@@ -8,7 +8,7 @@ import time
 import unittest
 
 from tests.stopped import Stopped
-from tests.world import Ran
+from tests.world import Ran, read_all
 
 
 class Signals(Stopped):
@@ -94,8 +94,7 @@ class Signals(Stopped):
         time.sleep(0.2)
         begun.send_signal(signal.SIGTERM)
         time.sleep(0.2)
-        with os.fdopen(reading, "rb") as said:
-            self.assertIn(b"built 1\n", said.read())
+        self.assertIn(b"built 1\n", read_all(reading))
         self.assertEqual(begun.wait(300), 143)
         self.assertEqual((world.report()["status"], world.report()["counts"]["built"]), (143, 1))
 

@@ -3,10 +3,9 @@
 import os
 import subprocess
 import unittest
-from typing import List
 
 from tests.stopped import Stopped
-from tests.world import FARM
+from tests.world import FARM, read_all
 
 
 class Watched(Stopped):
@@ -19,9 +18,8 @@ class Watched(Stopped):
         mine, its = os.openpty()
         done = world.start(command, subprocess.DEVNULL, its)
         os.close(its)
-        said = self.read_all(mine)
+        shown = read_all(mine).decode("latin-1")
         self.assertEqual(done.wait(300), 0)
-        shown = b"".join(said).decode("latin-1")
         self.assertRegex(shown, r"\r\x1b\[Kbuilt 0, leased 1, failed 0, waiting 1  0\.0 first")
         self.assertRegex(shown, r"\r\x1b\[Kbuilt 2, leased 0, failed 0, waiting 0")
         self.assertNotIn("1 of 2", shown)
@@ -43,18 +41,6 @@ class Watched(Stopped):
         ran = self.world.call([os.path.join(FARM, "watch"), self.world.at("none")])
         self.assertNotEqual(ran.status, 0)
         self.assertTrue(ran.err)
-
-    def read_all(self, terminal: int) -> List[bytes]:
-        said = []
-        while True:
-            try:
-                part = os.read(terminal, 65536)
-            except OSError:
-                part = b""
-            if not part:
-                os.close(terminal)
-                return said
-            said.append(part)
 
 
 if __name__ == "__main__":

@@ -9,6 +9,7 @@ import glob
 import hashlib
 import json
 import os
+import select
 import shutil
 import signal
 import subprocess
@@ -33,6 +34,21 @@ def store_path(name: str) -> str:
 
 def quoted(words: Sequence[str]) -> str:
     return ",".join(f'"{word}"' for word in words)
+
+
+def read_all(descriptor: int) -> bytes:
+    """What comes from a pipe or a terminal until it ends, or until nothing has come for as long as anything may take."""
+    said = b""
+    while select.select([descriptor], [], [], PATIENCE)[0]:
+        try:
+            part = os.read(descriptor, 65536)
+        except OSError:  # a terminal that nobody writes to any more
+            break
+        if not part:
+            break
+        said += part
+    os.close(descriptor)
+    return said
 
 
 class Ran:

@@ -85,7 +85,7 @@ class World:
         """Does what happens, and answers the status. What is said goes to `tell`, or to standard error."""
         (tell or say)(what.get("says", ""))
         time.sleep(what.get("seconds", 0))
-        left = 600
+        left = 3000
         while "waits" in what and not os.path.exists(what["waits"]) and left > 0:
             time.sleep(0.1)
             left -= 1
