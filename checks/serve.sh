@@ -45,6 +45,13 @@ sed -n 's/ .*//; 4,$p' "$folder/answers" | tr '\n' ' ' > "$folder/words"
 printf 'job ready started ready refused ready built chosen chosen chosen ready refused ready ' | cmp - "$folder/words" \
   || fail 'the answers are not those of docs/SERVE.md'
 
+# A command that is cut off while it is written is none, though it reads as one.
+printf 'start 0\nbuilt 0' \
+  | "$program" serve --bundle "$farm/bundle" --builders "@$farm/builders" --extra aarch64-linux --features kvm,nixos-test \
+    > "$folder/answers" || fail "a line that is cut off ends with status $?"
+grep -q '^started 0' "$folder/answers" || fail 'a whole line is not done'
+[ "$(grep -cx ready "$folder/answers")" -eq 2 ] || fail 'a line that is cut off is done'
+
 # A journal holds a legal history, and this many derivations are built in it.
 audited() {
   "$program" audit --bundle "$farm/bundle" --builders "@$farm/builders" --extra aarch64-linux \

@@ -1,6 +1,6 @@
 -- What was read of a text that comes in parts, put together.
-use Rattle.std.proofs.Common.{◌≡◌, ℕ, zero, suc, ◌+◌, ◌-◌, ◌≤◌, Bool, List, [], ◌∷◌, ◌++◌, drop, drop_at, length, length-append, map, take, take-take, take_at, Option, Some, None, Result, Ok, refl, sym, ap, arith, ◌∙◌, subst, append_assoc}
-use Rattle.std.proofs.lemmas.List.{append-nil, drop-take}
+use Rattle.std.proofs.Common.{◌≡◌, ℕ, ◌+◌, Bool, List, [], ◌∷◌, ◌++◌, length, map, Option, Some, None, Result, Ok, refl, sym, ap, ◌∙◌, subst, append_assoc}
+use Rattle.std.proofs.lemmas.List.{append-nil}
 use Rattle.std.specs.List.{AllZip}
 use Rattle.std.specs.declared.alloc.AllocError.{AllocError}
 use Rattle.nd_graph.specs.Walks.{AreDistinct}
@@ -16,7 +16,7 @@ use Rattle.nd_bundle.specs.Parts.{ArePieces, GoesOn, HasWholeLines, IsFaultBy, I
 use Rattle.nd_links.specs.Columned.{HasSameNodes, IsAppended}
 use Rattle.nd_bundle.specs.Pieces.{IsReadText}
 use Rattle.nd_bundle.specs.ReadingLines.{ReadingLines}
-use Rattle.nd_bundle.specs.declared.ahead.Ahead.{Ahead}
+use Rattle.nd_bundle.specs.declared.gathered.Gathered.{Gathered}
 use Rattle.nd_links.specs.declared.columns.Columns.{Columns}
 use Rattle.nd_links.specs.declared.details.Details.{Details}
 use Rattle.nd_links.specs.declared.fault.GraphError.{GraphError}
@@ -26,7 +26,7 @@ use Rattle.nd_bundle.specs.declared.found.Numbered.{Numbered}
 use Rattle.nd_bundle.specs.declared.manner.Manner.{Manner}
 use Rattle.nd_links.specs.declared.number.Numbers.{Numbers}
 use Rattle.nd_bundle.specs.declared.piece.Piece.{Piece}
-use Rattle.nd_bundle.specs.declared.progress.Progress.{Progress}
+use Rattle.nd_bundle.specs.declared.reached.Reached.{Reached}
 use Rattle.nd_bundle.proofs.Newlines.{line_ends, lines_in-append}
 use Rattle.nd_bundle.proofs.Pieced.{fault_here}
 use Rattle.nd_bundle.proofs.Said.{many_numbered, says_more}
@@ -174,95 +174,90 @@ fault_for_memory check text fault is = subst (λ (e : GraphError). IsFirstFault 
 -- ---- parts of a text
 
 -- what was read of lines, behind which the rest stands
-settled : (manner : Manner) (text : List ℕ) (ahead : Ahead) (rest : List ℕ) (refused : Option GraphError) (ls : List (List ℕ)) → IsReadTo manner ls ahead refused → ((behind : List ℕ) → lines (text ++ behind) ≡ ls ++ lines (rest ++ behind)) → IsReadUntil manner text ahead rest refused
-settled manner text ahead rest None ls so cut = record { ls = ls; says = so; cut = cut }
-settled manner text ahead rest (Some fault) ls so cut = record { first = λ behind. so.first (text ++ behind) (lines (rest ++ behind)) (cut behind) }
+settled : (manner : Manner) (text : List ℕ) (gathered : Gathered) (rest : List ℕ) (refused : Option GraphError) (ls : List (List ℕ)) → IsReadTo manner ls gathered refused → ((behind : List ℕ) → lines (text ++ behind) ≡ ls ++ lines (rest ++ behind)) → IsReadUntil manner text gathered rest refused
+settled manner text gathered rest None ls so cut = record { ls = ls; says = so; cut = cut }
+settled manner text gathered rest (Some fault) ls so cut = record { first = λ behind. so.first (text ++ behind) (lines (rest ++ behind)) (cut behind) }
 
-pub is_unread : (progress : Progress) → IsReadNowhere progress.ahead → progress.rest.items ≡ [] → IsUnread progress
-is_unread progress none empty = record {
+pub is_unread : (reached : Reached) → IsReadNowhere reached.gathered → reached.rest.items ≡ [] → IsUnread reached
+is_unread reached none empty = record {
   nothing = λ manner.
-      settled manner [] progress.ahead progress.rest.items progress.ahead.found.refused [] (none.nowhere manner) (λ behind. ap (λ (xs : List ℕ). lines (xs ++ behind)) (sym empty));
+      settled manner [] reached.gathered reached.rest.items reached.gathered.found.refused [] (none.nowhere manner) (λ behind. ap (λ (xs : List ℕ). lines (xs ++ behind)) (sym empty));
 }
 
-pub is_spent : (progress : Progress) → progress.ahead.found.refused ≡ Some bundle.Memory → IsSpent progress
-is_spent progress is = record {
-  whatever = λ manner text. subst (λ (r : Option GraphError). IsReadUntil manner text progress.ahead progress.rest.items r) (sym is) (record { first = λ behind. tt });
+pub is_spent : (reached : Reached) → reached.gathered.found.refused ≡ Some bundle.Memory → IsSpent reached
+is_spent reached is = record {
+  whatever = λ manner text. subst (λ (r : Option GraphError). IsReadUntil manner text reached.gathered reached.rest.items r) (sym is) (record { first = λ behind. tt });
 }
 
-pub goes_spent : (manner : Manner) (text : List ℕ) (old new : Progress) → IsSpent new → GoesOn manner text old new
+pub goes_spent : (manner : Manner) (text : List ℕ) (old new : Reached) → IsSpent new → GoesOn manner text old new
 goes_spent manner text old new spent = record { goes = λ before so. spent.whatever manner (before ++ text) }
 
 -- what was read with no refusal
-as_far : (manner : Manner) (text : List ℕ) (progress : Progress) → progress.ahead.found.refused ≡ None → IsReading manner text progress → IsReadAsFar manner text progress.ahead progress.rest.items
-as_far manner text progress none so = subst (λ (r : Option GraphError). IsReadUntil manner text progress.ahead progress.rest.items r) none so
+as_far : (manner : Manner) (text : List ℕ) (reached : Reached) → reached.gathered.found.refused ≡ None → IsReading manner text reached → IsReadAsFar manner text reached.gathered reached.rest.items
+as_far manner text reached none so = subst (λ (r : Option GraphError). IsReadUntil manner text reached.gathered reached.rest.items r) none so
 
 -- .. up to a refusal
-refused_as_far : (manner : Manner) (text : List ℕ) (progress : Progress) (fault : GraphError) → progress.ahead.found.refused ≡ Some fault → IsReading manner text progress → IsRefusedAsFar manner text fault
-refused_as_far manner text progress fault is so = subst (λ (r : Option GraphError). IsReadUntil manner text progress.ahead progress.rest.items r) is so
+refused_as_far : (manner : Manner) (text : List ℕ) (reached : Reached) (fault : GraphError) → reached.gathered.found.refused ≡ Some fault → IsReading manner text reached → IsRefusedAsFar manner text fault
+refused_as_far manner text reached fault is so = subst (λ (r : Option GraphError). IsReadUntil manner text reached.gathered reached.rest.items r) is so
 
 -- .. is what was found in the lines
-found_as_far : (manner : Manner) (text : List ℕ) (progress : Progress) → progress.ahead.found.refused ≡ None → (far : IsReadAsFar manner text progress.ahead progress.rest.items) → IsReadIn manner far.ls progress.ahead
-found_as_far manner text progress none far = subst (λ (r : Option GraphError). IsReadTo manner far.ls progress.ahead r) (sym none) far.says
+found_as_far : (manner : Manner) (text : List ℕ) (reached : Reached) → reached.gathered.found.refused ≡ None → (far : IsReadAsFar manner text reached.gathered reached.rest.items) → IsReadIn manner far.ls reached.gathered
+found_as_far manner text reached none far = subst (λ (r : Option GraphError). IsReadTo manner far.ls reached.gathered r) (sym none) far.says
 
-pub goes_refused : (manner : Manner) (text : List ℕ) (old : Progress) (fault : GraphError) → old.ahead.found.refused ≡ Some fault → GoesOn manner text old old
+pub goes_refused : (manner : Manner) (text : List ℕ) (old : Reached) (fault : GraphError) → old.gathered.found.refused ≡ Some fault → GoesOn manner text old old
 goes_refused manner text old fault is = record {
   goes = λ before so.
       let of : IsRefusedAsFar manner before fault = refused_as_far manner before old fault is so in
-      subst (λ (r : Option GraphError). IsReadUntil manner (before ++ text) old.ahead old.rest.items r) (sym is)
+      subst (λ (r : Option GraphError). IsReadUntil manner (before ++ text) old.gathered old.rest.items r) (sym is)
       (record { first = λ behind. subst (λ (xs : List ℕ). IsFirstFault manner.check xs fault) (sym (append_assoc before text behind)) (of.first (text ++ behind)) });
 }
 
 -- the text has no newline
-pub goes_within : (manner : Manner) (text : List ℕ) (old new : Progress) → old.ahead.found.refused ≡ None → new.ahead ≡ old.ahead → new.rest.items ≡ old.rest.items ++ text → GoesOn manner text old new
+pub goes_within : (manner : Manner) (text : List ℕ) (old new : Reached) → old.gathered.found.refused ≡ None → new.gathered ≡ old.gathered → new.rest.items ≡ old.rest.items ++ text → GoesOn manner text old new
 goes_within manner text old new none same grown = record {
   goes = λ before so.
       let far = as_far manner before old none so in
-      settled manner (before ++ text) new.ahead new.rest.items new.ahead.found.refused far.ls
-      (subst (λ (f : Ahead). IsReadIn manner far.ls f) (sym same) (found_as_far manner before old none far))
+      settled manner (before ++ text) new.gathered new.rest.items new.gathered.found.refused far.ls
+      (subst (λ (f : Gathered). IsReadIn manner far.ls f) (sym same) (found_as_far manner before old none far))
       (λ behind. ap (λ (xs : List ℕ). lines xs) (append_assoc before text behind) ∙ far.cut (text ++ behind)
       ∙ ap (λ (xs : List ℕ). far.ls ++ lines xs) (sym (append_assoc old.rest.items text behind)) ∙ ap (λ (xs : List ℕ). far.ls ++ lines (xs ++ behind)) (sym grown));
 }
 
-at_most : (n : ℕ) (xs : List ℕ) → length (take n xs) ≤ n
-at_most zero xs = omega arith
-at_most (suc n) [] = omega arith
-at_most (suc n) (x ∷ xs) = let h = at_most n xs in omega (arith, h)
-
--- what is behind a place of the first bytes of a room
-pub behind_in : (room : List ℕ) (from filled : ℕ) → from ≤ filled → drop from (take filled room) ≡ take (filled - from) (drop from room)
-behind_in room from filled order = ap (λ (n : ℕ). drop from (take n room)) (omega (arith, order)) ∙ drop-take from (filled - from) room
-
--- the part of the room that has the whole lines
-whole_part : (room front rest : List ℕ) (from to filled : ℕ) → from ≤ filled → to ≡ from + length front → drop from (take filled room) ≡ front ++ rest → drop from (take to room) ≡ front
-whole_part room front rest from to filled order is parts =
-    let left : ℕ = filled - from in
-    let behind : List ℕ = drop from room in
-    let here : take left behind ≡ front ++ rest = sym (behind_in room from filled order) ∙ parts in
-    let fits : length front ≤ left = omega (arith, at_most left behind, ap (λ (xs : List ℕ). length xs) here, length-append front rest) in
-    ap (λ (n : ℕ). drop from (take n room)) is ∙ drop-take from (length front) room ∙ sym (take-take (length front) left behind fits) ∙ ap (λ (xs : List ℕ). take (length front) xs) here ∙ take_at front rest (length front) refl
-
-pub read_behind : (manner : Manner) (room : List ℕ) (old new : Progress) (front rest : List ℕ) (from to filled : ℕ) → old.rest.items ≡ [] → from ≤ filled → to ≡ from + length front → drop from (take filled room) ≡ front ++ rest → HasWholeLines front
-    → ReadsLines manner (drop from (take to room)) old.ahead new.ahead → new.rest.items ≡ old.rest.items ++ rest → IsReadBehind manner (drop from (take filled room)) old new
-read_behind manner room old new front rest from to filled empty order is parts whole reads grown = record {
+pub read_behind : (manner : Manner) (text : List ℕ) (old new : Reached) (front rest : List ℕ) → old.rest.items ≡ [] → text ≡ front ++ rest → HasWholeLines front → ReadsLines manner front old.gathered new.gathered → new.rest.items ≡ old.rest.items ++ rest
+    → IsReadBehind manner text old new
+read_behind manner text old new front rest empty parts whole reads grown = record {
   front = front;
   parts = parts ∙ ap (λ (xs : List ℕ). front ++ xs) (sym (grown ∙ ap (λ (xs : List ℕ). xs ++ rest) empty));
   whole = whole;
-  lines_on = subst (λ (xs : List ℕ). ReadsLines manner xs old.ahead new.ahead) (whole_part room front rest from to filled order is parts) reads;
+  lines_on = reads;
+}
+
+-- no line had begun before the text
+pub goes_behind : (manner : Manner) (text : List ℕ) (old new : Reached) → old.gathered.found.refused ≡ None → old.rest.items ≡ [] → IsReadBehind manner text old new → GoesOn manner text old new
+goes_behind manner text old new none empty more = record {
+  goes = λ before so.
+      let far = as_far manner before old none so in
+      let left : List ℕ = new.rest.items in
+      let two : List (List ℕ) = lines more.front in
+      settled manner (before ++ text) new.gathered left new.gathered.found.refused (far.ls ++ two) (more.lines_on.on far.ls (found_as_far manner before old none far)) (λ tail.
+      let whole : old.rest.items ++ (text ++ tail) ≡ more.front ++ (left ++ tail) =
+      ap (λ (xs : List ℕ). xs ++ (text ++ tail)) empty ∙ ap (λ (xs : List ℕ). xs ++ tail) more.parts ∙ append_assoc more.front left tail in
+      let cut : lines (old.rest.items ++ (text ++ tail)) ≡ two ++ lines (left ++ tail) = ap (λ (xs : List ℕ). lines xs) whole ∙ more.whole.whole (left ++ tail) in
+      ap (λ (xs : List ℕ). lines xs) (append_assoc before text tail) ∙ far.cut (text ++ tail) ∙ ap (λ (ls : List (List ℕ)). far.ls ++ ls) cut
+      ∙ sym (append_assoc far.ls two (lines (left ++ tail))));
 }
 
 -- the text has a newline
-pub goes_lines : (manner : Manner) (text : List ℕ) (old mid new : Progress) (end behind : List ℕ) (from : ℕ) → old.ahead.found.refused ≡ None → text ≡ end ++ behind → from ≡ length end → IsLineEnd end → ReadsLines manner (old.rest.items ++ end) old.ahead mid.ahead
-    → IsReadBehind manner (drop from text) mid new → GoesOn manner text old new
-goes_lines manner text old mid new end behind from none parts is ended reads far_on = record {
+pub goes_lines : (manner : Manner) (text : List ℕ) (old mid new : Reached) (end behind : List ℕ) → old.gathered.found.refused ≡ None → text ≡ end ++ behind → IsLineEnd end → ReadsLines manner (old.rest.items ++ end) old.gathered mid.gathered → IsReadBehind manner behind mid new
+    → GoesOn manner text old new
+goes_lines manner text old mid new end behind none parts ended reads more = record {
   goes = λ before so.
-      let at : drop from text ≡ behind = ap (λ (n : ℕ). drop n text) is ∙ ap (λ (xs : List ℕ). drop (length end) xs) parts ∙ drop_at end behind (length end) refl in
-      let more : IsReadBehind manner behind mid new = subst (λ (xs : List ℕ). IsReadBehind manner xs mid new) at far_on in
       let far = as_far manner before old none so in
       let rest : List ℕ = old.rest.items in
       let left : List ℕ = new.rest.items in
       let one : List (List ℕ) = lines (rest ++ end) in
       let two : List (List ℕ) = lines more.front in
-      settled manner (before ++ text) new.ahead left new.ahead.found.refused ((far.ls ++ one) ++ two) (more.lines_on.on (far.ls ++ one) (reads.on far.ls (found_as_far manner before old none far))) (λ tail.
+      settled manner (before ++ text) new.gathered left new.gathered.found.refused ((far.ls ++ one) ++ two) (more.lines_on.on (far.ls ++ one) (reads.on far.ls (found_as_far manner before old none far))) (λ tail.
       let whole : rest ++ (text ++ tail) ≡ (rest ++ end) ++ (more.front ++ (left ++ tail)) =
       ap (λ (xs : List ℕ). rest ++ (xs ++ tail)) (parts ∙ ap (λ (xs : List ℕ). end ++ xs) more.parts)
       ∙ ap (λ (xs : List ℕ). rest ++ xs) (append_assoc end (more.front ++ left) tail ∙ ap (λ (xs : List ℕ). end ++ xs) (append_assoc more.front left tail)) ∙ sym (append_assoc rest end (more.front ++ (left ++ tail))) in
@@ -275,38 +270,28 @@ goes_lines manner text old mid new end behind from none parts is ended reads far
 -- ---- the end
 
 -- the lines of the text are those that were read, and the rest's
-all_lines : (manner : Manner) (text : List ℕ) (ahead : Ahead) (rest : List ℕ) (far : IsReadAsFar manner text ahead rest) → lines text ≡ far.ls ++ lines rest
-all_lines manner text ahead rest far = ap (λ (xs : List ℕ). lines xs) (sym (append-nil text)) ∙ far.cut [] ∙ ap (λ (xs : List ℕ). far.ls ++ lines xs) (append-nil rest)
+all_lines : (manner : Manner) (text : List ℕ) (gathered : Gathered) (rest : List ℕ) (far : IsReadAsFar manner text gathered rest) → lines text ≡ far.ls ++ lines rest
+all_lines manner text gathered rest far = ap (λ (xs : List ℕ). lines xs) (sym (append-nil text)) ∙ far.cut [] ∙ ap (λ (xs : List ℕ). far.ls ++ lines xs) (append-nil rest)
 
 -- all lines were read
-read_all : (manner : Manner) (text : List ℕ) (progress : Progress) (ahead : Ahead) → progress.ahead.found.refused ≡ None → ReadsLines manner progress.rest.items progress.ahead ahead → IsReading manner text progress → IsReadIn manner (lines text) ahead
-read_all manner text progress ahead none reads so =
-    let far = as_far manner text progress none so in
-    subst (λ (ls : List (List ℕ)). IsReadIn manner ls ahead) (sym (all_lines manner text progress.ahead progress.rest.items far)) (reads.on far.ls (found_as_far manner text progress none far))
+read_all : (manner : Manner) (text : List ℕ) (reached : Reached) (gathered : Gathered) → reached.gathered.found.refused ≡ None → ReadsLines manner reached.rest.items reached.gathered gathered → IsReading manner text reached → IsReadIn manner (lines text) gathered
+read_all manner text reached gathered none reads so =
+    let far = as_far manner text reached none so in
+    subst (λ (ls : List (List ℕ)). IsReadIn manner ls gathered) (sym (all_lines manner text reached.gathered reached.rest.items far)) (reads.on far.ls (found_as_far manner text reached none far))
 
-pub told_by : (manner : Manner) (progress : Progress) (ahead : Ahead) (numbered : Numbered) → progress.ahead.found.refused ≡ None → ReadsLines manner progress.rest.items progress.ahead ahead → IsReadNumbered ahead numbered → IsToldBy manner progress numbered
-told_by manner progress ahead numbered none reads by = record { says = λ text so. by.says manner (lines text) (read_all manner text progress ahead none reads so) }
+pub told_by : (manner : Manner) (reached : Reached) (gathered : Gathered) (numbered : Numbered) → reached.gathered.found.refused ≡ None → ReadsLines manner reached.rest.items reached.gathered gathered → IsReadNumbered gathered numbered → IsToldBy manner reached numbered
+told_by manner reached gathered numbered none reads by = record { says = λ text so. by.says manner (lines text) (read_all manner text reached gathered none reads so) }
 
-pub fault_by : (manner : Manner) (progress : Progress) (ahead : Ahead) (fault : GraphError) → progress.ahead.found.refused ≡ None → ReadsLines manner progress.rest.items progress.ahead ahead → IsReadFault ahead fault → IsFaultBy manner progress fault
-fault_by manner progress ahead fault none reads by = record { first = λ text so. by.first manner text (read_all manner text progress ahead none reads so) }
+pub fault_by : (manner : Manner) (reached : Reached) (gathered : Gathered) (fault : GraphError) → reached.gathered.found.refused ≡ None → ReadsLines manner reached.rest.items reached.gathered gathered → IsReadFault gathered fault → IsFaultBy manner reached fault
+fault_by manner reached gathered fault none reads by = record { first = λ text so. by.first manner text (read_all manner text reached gathered none reads so) }
 
-pub fault_before : (manner : Manner) (progress : Progress) (fault : GraphError) → progress.ahead.found.refused ≡ Some fault → IsFaultBy manner progress fault
-fault_before manner progress fault is = record {
-  first = λ text so. subst (λ (xs : List ℕ). IsFirstFault manner.check xs fault) (append-nil text) ((refused_as_far manner text progress fault is so).first []);
+pub fault_before : (manner : Manner) (reached : Reached) (fault : GraphError) → reached.gathered.found.refused ≡ Some fault → IsFaultBy manner reached fault
+fault_before manner reached fault is = record {
+  first = λ text so. subst (λ (xs : List ℕ). IsFirstFault manner.check xs fault) (append-nil text) ((refused_as_far manner text reached fault is so).first []);
 }
 
-pub fault_of_memory : (manner : Manner) (progress : Progress) (fault : GraphError) → fault ≡ bundle.Memory → IsFaultBy manner progress fault
-fault_of_memory manner progress fault is = record { first = λ text so. fault_for_memory manner.check text fault is }
-
--- ---- a whole text
-
-pub all_said : (manner : Manner) (text : List ℕ) (pieces : List (Result Piece AllocError)) (nowhere found : Found) (numbered : Numbered) → IsFoundNowhere nowhere → ArePieces manner text pieces → TakesAll nowhere pieces found → IsFoundNumbered found numbered → SayNumbered manner (lines text) numbered
-all_said manner text pieces nowhere found numbered none are takes by =
-    by.says manner (lines text) (subst (λ (xs : List (List ℕ)). IsFoundIn manner xs found) are.are (takes.taken manner [] are.texts (none.nowhere manner) are.read))
-
-pub first_refused : (manner : Manner) (text : List ℕ) (pieces : List (Result Piece AllocError)) (nowhere found : Found) (fault : GraphError) → IsFoundNowhere nowhere → ArePieces manner text pieces → TakesAll nowhere pieces found → IsFoundFault found fault → IsFirstFault manner.check text fault
-first_refused manner text pieces nowhere found fault none are takes by =
-    by.first manner text (subst (λ (xs : List (List ℕ)). IsFoundIn manner xs found) are.are (takes.taken manner [] are.texts (none.nowhere manner) are.read))
+pub fault_of_memory : (manner : Manner) (reached : Reached) (fault : GraphError) → fault ≡ bundle.Memory → IsFaultBy manner reached fault
+fault_of_memory manner reached fault is = record { first = λ text so. fault_for_memory manner.check text fault is }
 
 -- ---- what the reader shows
 
@@ -314,8 +299,8 @@ first_refused manner text pieces nowhere found fault none are takes by =
 abbrev pub shown_as : Manner → List ℕ → ReadingLines
 shown_as manner text = record { manner = manner; text = text }
 
-pub says_so_far : (reading : ReadingLines) (text : List ℕ) (progress : Progress) (numbered : Numbered) (manner : Manner) → shown_as manner text ≡ reading → IsReading manner text progress → IsToldBy manner progress numbered → SayNumbered reading.manner (lines reading.text) numbered
-says_so_far reading text progress numbered manner shown so told = subst (λ (r : ReadingLines). SayNumbered r.manner (lines r.text) numbered) shown (told.says text so)
+pub says_so_far : (reading : ReadingLines) (text : List ℕ) (reached : Reached) (numbered : Numbered) (manner : Manner) → shown_as manner text ≡ reading → IsReading manner text reached → IsToldBy manner reached numbered → SayNumbered reading.manner (lines reading.text) numbered
+says_so_far reading text reached numbered manner shown so told = subst (λ (r : ReadingLines). SayNumbered r.manner (lines r.text) numbered) shown (told.says text so)
 
-pub fault_so_far : (reading : ReadingLines) (text : List ℕ) (progress : Progress) (fault : GraphError) (manner : Manner) → shown_as manner text ≡ reading → IsReading manner text progress → IsFaultBy manner progress fault → IsFirstFault reading.manner.check reading.text fault
-fault_so_far reading text progress fault manner shown so by = subst (λ (r : ReadingLines). IsFirstFault r.manner.check r.text fault) shown (by.first text so)
+pub fault_so_far : (reading : ReadingLines) (text : List ℕ) (reached : Reached) (fault : GraphError) (manner : Manner) → shown_as manner text ≡ reading → IsReading manner text reached → IsFaultBy manner reached fault → IsFirstFault reading.manner.check reading.text fault
+fault_so_far reading text reached fault manner shown so by = subst (λ (r : ReadingLines). IsFirstFault r.manner.check r.text fault) shown (by.first text so)

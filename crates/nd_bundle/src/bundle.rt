@@ -5,22 +5,19 @@ ghost use Rattle.nd_links.specs.declared.fault.GraphError.{GraphError};
 ghost use Rattle.nd_bundle.specs.Bundles.{IsBundle, IsFirstFault};
 ghost use Rattle.nd_graph.specs.Graphs.{Nodes};
 
-use crate::found::read_lines_side_by_side;
-use crate::manner::Manner;
-use crate::whole::graph_side_by_side;
+use crate::reader::BundleReader;
 use nd_graph::Graph;
 use nd_links::GraphError;
 use std::alloc::Global;
 use std::thread::Threads;
 
-/// The graph of a bundle, as `plain::read_bundle`; the lines of a bundle of 128 KiB or more are read by many
-/// threads, two for each processor. The answer is that of `plain::read_bundle`, unless one of the two
-/// wants memory (`laws::one_bundle`).
+/// The graph of a bundle, as `plain::read_bundle`: what a `BundleReader` answers that is fed the whole text as one block.
+/// So the lines of a bundle of 128 KiB or more are read by many threads. The answer is that of `plain::read_bundle`, unless
+/// one of the two wants memory (`laws::one_bundle`).
 ///
 /// Refuses with the first of the refusals 1 to 6 of `GraphError` on the first line that has one,
 /// else with the first of 7 to 11 over the whole, and with `Memory` (12) where an allocation is
 /// refused.
-#[tactic(auto, using(crate::proofs::Told::numbered_distinct, crate::proofs::Told::numbered_sized, crate::proofs::Told::numbered_paired, crate::proofs::Told::numbered_rising, crate::proofs::Told::numbered_bundle, crate::proofs::Told::numbered_fault))]
 pub fn read_bundle(
     rt: &(impl Threads + Sync),
     alloc: Global,
@@ -32,10 +29,7 @@ pub fn read_bundle(
     ensures exactly { (graph : Nodes) → IsBundle check_paths text.now graph
         → MatchResult result (λ g. g ≡ graph) (λ e. e ≡ GraphError.Memory) }
 {
-    let manner = Manner {
-        check: check_paths,
-        whole: true,
-    };
-    let numbered = read_lines_side_by_side(rt, alloc, text, manner)?;
-    graph_side_by_side(rt, alloc, numbered)
+    let mut reader = BundleReader::new(alloc, check_paths);
+    reader.feed(rt, text)?;
+    reader.finish(rt)
 }

@@ -1,19 +1,13 @@
 //! What was found in the lines of a bundle.
 
 ghost use Rattle.std.specs.Prelude.{◌≡◌, Ok, None, IfErr, IfOk, OnOk};
-ghost use Rattle.nd_bundle.specs.Bundles.{IsFirstFault};
-ghost use Rattle.nd_bundle.specs.Said.{SayNumbered};
-ghost use Rattle.nd_bundle.specs.Lines.{lines};
 ghost use Rattle.nd_bundle.specs.Parts.{IsFoundFault, IsFoundNowhere, IsFoundNumbered, Takes, TakesAll};
 
-use crate::collect::read_pieces;
-use crate::manner::Manner;
 use crate::piece::Piece;
 use indexmap::IndexSet;
 use nd_links::{Columns, Details, GraphError, Numbers};
 use nd_path::StorePath;
 use std::alloc::{AllocError, Global};
-use std::thread::Threads;
 
 /// What was found in lines of a bundle: what they say, or the first refusal. Behind a refusal nothing is taken
 /// any more, and the lists have what stands before it.
@@ -44,8 +38,20 @@ impl Found {
         }
     }
 
+    /// The same with what was read of pieces behind its lines.
+    pub(crate) fn with(self, pieces: Vec<Result<Piece, AllocError>>) -> Result<Found, AllocError>
+        ensures { IfOk result (TakesAll self pieces.items) }
+    {
+        let mut found = self;
+        found.take_all(pieces)?;
+        Ok(found)
+    }
+
     /// Takes what was read of pieces of a text, and makes room for it at once.
-    fn take_all(&mut self, pieces: Vec<Result<Piece, AllocError>>) -> Result<(), AllocError>
+    pub(crate) fn take_all(
+        &mut self,
+        pieces: Vec<Result<Piece, AllocError>>,
+    ) -> Result<(), AllocError>
         ensures { OnOk result (TakesAll self.old pieces.items self.new) }
     {
         self.details.reserve(count_nodes(pieces.as_slice()))?;
@@ -65,7 +71,7 @@ impl Found {
 
     /// Takes what was read of a piece, unless a line before it is refused.
     #[tactic(auto, using(crate::proofs::Parted::passes))]
-    pub(crate) fn take(&mut self, read: Result<Piece, AllocError>) -> Result<(), AllocError>
+    fn take(&mut self, read: Result<Piece, AllocError>) -> Result<(), AllocError>
         ensures { OnOk result (Takes self.old read self.new) }
     {
         match self.refused {
@@ -112,24 +118,6 @@ impl Found {
             },
         }
     }
-}
-
-/// What the lines of the text say, in order, or the refusal of the first that has one, or of the first whose path an
-/// earlier one has; read by many threads where the text has enough for two.
-#[tactic(auto, using(crate::proofs::Parted::all_said, crate::proofs::Parted::first_refused, crate::proofs::Parted::fault_for_memory))]
-pub(crate) fn read_lines_side_by_side(
-    rt: &(impl Threads + Sync),
-    alloc: Global,
-    text: &[u8],
-    manner: Manner,
-) -> Result<Numbered, GraphError>
-    ensures ok { IfOk result (SayNumbered manner (lines text.now)) }
-    ensures err { IfErr result (IsFirstFault manner.check text.now) }
-{
-    let pieces = read_pieces(rt, alloc, text, manner)?;
-    let mut found = Found::new(alloc);
-    found.take_all(pieces)?;
-    found.into_numbered()
 }
 
 /// How many nodes the pieces have.

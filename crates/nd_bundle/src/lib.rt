@@ -1,24 +1,22 @@
 //! Reading a bundle: its lines, and the graph of what they say.
 #![tactic(auto)]
 
-mod ahead;
 mod bundle;
 mod collect;
 mod cutting;
 mod drv_paths;
 mod found;
+mod gathered;
 pub mod laws;
 mod lines_reader;
 mod manner;
 mod needs;
 mod needs_reader;
-mod part;
 mod piece;
 pub mod plain;
-mod progress;
+mod reached;
 mod reader;
 mod so_far;
-mod task;
 mod whole;
 
 pub use bundle::read_bundle;

@@ -1,27 +1,26 @@
-//! The reader of the lines of a bundle whose text comes in parts.
+//! The reader of the lines of a bundle whose text comes in blocks.
 
-ghost use Rattle.std.specs.Prelude.{◌≡◌, ◌++◌, ◌≤◌, [], IfOk, IfErr, OnOk, length, take};
+ghost use Rattle.std.specs.Prelude.{◌≡◌, ◌++◌, [], IfOk, IfErr};
 ghost use Rattle.nd_bundle.specs.Bundles.{IsFirstFault};
 ghost use Rattle.nd_bundle.specs.Said.{SayNumbered};
 ghost use Rattle.nd_bundle.specs.Lines.{lines};
 
 use crate::found::Numbered;
 use crate::manner::Manner;
-use crate::progress::Progress;
+use crate::reached::Reached;
 use crate::so_far::SoFar;
 use nd_links::GraphError;
 use std::alloc::{AllocError, Global};
 use std::marker::Model;
 use std::thread::Threads;
 
-/// A reader of the lines of a bundle whose text comes in parts, which may be cut anywhere. No part is kept once it was
-/// read, but for a line that hasn't ended. Where it is dropped before its end, its threads end by themselves. Contracts
-/// see how lines are read, and the text so far.
+/// A reader of the lines of a bundle whose text comes in blocks, which may be cut anywhere. No block is kept once it was
+/// read, but for a line that hasn't ended. Contracts see how lines are read, and the text so far.
 #[derive(Drop)]
 pub(crate) struct LinesReader {
     alloc: Global,
     manner: Manner,
-    progress: Progress,
+    reached: Reached,
     so_far: SoFar,
 }
 
@@ -34,7 +33,7 @@ impl Model for LinesReader {
 
     ghost view = { λ r. record { manner = r.manner; text = r.so_far.bytes } };
 
-    ghost invariant = { λ r. IsReading r.manner r.so_far.bytes r.progress };
+    ghost invariant = { λ r. IsReading r.manner r.so_far.bytes r.reached };
 }
 
 impl LinesReader {
@@ -46,46 +45,40 @@ impl LinesReader {
         LinesReader {
             alloc,
             manner,
-            progress: Progress::new(alloc),
+            reached: Reached::new(alloc),
             so_far: SoFar::new(),
         }
     }
 
-    /// Reads on: the first bytes of the room, `filled` of them, stand behind what was read. Answers a room that isn't
-    /// needed any more, if there is one.
+    /// Reads on: the block stands behind what was read, whether its reading is refused memory or not.
     pub(crate) fn feed(
         &mut self,
-        rt: &impl Threads,
-        room: Vec<u8>,
-        filled: usize,
-    ) -> Result<Option<Vec<u8>>, AllocError>
-        requires { filled ≤ length room.items }
+        rt: &(impl Threads + Sync),
+        block: &[u8],
+    ) -> Result<(), AllocError>
         ensures manner { self.new.manner ≡ self.old.manner }
-        ensures text { OnOk result (self.new.text ≡ self.old.text ++ take filled room.items) }
+        ensures text { self.new.text ≡ self.old.text ++ block.now }
     {
-        let so_far = self.so_far.with(&room[..filled]);
-        let read = self
-            .progress
-            .read_on(rt, self.alloc, room, filled, self.manner);
-        self.so_far = so_far;
+        let read = self.reached.read_on(rt, self.alloc, block, self.manner);
+        self.so_far = self.so_far.with(block);
         read
     }
 
     /// What the lines say with their paths numbered, or the first refusal. What stands behind the last newline is the
     /// last line.
     #[tactic(auto, using(crate::proofs::Parted::says_so_far, crate::proofs::Parted::fault_so_far))]
-    pub(crate) fn into_numbered(self, rt: &impl Threads) -> Result<Numbered, GraphError>
+    pub(crate) fn into_numbered(self) -> Result<Numbered, GraphError>
         ensures ok { IfOk result (SayNumbered self.manner (lines self.text)) }
         ensures err { IfErr result (IsFirstFault self.manner.check self.text) }
     {
         let LinesReader {
             alloc,
             manner,
-            progress,
+            reached,
             ..
         } = self;
         // For the proof: each clause of the answer is met where the answer is known.
-        match progress.into_numbered(rt, alloc, manner) {
+        match reached.into_numbered(alloc, manner) {
             Ok(numbered) => Ok(numbered),
             Err(fault) => Err(fault),
         }

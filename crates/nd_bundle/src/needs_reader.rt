@@ -1,6 +1,6 @@
 //! The reader of a bundle's needs.
 
-ghost use Rattle.std.specs.Prelude.{◌≡◌, ◌++◌, ◌≤◌, [], IfOk, IfErr, MatchResult, OnOk, length, take};
+ghost use Rattle.std.specs.Prelude.{◌≡◌, ◌++◌, [], IfOk, IfErr, MatchResult};
 ghost use Rattle.nd_links.specs.declared.fault.GraphError.{GraphError};
 ghost use Rattle.nd_bundle.specs.Bundles.{IsBundle, IsFirstFault};
 ghost use Rattle.nd_bundle.specs.Needed.{HasNeeds};
@@ -16,7 +16,7 @@ use std::alloc::{AllocError, Global};
 use std::marker::Model;
 use std::thread::Threads;
 
-/// A reader of a bundle whose text comes in parts, as [`BundleReader`], for who asks what its derivations need and not
+/// A reader of a bundle whose text comes in blocks, as [`BundleReader`], for who asks what its derivations need and not
 /// for their graph: of what a line says it keeps no sources and no
 /// outputs' paths, and a need that several lines say mostly once. Contracts see whether paths are
 /// checked, and the text so far.
@@ -58,17 +58,11 @@ impl NeedsReader {
     }
 
     /// Reads on, as [`BundleReader::feed`].
-    pub fn feed(
-        &mut self,
-        rt: &impl Threads,
-        room: Vec<u8>,
-        filled: usize,
-    ) -> Result<Option<Vec<u8>>, AllocError>
-        requires { filled ≤ length room.items }
+    pub fn feed(&mut self, rt: &(impl Threads + Sync), block: &[u8]) -> Result<(), AllocError>
         ensures check { self.new.check ≡ self.old.check }
-        ensures text { OnOk result (self.new.text ≡ self.old.text ++ take filled room.items) }
+        ensures text { self.new.text ≡ self.old.text ++ block.now }
     {
-        self.lines.feed(rt, room, filled)
+        self.lines.feed(rt, block)
     }
 
     /// The needs of the bundle that was read, whose graph there is. What stands behind the last newline is its last
@@ -80,7 +74,7 @@ impl NeedsReader {
             → MatchResult result (λ needs. ArePlaced needs.table needs.places graph.needs) (λ e. e ≡ GraphError.Memory) }
     {
         let NeedsReader { alloc, lines } = self;
-        let numbered = lines.into_numbered(rt)?;
+        let numbered = lines.into_numbered()?;
         needs_side_by_side(rt, alloc, numbered)
     }
 }

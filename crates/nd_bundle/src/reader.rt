@@ -1,6 +1,6 @@
-//! The reader of a bundle whose text comes in parts.
+//! The reader of a bundle whose text comes in blocks.
 
-ghost use Rattle.std.specs.Prelude.{◌≡◌, ◌++◌, ◌≤◌, [], IfOk, IfErr, MatchResult, OnOk, length, take};
+ghost use Rattle.std.specs.Prelude.{◌≡◌, ◌++◌, [], IfOk, IfErr, MatchResult};
 ghost use Rattle.nd_links.specs.declared.fault.GraphError.{GraphError};
 ghost use Rattle.nd_bundle.specs.Bundles.{IsBundle, IsFirstFault};
 ghost use Rattle.nd_graph.specs.Graphs.{Nodes};
@@ -14,9 +14,9 @@ use std::alloc::{AllocError, Global};
 use std::marker::Model;
 use std::thread::Threads;
 
-/// A reader of a bundle whose text comes in parts, which may be cut anywhere. No part is kept once it was read,
-/// but for a line that hasn't ended. Where it is dropped before its end, its threads end by themselves. Its answer is that of `read_bundle` for the whole text, unless one of the
-/// two wants memory (`laws::one_bundle`). Contracts see whether paths are checked, and the text so far.
+/// A reader of a bundle whose text comes in blocks, which may be cut anywhere. No block is kept once it was read, but
+/// for a line that hasn't ended. `read_bundle` is this reader over the whole text as one block. Contracts see whether
+/// paths are checked, and the text so far.
 #[derive(Drop)]
 pub struct BundleReader {
     alloc: Global,
@@ -54,24 +54,16 @@ impl BundleReader {
         }
     }
 
-    /// Reads on: the first bytes of the room, `filled` of them, stand behind what was read. Once 128 KiB came at once
-    /// the whole lines in each room are read by a thread of their own, from where they stand, and up to half as many
-    /// such threads again as there are processors read at a time: meanwhile more of the input can come. Answers a room
-    /// that isn't needed any more, if there is one, to be filled anew: it is this one or one that came before.
+    /// Reads on: the block stands behind what was read, whether this is refused or not. The lines that end in it are
+    /// read by many threads where they have 128 KiB or more, and what was read of the block before is put together
+    /// meanwhile. Behind the first line that is refused nothing is read any more: `finish` tells of it.
     ///
-    /// Behind the first line that is refused nothing is read any more: `finish` tells of it. Refuses where an
-    /// allocation is refused. Nothing is read any more then, and `finish` answers `Memory`.
-    pub fn feed(
-        &mut self,
-        rt: &impl Threads,
-        room: Vec<u8>,
-        filled: usize,
-    ) -> Result<Option<Vec<u8>>, AllocError>
-        requires { filled ≤ length room.items }
+    /// Refuses where an allocation is refused. Nothing is read any more then, and `finish` answers `Memory`.
+    pub fn feed(&mut self, rt: &(impl Threads + Sync), block: &[u8]) -> Result<(), AllocError>
         ensures check { self.new.check ≡ self.old.check }
-        ensures text { OnOk result (self.new.text ≡ self.old.text ++ take filled room.items) }
+        ensures text { self.new.text ≡ self.old.text ++ block.now }
     {
-        self.lines.feed(rt, room, filled)
+        self.lines.feed(rt, block)
     }
 
     /// The graph of the bundle that was read. What stands behind the last newline is its last line.
@@ -87,7 +79,7 @@ impl BundleReader {
             → MatchResult result (λ g. g ≡ graph) (λ e. e ≡ GraphError.Memory) }
     {
         let BundleReader { alloc, lines } = self;
-        let numbered = lines.into_numbered(rt)?;
+        let numbered = lines.into_numbered()?;
         graph_side_by_side(rt, alloc, numbered)
     }
 }

@@ -1,11 +1,13 @@
 pub mod Accepted
 pub mod ClassReplying
+pub mod Fed
 pub mod Filled
 pub mod LocalTest
 pub mod PlacedReplying
 pub mod Refused
 pub mod Replying
 pub mod SameClass
+pub mod Sent
 pub mod Sharing
 pub mod Slots
 pub mod Whole

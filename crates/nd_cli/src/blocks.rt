@@ -4,8 +4,8 @@ ghost use Rattle.std.specs.Prelude.{◌≡◌, ◌++◌, ◌<◌, ◌≤◌, ◌
 ghost use Rattle.nd_links.specs.Placing.{ArePlaced};
 ghost use Rattle.nd_graph.specs.Graphs.{Nodes};
 ghost use Rattle.nd_cli.specs.Asked.{IsAskFault};
-ghost use Rattle.nd_cli.specs.Blocks.{AnswersKnownGraph, AnswersKnownNeeds, HasNeedsWithin, ReadsGraph, ReadsNeeds, ReadsPart};
-ghost use Rattle.nd_cli.specs.Inputs.{IsReadFault, OkUnlessMemory, ReadsWhole, is_read_failure};
+ghost use Rattle.nd_cli.specs.Blocks.{AnswersKnownGraph, AnswersKnownNeeds, HasNeedsWithin, ReadsGraph, ReadsNeeds, ReadsNext, ReadsPart};
+ghost use Rattle.nd_cli.specs.Inputs.{IsReadFault, OkUnlessMemory, ReadsWhole, is_read_failure, limit};
 ghost use Rattle.nd_cli.specs.Parks.{HasGraph, IsBundleFault};
 
 use crate::fault::{CliFault, Place};
@@ -18,17 +18,17 @@ use nd_devices::{Fault, Told};
 use nd_graph::Graph;
 use std::alloc::{AllocError, Global};
 use std::io::Read;
-use std::thread::Threads;
+use std::mem;
+use std::thread::{Threads, join_mut};
 
-/// For how many bytes of a bundle a room has place at first: enough for a thread of its own to read its lines, so that a
-/// short bundle has several.
-const FIRST: usize = 163_840;
+/// How many bytes the first block of an input has: few, since nothing else is done while it is read.
+const FIRST: usize = 262_144;
 
-/// For how many bytes a room has place once the bundle is long. A thread starts and ends for each.
-const BLOCK: usize = 524_288;
+/// How many times as large as the block before the next one is, up to [`BLOCK`].
+const GROW: usize = 4;
 
-/// How many bytes were read of a bundle that is long.
-const LONG: usize = 3_932_160;
+/// How many bytes a block has at most. Threads start and end for each.
+const BLOCK: usize = 4_194_304;
 
 /// The graph of the bundle on the input, which is read to its end, or to one byte past [`LIMIT`].
 ///
@@ -120,8 +120,9 @@ fn needs_of_blocks(
 /// Feeds the reader the whole input, or [`LIMIT`] bytes and one more, and answers how many these are.
 ///
 /// `Read`: the device refused a read, and is then marked. `Memory`.
-fn feed_input<R: Read, P: PartsReader>(
-    rt: &(impl Threads + Sync),
+#[tactic(auto, using(crate::proofs::Fed::fed_first, crate::proofs::Fed::fed_on, crate::proofs::Fed::fed_whole, crate::proofs::Fed::fed_counted))]
+fn feed_input<T: Threads + Sync, R: Read, P: PartsReader>(
+    rt: &T,
     alloc: Global,
     input: &mut Told<R>,
     reader: &mut P,
@@ -134,39 +135,94 @@ fn feed_input<R: Read, P: PartsReader>(
     ensures mark { input.new.is_marked ≡ (input.old.is_marked || is_read_failure result) }
 {
     let mut room = new_room(alloc, FIRST)?;
-    let mut count = 0;
-    'feeding: while count <= LIMIT {
-        let size = room.len();
-        let most = size.min(LIMIT + 1 - count);
-        let filled = fill(&mut room, most, input)?;
-        count += filled;
-        let spare = reader.feed(rt, room, filled)?;
-        if filled < size {
-            return Ok(count);
-        }
-        room = next_room(alloc, spare, count)?;
+    let mut next = Vec::new(alloc);
+    let mut filled = fill(&mut room, FIRST, input)?;
+    let mut fed = 0;
+    'feeding: while filled == room.len() && fed + filled <= LIMIT {
+        let block = room.as_slice();
+        let read = feed_beside(rt, alloc, block, &mut next, fed + filled, input, reader)?;
+        fed += filled;
+        filled = read;
+        mem::swap(&mut room, &mut next);
     }
-    Ok(count)
+    reader.feed(rt, &room[..filled])?;
+    Ok(fed + filled)
+}
+
+/// Feeds the reader a block, and meanwhile reads the next one to the front of a room, with `count` bytes before it.
+/// Answers how many bytes that one has.
+///
+/// `Read`: the device refused a read, and is then marked. `Memory`.
+fn feed_beside<T: Threads + Sync, R: Read, P: PartsReader>(
+    rt: &T,
+    alloc: Global,
+    block: &[u8],
+    next: &mut Vec<u8>,
+    count: usize,
+    input: &mut Told<R>,
+    reader: &mut P,
+) -> Result<usize, CliFault>
+    requires some { 0 < length block.now }
+    requires count { count ≤ limit }
+    ensures check { (P.reading reader.new).check ≡ (P.reading reader.old).check }
+    ensures text { (P.reading reader.new).text ≡ (P.reading reader.old).text ++ block.now }
+    ensures some { OnOk result (0 < length next.new.items) }
+    ensures bound { IfOk result (λ filled. filled ≤ length next.new.items) }
+    ensures read { IfOk result (λ filled. ReadsNext count (length next.new.items) (R.remaining input.old.device) (R.remaining input.new.device) (take filled next.new.items)) }
+    ensures fault { IfErr result (IsReadFault input.new.is_marked) }
+    ensures mark { input.new.is_marked ≡ (input.old.is_marked || is_read_failure result) }
+{
+    let size = next_size(block.len());
+    let (fed, filled) = join_mut(
+        rt,
+        &mut || reader.feed(rt, block),
+        &mut || fill_next(alloc, next, size, count, input),
+    );
+    let filled = filled?;
+    fed?;
+    Ok(filled)
+}
+
+/// How large the room for the block behind one of this size is: four times as large, up to [`BLOCK`].
+fn next_size(size: usize) -> usize
+    requires { 0 < size }
+    ensures { 0 < result }
+{
+    size.saturating_mul(GROW).min(BLOCK)
+}
+
+/// Reads on in the input, of which `count` bytes were read: from the front of a room, which is made anew where it hasn't
+/// this size, until it is full, or [`LIMIT`] bytes and one more were read, or the input ends. Answers how many bytes these
+/// are.
+///
+/// `Read`: the device refused a read, and is then marked. `Memory`.
+#[tactic(auto, using(crate::proofs::Fed::reads_next))]
+fn fill_next<R: Read>(
+    alloc: Global,
+    room: &mut Vec<u8>,
+    size: usize,
+    count: usize,
+    input: &mut Told<R>,
+) -> Result<usize, CliFault>
+    requires { count ≤ limit }
+    ensures size { OnOk result (length room.new.items ≡ size) }
+    ensures bound { IfOk result (λ filled. filled ≤ length room.new.items) }
+    ensures read { IfOk result (λ filled. ReadsNext count (length room.new.items) (R.remaining input.old.device) (R.remaining input.new.device) (take filled room.new.items)) }
+    ensures fault { IfErr result (IsReadFault input.new.is_marked) }
+    ensures mark { input.new.is_marked ≡ (input.old.is_marked || is_read_failure result) }
+{
+    if room.len() != size {
+        *room = new_room(alloc, size)?;
+    }
+    let most = size.min(LIMIT + 1 - count);
+    fill(room.as_mut_slice(), most, input)
 }
 
 /// Room for so many bytes.
 fn new_room(alloc: Global, size: usize) -> Result<Vec<u8>, AllocError>
-    requires { 0 < size }
-    ensures { IfOk result (λ room. 0 < length room.items) }
+    ensures { IfOk result (λ room. length room.items ≡ size) }
 {
     vec![in alloc; 0; size]
-}
-
-/// Room for more of a bundle, of which so many bytes were read: the one that isn't needed any more, where it has that
-/// size, and else a new one.
-fn next_room(alloc: Global, spare: Option<Vec<u8>>, count: usize) -> Result<Vec<u8>, AllocError>
-    ensures { IfOk result (λ room. 0 < length room.items) }
-{
-    let size = if count < LONG { FIRST } else { BLOCK };
-    match spare {
-        Some(room) if room.len() == size => Ok(room),
-        _ => new_room(alloc, size),
-    }
 }
 
 /// Reads on in the input, from the front of the room, until so many bytes stand there or the input ends; and answers how

@@ -1,55 +1,40 @@
-//! What reads a bundle whose text comes in parts.
+//! What reads a bundle whose text comes in blocks.
 
-ghost use Rattle.std.specs.Prelude.{◌≡◌, ◌++◌, ◌≤◌, OnOk, length, take};
+ghost use Rattle.std.specs.Prelude.{◌≡◌, ◌++◌};
 
 use nd_bundle::{BundleReader, NeedsReader};
 use std::alloc::AllocError;
 use std::thread::Threads;
 
-/// A reader of a bundle whose text comes in parts, whatever it answers at the end.
-pub(crate) trait PartsReader {
+/// A reader of a bundle whose text comes in blocks, whatever it answers at the end.
+pub(crate) trait PartsReader: Send {
+    ghost use Rattle.std.specs.Thread.{IsSync};
     ghost use Rattle.nd_bundle.specs.Reading.{Reading};
 
     /// Whether paths are checked, and the text so far.
     ghost reading: { Self → Reading };
 
-    /// Reads on, as [`BundleReader::feed`]: the first bytes of the room, `filled` of them, stand behind what was
-    /// read. Answers a room that isn't needed any more, if there is one.
+    /// Reads on, as [`BundleReader::feed`]: the block stands behind what was read, whether this is refused or not.
     ///
     /// Refuses where an allocation is refused.
-    fn feed(
-        &mut self,
-        rt: &impl Threads,
-        room: Vec<u8>,
-        filled: usize,
-    ) -> Result<Option<Vec<u8>>, AllocError>
-        requires { filled ≤ length room.items }
+    fn feed<T: Threads + Sync>(&mut self, rt: &T, block: &[u8]) -> Result<(), AllocError>
+        requires { IsSync T.row }
         ensures check { (reading self.new).check ≡ (reading self.old).check }
-        ensures text { OnOk result ((reading self.new).text ≡ (reading self.old).text ++ take filled room.items) };
+        ensures text { (reading self.new).text ≡ (reading self.old).text ++ block.now };
 }
 
 impl PartsReader for BundleReader {
     ghost reading = { λ reader. reader };
 
-    fn feed(
-        &mut self,
-        rt: &impl Threads,
-        room: Vec<u8>,
-        filled: usize,
-    ) -> Result<Option<Vec<u8>>, AllocError> {
-        BundleReader::feed(self, rt, room, filled)
+    fn feed<T: Threads + Sync>(&mut self, rt: &T, block: &[u8]) -> Result<(), AllocError> {
+        BundleReader::feed(self, rt, block)
     }
 }
 
 impl PartsReader for NeedsReader {
     ghost reading = { λ reader. reader };
 
-    fn feed(
-        &mut self,
-        rt: &impl Threads,
-        room: Vec<u8>,
-        filled: usize,
-    ) -> Result<Option<Vec<u8>>, AllocError> {
-        NeedsReader::feed(self, rt, room, filled)
+    fn feed<T: Threads + Sync>(&mut self, rt: &T, block: &[u8]) -> Result<(), AllocError> {
+        NeedsReader::feed(self, rt, block)
     }
 }

@@ -1,3 +1,4 @@
 pub mod Notes
+pub mod Hearing
 pub mod Handing
 pub mod Names

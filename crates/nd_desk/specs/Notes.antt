@@ -1,5 +1,5 @@
 -- What a desk notes: each call of it is one event behind those before, but for one that memory was wanting for; and what its output is known to
--- hold. The events are this project's own.
+-- hold. What its input has left is `Hearing`'s. The events are this project's own.
 -- Public clauses cite this.
 use Rattle.std.specs.Prelude.{◌≡◌, ℕ, Bool, true, false, List, [], ◌∷◌, ◌++◌, Option, None, Some, Result, Ok, Err}
 use Rattle.std.specs.List.{flat_map}
@@ -9,14 +9,16 @@ use Rattle.nd_desk.specs.declared.event.Event.TheVariants.{Heard, Ended, Unheard
 use Rattle.nd_desk.specs.declared.fault.DeskFault.{DeskFault}
 use Rattle.nd_desk.specs.declared.fault.DeskFault.TheVariants.{Refused, Memory}
 
--- what is seen of a desk: what was done to it, where that is known, and the bytes that its output holds, where these are
+-- What is seen of a desk: what was done to it, where that is known, the bytes that its output holds, where these are, and those that its input
+-- has left, where these are.
 pub record Seen : Type 0 where
   pub log : Option (List Event)
   pub told : Option (List ℕ)
+  pub left : Option (List ℕ)
 
--- of a desk of which no more is known than what its output holds
-abbrev pub told_alone : Option (List ℕ) → Seen
-told_alone held = record { log = None; told = held }
+-- of a desk of which no more is known than what its input has left and what its output holds
+abbrev pub ends_alone : Option (List ℕ) → Option (List ℕ) → Seen
+ends_alone left held = record { log = None; told = held; left = left }
 
 -- what was answered, and is out whole
 abbrev pub answered_by : Event → List ℕ

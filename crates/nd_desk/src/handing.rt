@@ -2,6 +2,7 @@
 
 ghost use Rattle.std.specs.Prelude.{◌≡◌, IfErr, OnOk};
 ghost use Rattle.nd_desk.specs.Handing.{kept, handed, HandsPart, KeepsPart, AnswersPart, said};
+ghost use Rattle.nd_desk.specs.Hearing.{HearsNothing};
 ghost use Rattle.nd_desk.specs.Notes.{Notes};
 
 use crate::desk::Desk;
@@ -12,11 +13,12 @@ use crate::fault::{DeskFault, SessionFault};
 ///
 /// Refuses with `Journal` (2) where the journal refused the append or the sync, with `Write` (3) where the
 /// output refused the answer, and with `Memory` (4) where an allocation was refused. What was to come
-/// behind a refusal isn't done.
+/// behind a refusal isn't done. Nothing is read of the input.
 #[tactic(auto, using(crate::proofs::Noting::handings))]
 pub fn hand_over<D: Desk>(lines: &[u8], answer: &[u8], desk: &mut D) -> Result<(), SessionFault>
     ensures done { OnOk result (Notes (D.seen desk.old) (D.seen desk.new) (handed lines.now answer.now)) }
     ensures partly { IfErr result (HandsPart (D.seen desk.old) (D.seen desk.new) lines.now answer.now) }
+    ensures input { HearsNothing (D.seen desk.old) (D.seen desk.new) }
 {
     keep(lines, desk)?;
     say(answer, desk)
@@ -27,6 +29,7 @@ pub fn hand_over<D: Desk>(lines: &[u8], answer: &[u8], desk: &mut D) -> Result<(
 fn keep<D: Desk>(lines: &[u8], desk: &mut D) -> Result<(), SessionFault>
     ensures done { OnOk result (Notes (D.seen desk.old) (D.seen desk.new) (kept lines.now)) }
     ensures partly { IfErr result (KeepsPart (D.seen desk.old) (D.seen desk.new) lines.now) }
+    ensures input { HearsNothing (D.seen desk.old) (D.seen desk.new) }
 {
     if lines.is_empty() {
         return Ok(());
@@ -47,6 +50,7 @@ fn keep<D: Desk>(lines: &[u8], desk: &mut D) -> Result<(), SessionFault>
 fn say<D: Desk>(answer: &[u8], desk: &mut D) -> Result<(), SessionFault>
     ensures done { OnOk result (Notes (D.seen desk.old) (D.seen desk.new) (said answer.now)) }
     ensures partly { IfErr result (AnswersPart (D.seen desk.old) (D.seen desk.new) answer.now) }
+    ensures input { HearsNothing (D.seen desk.old) (D.seen desk.new) }
 {
     match desk.answer(answer) {
         Ok(()) => Ok(()),

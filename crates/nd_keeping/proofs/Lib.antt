@@ -1,3 +1,4 @@
 pub mod Beginnings
 pub mod Entering
+pub mod Parts
 pub mod Taken

@@ -7,9 +7,11 @@ use Rattle.nd_history.specs.declared.entry.Entry.{Entry}
 use Rattle.nd_history_text.specs.HistoryTexts.{line_of, first_line, history_text}
 use Rattle.nd_history_text.specs.Sound.{IsSound}
 use Rattle.nd_history_text.specs.declared.kinds.Version.TheVariants.{Second}
-use Rattle.nd_keeping.specs.Stored.{Stored}
+use Rattle.nd_journal.specs.WholeLines.{IsBeginning}
+use Rattle.nd_keeping.specs.Stored.{Stored, HasPart, HoldsPart}
 use Rattle.nd_keeping.specs.Listing.{Listed, with_more}
-use Rattle.nd_keeping.specs.Scribing.{Scribing, IsScribing, HoldsDurably, HoldsMore, journal_text, opening_of, lines_behind}
+use Rattle.nd_keeping.specs.Scribing.{Scribing, IsScribing, HoldsDurably, HoldsLeft, HoldsMore, LeavesPart, journal_text, opening_of, lines_behind}
+use Rattle.nd_keeping.proofs.Parts.{begins_longer}
 
 some_there : (n : ℕ) → 0 < n → (n == 0) ≡ false
 some_there n more = by (n == 0) refl
@@ -44,6 +46,74 @@ same_first true kept later handed whole unbegun = refl
 same_first false kept later handed whole unbegun =
     ap (λ (es : List Entry). length es == 0) (whole ∙ ap (λ (es : List Entry). es ++ later) (unbegun refl))
 
+-- the text that the journal has, and what waits, are the text of all
+whole_text : (begun : Bool) (kept later : List Entry) → 0 < length later → (begun ≡ false → kept ≡ [])
+    → journal_text begun kept ++ lines_behind begun later ≡ history_text Second (kept ++ later)
+whole_text begun kept [] some unbegun = absurd (omega arith)
+whole_text true kept (e ∷ later) some unbegun =
+    append_assoc (first_line Second) (flat_map line_of kept) (flat_map line_of (e ∷ later))
+    ∙ ap (λ (l : List ℕ). first_line Second ++ l) (sym (flat_map-append line_of kept (e ∷ later)))
+whole_text false kept (e ∷ later) some unbegun = ap (λ (es : List Entry). history_text Second (es ++ e ∷ later)) (sym (unbegun refl))
+
+-- ---- what a refused call leaves
+
+-- the text that waits is longer
+left_longer : (stored : Option Stored) (text old more new : List ℕ) → HoldsLeft stored text old → new ≡ old ++ more → HoldsLeft stored text new
+left_longer None text old more new left is = tt
+left_longer (Some stored) text old more new left is = record {
+  part = left.part;
+  begins = begins_longer left.part old more new left.begins is;
+  held = left.held;
+  durable = left.durable;
+}
+
+-- a call is refused now
+left_now : (old new : Option Stored) (text more : List ℕ) → HoldsDurably old text → HoldsPart old new more → HoldsLeft new text more
+left_now None new text more holds part = subst (λ (n : Option Stored). HoldsLeft n text more) (sym part) tt
+left_now (Some old) None text more holds part = absurd part
+left_now (Some old) (Some new) text more holds part = subst (λ (o : Stored). HasPart o new more) holds part
+
+-- the text of what is kept, and a beginning of what waits, begin the text of all
+left_begins : (begun : Bool) (kept later : List Entry) (part : List ℕ) → (begun ≡ false → kept ≡ []) → IsBeginning part (lines_behind begun later)
+    → IsBeginning (journal_text begun kept ++ part) (history_text Second (kept ++ later))
+left_begins begun kept [] part unbegun begins = by part begins begun unbegun
+  where
+    by : (p : List ℕ) → IsBeginning p [] → (b : Bool) → (b ≡ false → kept ≡ []) → IsBeginning (journal_text b kept ++ p) (history_text Second (kept ++ []))
+    by [] nothing true none = record {
+      rest = [];
+      is =
+          ap (λ (es : List Entry). history_text Second es) (append-nil kept)
+          ∙ sym (append-nil (history_text Second kept))
+          ∙ sym (append-nil (history_text Second kept ++ []));
+    }
+    by [] nothing false none = record { rest = history_text Second (kept ++ []); is = refl }
+    by (b ∷ p) nothing begun none = absurd (cc (nothing.is))
+left_begins begun kept (e ∷ later) part unbegun begins = record {
+  rest = begins.rest;
+  is =
+      sym (whole_text begun kept (e ∷ later) (omega arith) unbegun)
+      ∙ ap (λ (l : List ℕ). journal_text begun kept ++ l) begins.is
+      ∙ sym (append_assoc (journal_text begun kept) part begins.rest);
+}
+
+-- a journal that refused holds what a crash may leave
+pub left_part : (s : Scribing) → IsScribing s → s.refused ≡ true → LeavesPart s s.stored
+left_part s is refused = by s.stored (is.left refused)
+  where
+    by : (stored : Option Stored) → HoldsLeft stored (journal_text s.begun s.kept.entries) s.text → LeavesPart s stored
+    by None left = tt
+    by (Some stored) left =
+        let waits : IsBeginning left.part (lines_behind s.begun is.later) = subst (IsBeginning left.part) is.waits left.begins in
+        let whole : IsBeginning (journal_text s.begun s.kept.entries ++ left.part) (history_text Second (s.kept.entries ++ is.later)) =
+        left_begins s.begun s.kept.entries is.later left.part is.unbegun waits in
+        record {
+          beginning =
+              subst (λ (es : List Entry). IsBeginning stored.bytes (history_text Second es)) (sym is.whole)
+              (subst (λ (l : List ℕ). IsBeginning l (history_text Second (s.kept.entries ++ is.later))) (sym left.held) whole);
+          kept = record { rest = left.part; is = left.held };
+          durable = left.durable;
+        }
+
 -- ---- entries are taken
 
 pub taken : (s : Scribing) (text : List ℕ) (added : List Entry) → IsScribing s → 0 < length added → All IsSound added
@@ -62,18 +132,10 @@ taken s text (e ∷ added) is some sound put = record {
       ∙ ap (λ (l : List ℕ). l ++ (opening_of (not s.begun && (length is.later == 0)) ++ flat_map line_of (e ∷ added))) is.waits
       ∙ lines_more s.begun is.later e added;
   durable = is.durable;
+  left = λ refused. left_longer s.stored (journal_text s.begun s.kept.entries) s.text (opening_of (not s.begun && (length s.handed.entries == 0)) ++ flat_map line_of (e ∷ added)) text (is.left refused) put;
 }
 
 -- ---- what was handed is kept
-
--- the text that the journal has, and what waits, are the text of all
-whole_text : (begun : Bool) (kept later : List Entry) → 0 < length later → (begun ≡ false → kept ≡ [])
-    → journal_text begun kept ++ lines_behind begun later ≡ history_text Second (kept ++ later)
-whole_text begun kept [] some unbegun = absurd (omega arith)
-whole_text true kept (e ∷ later) some unbegun =
-    append_assoc (first_line Second) (flat_map line_of kept) (flat_map line_of (e ∷ later))
-    ∙ ap (λ (l : List ℕ). first_line Second ++ l) (sym (flat_map-append line_of kept (e ∷ later)))
-whole_text false kept (e ∷ later) some unbegun = ap (λ (es : List Entry). history_text Second (es ++ e ∷ later)) (sym (unbegun refl))
 
 -- a text of which all is durable
 abbrev durable_text : List ℕ → Stored
@@ -108,12 +170,13 @@ kept_all s stored is live fewer more = record {
       (ap (λ (l : List ℕ). journal_text s.begun s.kept.entries ++ l) is.waits
       ∙ whole_text s.begun s.kept.entries is.later (some_later s.kept.entries is.later s.handed.entries is.whole fewer) is.unbegun
       ∙ ap (λ (es : List Entry). history_text Second es) (sym is.whole));
+  left = λ refused. absurd (true≢false (sym refused));
 }
 
 -- ---- the journal refused
 
-pub refused_now : (s : Scribing) (stored : Option Stored) → IsScribing s → IsScribing (record s { stored = stored; refused = true })
-refused_now s stored is = record {
+pub refused_now : (s : Scribing) (stored : Option Stored) → IsScribing s → s.refused ≡ false → HoldsPart s.stored stored s.text → IsScribing (record s { stored = stored; refused = true })
+refused_now s stored is live part = record {
   book = is.book;
   later = is.later;
   whole = is.whole;
@@ -121,6 +184,7 @@ refused_now s stored is = record {
   unbegun = is.unbegun;
   waits = is.waits;
   durable = λ other. absurd (true≢false other);
+  left = λ refused. left_now s.stored stored (journal_text s.begun s.kept.entries) s.text (is.durable live) part;
 }
 
 -- ---- a scribe begins
@@ -136,4 +200,5 @@ begun_scribing held all entries begun same sound unbegun holds = record {
   unbegun = λ none. same ∙ unbegun none;
   waits = refl;
   durable = λ still. subst (λ (es : List Entry). HoldsDurably held (journal_text begun es)) (sym same) holds;
+  left = λ refused. absurd (true≢false (sym refused));
 }

@@ -1,7 +1,7 @@
 //! Journals.
 
-ghost use Rattle.std.specs.Prelude.{OnOk};
-ghost use Rattle.nd_keeping.specs.Stored.{IsAppended, IsSynced};
+ghost use Rattle.std.specs.Prelude.{OnErr, OnOk};
+ghost use Rattle.nd_keeping.specs.Stored.{HoldsPart, IsAppended, IsSynced, IsUnsynced};
 
 use std::io;
 
@@ -14,13 +14,15 @@ pub trait Journal {
     /// file doesn't.
     ghost stored: { Self → Option Stored };
 
-    /// Appends these bytes to what the journal holds. Of a call that is refused nothing is known.
+    /// Appends these bytes to what the journal holds. Where that is refused, a beginning of them may stand there.
     fn append(&mut self, bytes: &[u8]) -> io::Result<()>
-        ensures { OnOk result (IsAppended (stored self.old) (stored self.new) bytes.now) };
+        ensures done { OnOk result (IsAppended (stored self.old) (stored self.new) bytes.now) }
+        ensures refused { OnErr result (HoldsPart (stored self.old) (stored self.new) bytes.now) };
 
-    /// Makes durable what the journal holds. Of a call that is refused nothing is known.
+    /// Makes durable what the journal holds. Where that is refused, no byte of it is changed.
     fn sync(&mut self) -> io::Result<()>
-        ensures { OnOk result (IsSynced (stored self.old) (stored self.new)) };
+        ensures done { OnOk result (IsSynced (stored self.old) (stored self.new)) }
+        ensures refused { OnErr result (IsUnsynced (stored self.old) (stored self.new)) };
 }
 
 /// The journal of a session or of a run that keeps none.

@@ -1,8 +1,9 @@
 //! Who hands the entries of a run to its journal.
 
-ghost use Rattle.std.specs.Prelude.{◌≡◌, ◌==◌, ◌&&◌, not, [], false, OnOk, OnErr, IfOk, IfErr};
+ghost use Rattle.std.specs.Prelude.{◌≡◌, ◌==◌, ◌&&◌, not, [], true, false, OnOk, OnErr, IfOk, IfErr};
 ghost use Rattle.nd_history.specs.Sameness.{BeginsWith};
-ghost use Rattle.nd_keeping.specs.Scribing.{BeginsScribing, HasTaken, HasKept, HasRefused, IsIdle, IsScribing, HoldsDurably, HoldsMore, journal_text};
+ghost use Rattle.nd_keeping.specs.Scribing.{BeginsScribing, HasTaken, HasKept, HasRefused, IsIdle, IsScribing, HoldsDurably, HoldsMore, LeavesPart, journal_text};
+ghost use Rattle.nd_keeping.specs.Stored.{HoldsPart};
 
 use crate::book::{Front, Roll};
 use crate::journals::Journal;
@@ -132,8 +133,9 @@ impl<J: Journal> Scribe<J> {
     /// Makes durable all that was handed to the journal: appends the lines that wait, all at once, and syncs once.
     /// Where nothing waits, it does nothing.
     ///
-    /// Refuses where the journal refuses the append or the sync, and from then on at once. Of what the journal
-    /// holds nothing is known then, and no more is kept than was before.
+    /// Refuses where the journal refuses the append or the sync, and from then on at once. The journal holds what it
+    /// held then, and a beginning of the lines behind it, and is asked for nothing more; no more is kept than was
+    /// before.
     pub fn keep(&mut self) -> Result<(), KeepError>
         ensures kept { OnOk result (HasKept self.old self.new) }
         ensures refused { OnErr result (HasRefused self.old self.new) }
@@ -167,10 +169,13 @@ impl<J: Journal> Scribe<J> {
         self.kept.again()
     }
 
-    /// What was handed to the journal. What is durable begins it.
+    /// What was handed to the journal. What is durable begins it. Where the journal has refused, it holds what a crash
+    /// may leave of that.
+    #[tactic(auto, using(crate::proofs::Taken::left_part))]
     pub fn handed(&self) -> Front
         ensures handed { result ≡ self.now.handed }
         ensures scribing { IsScribing self.now }
+        ensures left { self.now.refused ≡ true → LeavesPart self.now self.now.stored }
     {
         self.roll.front()
     }
@@ -198,9 +203,12 @@ fn are_first(begun: bool, handed: usize) -> bool
     !begun && handed == 0
 }
 
-/// Appends a text to a journal, and then makes durable all that the journal holds.
+/// Appends a text to a journal, and then makes durable all that the journal holds. Where one is refused, a beginning
+/// of the text may stand there.
+#[tactic(auto, using(crate::proofs::Parts::part_unsynced))]
 fn append_and_sync<J: Journal>(journal: &mut J, text: &[u8]) -> Result<(), KeepError>
-    ensures { OnOk result (HoldsMore (J.stored journal.old) (J.stored journal.new) text.now) }
+    ensures done { OnOk result (HoldsMore (J.stored journal.old) (J.stored journal.new) text.now) }
+    ensures refused { OnErr result (HoldsPart (J.stored journal.old) (J.stored journal.new) text.now) }
 {
     match journal.append(text) {
         Ok(()) => {}

@@ -6,15 +6,16 @@ use Rattle.nd_history.specs.declared.entry.Entry.{Entry}
 use Rattle.nd_history.specs.Premises.{Premises}
 use Rattle.nd_history.specs.Pumping.{HasPumped}
 use Rattle.nd_history.specs.Sameness.{BeginsWith}
-use Rattle.nd_keeping.specs.Scribing.{Scribing}
+use Rattle.nd_keeping.specs.Listing.{GoesBeyond, Listed}
+use Rattle.nd_keeping.specs.Scribing.{HasTaken, Scribing}
 use Rattle.nd_ledger.specs.Worlds.{World}
 use Rattle.nd_run_desk.specs.Abandoned.{last_entries}
 use Rattle.nd_history.specs.declared.entry.Entry.TheVariants.{Chosen, Started}
 use Rattle.nd_leases.specs.declared.ticket.Ticket.{Ticket}
 use Rattle.nd_run_desk.specs.declared.keeping.Step.{Step}
 use Rattle.nd_run_desk.specs.declared.keeping.Step.TheVariants.{Call, Build}
-use Rattle.nd_run_desk.specs.Leaves.{IsFrontOf, Allows}
-use Rattle.nd_run_desk.specs.Written.{IsWritten, IsWrittenWhole}
+use Rattle.nd_run_desk.specs.Leaves.{Allows, HasHandedOver, IsFrontOf}
+use Rattle.nd_run_desk.specs.Written.{IsWritten, IsUnwritten, IsWrittenWhole}
 
 take_within : {X : Type 0} (n : ℕ) (xs : List X) → length (take n xs) ≤ length xs
 take_within zero xs = omega arith
@@ -94,17 +95,36 @@ written_whole scribe history front willing h begins same = record {
 }
 
 -- a run that keeps no history
-pub unkept : (keeps kept : Bool) (scribe : Scribing) (history : List Entry) → keeps ≡ false → kept ≡ true → IsWritten keeps kept scribe history
-unkept keeps kept scribe history none is = record { written = λ on. absurd (cc (on, none)); unasked = λ off. is }
+pub unkept : (keeps kept : Bool) (scribe : Scribing) (handed history : List Entry) → IsFrontOf handed history → keeps ≡ false → kept ≡ true → IsWritten keeps kept scribe handed history
+unkept keeps kept scribe handed history front none is = record { front = front; written = λ on. absurd (cc (on, none)); unwritten = λ no. absurd (cc (is, no)); unasked = λ off. is }
 
 -- .. and one that keeps it
-pub kept_written : (keeps kept : Bool) (scribe : Scribing) (history : List Entry) → keeps ≡ true → (kept ≡ true → IsWrittenWhole scribe history) → IsWritten keeps kept scribe history
-kept_written keeps kept scribe history on whole = record { written = λ _. whole; unasked = λ off. absurd (cc (on, off)) }
+pub kept_written : (keeps kept : Bool) (scribe : Scribing) (handed history : List Entry) → IsFrontOf handed history → keeps ≡ true → (kept ≡ true → IsWrittenWhole scribe history)
+    → (kept ≡ false → IsUnwritten scribe handed history) → IsWritten keeps kept scribe handed history
+kept_written keeps kept scribe handed history front on whole lacks = record { front = front; written = λ _. whole; unwritten = λ no. (on, lacks no); unasked = λ off. absurd (cc (on, off)) }
+
+-- why a journal doesn't hold all that a desk handed to it
+pub refused_unwritten : (scribe : Scribing) (handed history : List Entry) → scribe.refused ≡ true → IsUnwritten scribe handed history
+refused_unwritten scribe handed history refused = record { lacks = λ willing same. absurd (cc (refused, willing)) }
+
+pub other_unwritten : (scribe : Scribing) (handed history : List Entry) → (length scribe.kept.entries ≡ length history → ⊥) → IsUnwritten scribe handed history
+other_unwritten scribe handed history differ = record { lacks = λ willing same. absurd (differ (ap length same)) }
+
+pub beyond_unwritten : (scribe : Scribing) (handed history : List Entry) → GoesBeyond scribe.kept.entries handed → IsUnwritten scribe handed history
+beyond_unwritten scribe handed history beyond = record { lacks = λ willing same. let more = beyond.longer in let size = ap length same in omega arith }
+
+-- the scribe has taken the history
+pub handed_over : (old new : Scribing) (handed : Listed) (history : List Entry) → HasTaken old new history → handed ≡ new.handed → HasHandedOver new handed history
+handed_over old new handed history taken same = record { known = same; whole = ap (λ (l : Listed). l.entries) (same ∙ taken.handed) }
 
 -- what is allowed by an entry of the history is allowed once that is durable
 pub allowed : (keeps : Bool) (front history : List Entry) (place : ℕ) (step : Step) (t : Ticket) → Allows true history place step t → IsFrontOf front history → place < length front → Allows keeps front place step t
-allowed keeps front history place Call t stands h lt = record { there = λ on. front_at front history place (Chosen t.drv t.machine t.slot) h lt (stands.there refl) }
+allowed keeps front history place Call t stands h lt = record {
+  own = λ on. stands.own refl;
+  choice = record { there = λ on. front_at front history place (Chosen t.drv t.machine t.slot) h lt (stands.choice.there refl) };
+}
 allowed keeps front history place Build t stands h lt = record {
+  behind = λ on. stands.behind refl;
   paths = stands.paths;
   start = record { there = λ on. front_at front history place (Started t.drv stands.paths) h lt (stands.start.there refl) };
 }

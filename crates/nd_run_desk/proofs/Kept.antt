@@ -33,7 +33,7 @@ misreports_same w m n are same = record {
 }
 
 -- what stands at a place of a beginning
-get_before : {X : Type 0} (xs ys : List X) (k : ℕ) → k < length xs → slice_get (xs ++ ys) k ≡ slice_get xs k
+pub get_before : {X : Type 0} (xs ys : List X) (k : ℕ) → k < length xs → slice_get (xs ++ ys) k ≡ slice_get xs k
 get_before [] ys k lt = absurd (omega arith)
 get_before (x ∷ xs) ys zero lt = refl
 get_before (x ∷ xs) ys (suc k) lt = get_before xs ys k (omega arith)

@@ -17,23 +17,24 @@ use Rattle.nd_receipts.specs.declared.judging.Misreports.{Misreports}
 use Rattle.nd_receipts.specs.Judged.{HasNone, HasKept, KeepsSame}
 use Rattle.nd_receipts.specs.Made.{is_made, made}
 use Rattle.nd_run_desk.specs.Abandoned.{last_entries}
+use Rattle.nd_run_desk.specs.Judgements.{is_no_misreport}
 use Rattle.nd_run_desk.specs.Leaves.{IsFrontOf}
 use Rattle.nd_run_desk.specs.Steps.{IsUpheld}
 use Rattle.nd_run_desk.proofs.Counts.{made_one, pumped_made, pumped_by_made}
 use Rattle.nd_run_desk.proofs.Fronts.{front_made, front_pumped, front_abandoned, front_whole, front_of_front, begun_front, begun_through}
-use Rattle.nd_run_desk.proofs.Kept.{misreports_none, misreports_made, misreports_pumped, misreports_abandoned, misreports_more, misreports_same}
+use Rattle.nd_run_desk.proofs.Judgings.{judged_none, judged_made, judged_pumped, judged_abandoned, judged_more, judged_same}
 use Rattle.nd_run_desk.proofs.Onward.{runs_first, runs_made, runs_pumped, runs_abandoned}
 use Rattle.nd_run_desk.proofs.Told.{told_first, told_made, told_pumped, told_abandoned}
 
 pub upheld_first : (o w : World) (m : Misreports) (h k : List Entry) → o ≡ w → HasNone m → IsFrontOf h w.history → IsFrontOf k w.history → IsUpheld o w m h k
-upheld_first o w m h k same none handed durable = record { runs = runs_first o w same; told = told_first o w same; judged = misreports_none w m none; handed = handed; durable = durable }
+upheld_first o w m h k same none handed durable = record { runs = runs_first o w same; told = told_first o w same; judged = judged_none o w m same none; handed = handed; durable = durable }
 
 -- one entry that a worker made
-pub upheld_made : (o a b : World) (m : Misreports) (h k : List Entry) (e : Entry) → IsUpheld o a m h k → b ≡ record a { history = a.history ++ e ∷ [] } → is_made e ≡ true → IsUpheld o b m h k
-upheld_made o a b m h k e was grown is = record {
+pub upheld_made : (o a b : World) (m : Misreports) (h k : List Entry) (e : Entry) → IsUpheld o a m h k → b ≡ record a { history = a.history ++ e ∷ [] } → is_made e ≡ true → is_no_misreport e ≡ true → IsUpheld o b m h k
+upheld_made o a b m h k e was grown is other = record {
   runs = runs_made o a b e was.runs grown is;
   told = told_made o a b e was.told grown is;
-  judged = misreports_made a b e m was.judged grown;
+  judged = judged_made o a b e m was.judged grown other;
   handed = front_made a b h e was.handed grown;
   durable = front_made a b k e was.durable grown;
 }
@@ -44,21 +45,21 @@ pub upheld_more : (o a b : World) (m n : Misreports) (h k : List Entry) (t : Tic
 upheld_more o a b m n h k t refs index was kept last refused grown = record {
   runs = runs_made o a b (Failed t.drv BadReferences) was.runs grown refl;
   told = told_made o a b (Failed t.drv BadReferences) was.told grown refl;
-  judged = misreports_more a b t refs index m n was.judged kept last refused grown;
+  judged = judged_more o a b t refs index m n was.judged kept last refused grown;
   handed = front_made a b h (Failed t.drv BadReferences) was.handed grown;
   durable = front_made a b k (Failed t.drv BadReferences) was.durable grown;
 }
 
 -- .. that found no memory
 pub upheld_same : (o a : World) (m n : Misreports) (h k : List Entry) → IsUpheld o a m h k → KeepsSame m n → IsUpheld o a n h k
-upheld_same o a m n h k was same = record { runs = was.runs; told = was.told; judged = misreports_same a m n was.judged same; handed = was.handed; durable = was.durable }
+upheld_same o a m n h k was same = record { runs = was.runs; told = was.told; judged = judged_same o a m n was.judged same; handed = was.handed; durable = was.durable }
 
 -- steps of a pump
 pub upheld_pumped : (o a b : World) (m : Misreports) (h k : List Entry) → IsUpheld o a m h k → b.inputs ≡ a.inputs → HasPumped a.inputs a.history b.history → IsUpheld o b m h k
 upheld_pumped o a b m h k was inputs pumped = record {
   runs = runs_pumped o a b was.runs inputs pumped;
   told = told_pumped o a b was.told pumped;
-  judged = misreports_pumped a b m was.judged inputs pumped;
+  judged = judged_pumped o a b m was.judged inputs pumped;
   handed = front_pumped a.inputs a.history b.history h was.handed pumped;
   durable = front_pumped a.inputs a.history b.history k was.durable pumped;
 }
@@ -84,7 +85,7 @@ pub upheld_abandoned : (o a b : World) (m : Misreports) (h k : List Entry) (mann
 upheld_abandoned o a b m h k manned was grown = record {
   runs = runs_abandoned o a b manned was.runs grown;
   told = told_abandoned o a b manned was.told grown;
-  judged = misreports_abandoned a b manned m was.judged grown;
+  judged = judged_abandoned o a b manned m was.judged grown;
   handed = front_abandoned a b h manned was.handed grown;
   durable = front_abandoned a b k manned was.durable grown;
 }

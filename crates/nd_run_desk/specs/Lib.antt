@@ -1,4 +1,5 @@
 pub mod Abandoned
+pub mod Judgements
 pub mod Leaves
 pub mod Picks
 pub mod Steps

@@ -9,8 +9,8 @@ use Rattle.nd_history.specs.Premises.{Premises}
 use Rattle.nd_history.specs.Pumping.{IsPumpStep}
 use Rattle.nd_ledger.specs.Worlds.{World}
 use Rattle.nd_receipts.specs.declared.judging.Misreports.{Misreports}
-use Rattle.nd_receipts.specs.Judged.{AreMisreports}
 use Rattle.nd_receipts.specs.Made.{is_quiet}
+use Rattle.nd_run_desk.specs.Judgements.{AreJudged}
 use Rattle.nd_run_desk.specs.Leaves.{IsFrontOf}
 
 -- a dispatch has one entry more, and nothing else of it has changed
@@ -52,10 +52,11 @@ pub record StopsAreTold (opening now : World) : Type 0 where
   pub quiet : list_any is_stop now.history ≡ false → list_all is_quiet (drop (length opening.history) now.history) ≡ true
 
 -- what is known of a run's dispatch whenever its lock is taken: it goes on from the opening one, a stop tells that the run was ended,
--- what is kept as wrong references is, and what was handed to the run's scribe, and what of it is durable, are the history's first entries
+-- each failure for references since then has such as are kept, and are wrong, and what was handed to the run's scribe, and what of it is
+-- durable, are the history's first entries
 pub record IsUpheld (opening now : World) (misreports : Misreports) (front kept : List Entry) : Type 0 where
   pub runs : RunsOn opening now
   pub told : StopsAreTold opening now
-  pub judged : AreMisreports now.inputs now.history misreports
+  pub judged : AreJudged opening now misreports
   pub handed : IsFrontOf front now.history
   pub durable : IsFrontOf kept now.history

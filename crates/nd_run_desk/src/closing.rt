@@ -1,16 +1,16 @@
 //! How the desk of a run is opened, and what is left of it when the run ends.
 
-ghost use Rattle.std.specs.Prelude.{◌≡◌, true};
+ghost use Rattle.std.specs.Prelude.{◌≡◌, true, false};
 ghost use Rattle.nd_receipts.specs.Made.{made};
-ghost use Rattle.nd_receipts.specs.Judged.{AreMisreports};
+ghost use Rattle.nd_run_desk.specs.Judgements.{AreJudged};
 ghost use Rattle.nd_run_desk.specs.Leaves.{IsFrontOf};
 ghost use Rattle.nd_run_desk.specs.Steps.{RunsOn, StopsAreTold};
-ghost use Rattle.nd_run_desk.specs.Written.{IsWritten, IsWrittenWhole};
+ghost use Rattle.nd_run_desk.specs.Written.{IsUnwritten, IsWritten, IsWrittenWhole};
 
 use crate::desk::Desk;
 use crate::keeping::{Progress, Writing};
 use crate::opened::Opened;
-use nd_keeping::{Journal, Scribe};
+use nd_keeping::{Front, Journal, Scribe};
 use nd_ledger::Dispatch;
 use nd_receipts::{Misreports, ParkPlace};
 use std::alloc::Global;
@@ -25,6 +25,8 @@ pub struct Closed {
     pub misreports: Misreports,
     /// Whether the journal took the whole history. It counts as kept where there is no journal.
     pub kept: bool,
+    /// The entries that were handed to the scribe: the first ones of the history.
+    pub handed: Front,
 }
 
 impl<L: Opened> Desk<L> {
@@ -61,8 +63,9 @@ impl<L: Opened> Desk<L> {
         ensures total { made result.dispatch.history ≡ all.amount }
         ensures runs { RunsOn L.opening result.dispatch }
         ensures told { StopsAreTold L.opening result.dispatch }
-        ensures misreports { AreMisreports result.dispatch.inputs result.dispatch.history result.misreports }
-        ensures written { IsWritten keeps result.kept writing.now.scribe result.dispatch.history }
+        ensures misreports { AreJudged L.opening result.dispatch result.misreports }
+        ensures handed { result.handed ≡ self.progress.handed }
+        ensures written { IsWritten keeps result.kept writing.now.scribe result.handed.entries result.dispatch.history }
     {
         let mut all = all;
         let kept = self.is_kept(keeps, writing);
@@ -78,18 +81,19 @@ impl<L: Opened> Desk<L> {
         drop(book);
         drop(all);
         drop(manned);
-        drop(progress);
+        let Progress { handed, .. } = progress;
         Closed {
             dispatch,
             misreports,
             kept,
+            handed,
         }
     }
 
     /// Whether a run that keeps its history has all of it in the journal. One that keeps none has it all.
     #[tactic(auto, using(crate::proofs::Fronts::unkept, crate::proofs::Fronts::kept_written))]
     fn is_kept<J: Journal>(&self, keeps: bool, writing: &Writing<L, J>) -> bool
-        ensures { IsWritten keeps result writing.now.scribe self.now.dispatch.history }
+        ensures { IsWritten keeps result writing.now.scribe self.now.progress.handed.entries self.now.dispatch.history }
     {
         if !keeps {
             return true;
@@ -98,15 +102,22 @@ impl<L: Opened> Desk<L> {
     }
 
     /// Whether the journal has taken the whole history.
-    #[tactic(auto, using(crate::proofs::Fronts::written_whole))]
+    #[tactic(auto, using(crate::proofs::Fronts::written_whole, crate::proofs::Fronts::refused_unwritten, crate::proofs::Fronts::other_unwritten, crate::proofs::Fronts::beyond_unwritten))]
     fn is_written<J: Journal>(&self, writing: &Writing<L, J>) -> bool
-        ensures { result ≡ true → IsWrittenWhole writing.now.scribe self.now.dispatch.history }
+        ensures whole { result ≡ true → IsWrittenWhole writing.now.scribe self.now.dispatch.history }
+        ensures lacks { result ≡ false → IsUnwritten writing.now.scribe self.now.progress.handed.entries self.now.dispatch.history }
     {
         let scribe = &writing.scribe;
-        let kept = scribe.kept();
-        if scribe.is_refused() || !kept.begins(&self.progress.handed) {
+        if scribe.is_refused() {
             return false;
         }
-        kept.len() == self.dispatch.history().len()
+        let kept = scribe.kept();
+        if kept.len() != self.dispatch.history().len() {
+            return false;
+        }
+        if !kept.begins(&self.progress.handed) {
+            return false;
+        }
+        true
     }
 }

@@ -5,7 +5,8 @@ ghost use Rattle.std.specs.Prelude.{◌≡◌, ◌+◌, ◌<◌, ◌≤◌, drop
 ghost use Rattle.nd_history.specs.History.{is_started};
 ghost use Rattle.nd_ledger.specs.Moves.{IsStartRefused, IsEndRefused};
 ghost use Rattle.nd_ledger.specs.Refusals.{IsDownRefused, IsFailRefused};
-ghost use Rattle.nd_receipts.specs.Made.{made, is_worker_cause};
+ghost use Rattle.nd_receipts.specs.Made.{made};
+ghost use Rattle.nd_run_desk.specs.Judgements.{is_own_cause};
 ghost use Rattle.nd_run_desk.specs.Steps.{IsUpheld, Records};
 
 use crate::abandoning::abandon;
@@ -169,10 +170,11 @@ impl<L: Opened> Desk<L> {
     }
 
     /// Records the end of a lease without outputs, as `Dispatch::failed` does, and refuses as that does. The answer is the
-    /// entry's place in the history.
+    /// entry's place in the history. The cause is one that a worker says by its own word: that a build may not have the
+    /// references that it reported is recorded by [`Desk::misreport`] alone.
     pub fn fail(&mut self, ticket: Ticket, why: Why, mine: &mut Share<L>) -> Result<usize, Refusal>
         requires part { 0 < mine.old.parts }
-        requires cause { is_worker_cause why ≡ true }
+        requires cause { is_own_cause why ≡ true }
         ensures ok { OnOk result (mine.new.amount ≡ mine.old.amount + 1) }
         ensures err { OnErr result (mine.new.amount ≡ mine.old.amount) }
         ensures parts { mine.new.parts ≡ mine.old.parts }

@@ -1,7 +1,7 @@
 //! How the entries of a run come to its scribe, and how what is durable comes back to those who wait for it.
 
-ghost use Rattle.std.specs.Prelude.{◌≡◌, ◌<◌, true, IfSome};
-ghost use Rattle.nd_run_desk.specs.Leaves.{Allows, IsStartDurableAt, IsStartOf};
+ghost use Rattle.std.specs.Prelude.{◌≡◌, ◌<◌, length, true, IfSome};
+ghost use Rattle.nd_run_desk.specs.Leaves.{Allows, HasHandedOver, IsStartOf};
 
 use crate::desk::Desk;
 use crate::keeping::{Leave, Step, Writing};
@@ -24,8 +24,12 @@ pub enum Found {
 impl<L: Opened> Desk<L> {
     /// Hands the entries that came since to the scribe. `Refused` where there is no memory for their lines, or where it
     /// has refused before or isn't the scribe of this run.
-    #[tactic(auto, using(crate::proofs::Fronts::begun_through, crate::proofs::Upheld::upheld_handed))]
-    pub fn hand_over<J: Journal>(&mut self, writing: &mut Writing<L, J>) -> Found {
+    #[tactic(auto, using(crate::proofs::Fronts::begun_through, crate::proofs::Fronts::handed_over, crate::proofs::Upheld::upheld_handed))]
+    pub fn hand_over<J: Journal>(&mut self, writing: &mut Writing<L, J>) -> Found
+        ensures same { self.new.dispatch ≡ self.old.dispatch }
+        ensures handed { result ≡ Found.Some → HasHandedOver writing.new.scribe self.new.progress.handed self.new.dispatch.history }
+        ensures nothing { result ≡ Found.Nothing → length self.new.progress.handed.entries ≡ length self.new.dispatch.history }
+    {
         let Desk {
             dispatch,
             progress,
@@ -96,7 +100,7 @@ fn place_behind(history: &[Entry], step: Step, ticket: &Ticket) -> Option<usize>
 {
     match step {
         Step::Call => place_of_choice(history, ticket),
-        Step::Build => place_of_start(history, ticket.drv),
+        Step::Build => place_of_start(history, ticket),
     }
 }
 
@@ -122,13 +126,16 @@ fn is_choice_of(entry: &Entry, ticket: &Ticket) -> bool
     }
 }
 
-/// The place of the last start of this derivation.
-fn place_of_start(history: &[Entry], drv: u32) -> Option<usize>
-    ensures { IfSome result (λ place. IsStartDurableAt true history.now place drv) }
+/// The place of the last start of a lease's derivation, behind the lease's choice.
+fn place_of_start(history: &[Entry], ticket: &Ticket) -> Option<usize>
+    ensures { IfSome result (λ place. Allows true history.now place Step.Build ticket.now) }
 {
     for behind in 0..history.len() {
         let place = history.len() - 1 - behind;
-        if is_start_of(&history[place], drv) {
+        if place <= ticket.serial {
+            return None;
+        }
+        if is_start_of(&history[place], ticket.drv) {
             return Some(place);
         }
     }

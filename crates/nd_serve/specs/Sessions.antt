@@ -10,6 +10,7 @@ use Rattle.nd_desk.specs.declared.event.Event.TheVariants.{Heard, Ended, Unheard
 use Rattle.nd_desk.specs.declared.fault.SessionFault.{SessionFault}
 use Rattle.nd_desk.specs.declared.fault.SessionFault.TheVariants.{Read, Journal, Write, Memory}
 use Rattle.nd_desk.specs.Handing.{handed, IsHandedPart}
+use Rattle.nd_desk.specs.Hearing.{AreHeard, AreAllHeard}
 use Rattle.nd_desk.specs.Notes.{Seen, Notes, answered}
 use Rattle.nd_history.specs.declared.entry.Entry.{Entry}
 use Rattle.nd_history.specs.Premises.{Premises}
@@ -123,7 +124,8 @@ IsSessionPart i start first fault events = IsOpeningPart i start first fault eve
 pub record IsWhole (turns : List Turn) (last : List Event) : Type 0 where
   pub end : (last ≡ Ended ∷ []) ⊎ ((last ≡ []) × (most_turns ≤ length turns))
 
--- .. and the output has all that was answered behind what it held
+-- .. and the output has all that was answered behind what it held. The lines of the turns, each with its newline, are the beginning of what the
+-- input had left, and where its end was met no newline stands behind them: a line without one is no command.
 pub record Serves (i : Premises) (start history : List Entry) (first : List ℕ) (old new : Seen) : Type 0 where
   pub opening : Opening
   pub turns : List Turn
@@ -133,6 +135,7 @@ pub record Serves (i : Premises) (start history : List Entry) (first : List ℕ)
   pub whole : IsWhole turns last
   pub noted : Notes old new (events ++ last)
   pub told : Appends old.told new.told (answered events)
+  pub heard : AreAllHeard old.left events last
 
 -- what the output has of a session that ends early: all that was answered, unless it refused an answer, of which it may have a part
 abbrev pub TellsPart : SessionFault → Seen → Seen → List Event → Type 0
@@ -146,3 +149,4 @@ pub record ServesPart (i : Premises) (start : List Entry) (first : List ℕ) (ol
   pub part : IsSessionPart i start first fault events
   pub noted : Notes old new events
   pub told : TellsPart fault old new events
+  pub heard : AreHeard old.left events

@@ -1,11 +1,12 @@
 -- What the parts of a turn come to, before they are put together. No public clause cites this: it serves private clauses alone.
-use Rattle.std.specs.Prelude.{◌≡◌, ℕ, ◌<◌, Bool, true, false, List, [], ◌∷◌, ◌++◌, drop, length, Option}
+use Rattle.std.specs.Prelude.{◌≡◌, ℕ, ◌<◌, Bool, true, false, List, [], ◌∷◌, ◌++◌, drop, length, Option, None}
 use Rattle.std.specs.List.{All, flat_map}
 use Rattle.std.specs.Io.KnownBytes.{Appends}
 use Rattle.nd_desk.specs.declared.event.Event.{Event}
 use Rattle.nd_desk.specs.declared.event.Event.TheVariants.{Ended}
 use Rattle.nd_desk.specs.declared.fault.SessionFault.{SessionFault}
 use Rattle.nd_desk.specs.Handing.{handed}
+use Rattle.nd_desk.specs.Hearing.{AreHeard, HearsNext, HearsNothing, HearsSoFar}
 use Rattle.nd_desk.specs.Notes.{Seen, Notes}
 use Rattle.nd_history.specs.declared.entry.Entry.{Entry}
 use Rattle.nd_history.specs.Premises.{Premises}
@@ -91,6 +92,7 @@ pub record Opens (i : Premises) (old new : List Entry) (first : List ℕ) (befor
   pub opening : Opening
   pub opens : IsOpening i old new opening
   pub noted : Notes before after (opening_events first opening)
+  pub unread : HearsNothing before after
 
 pub record OpensPart (i : Premises) (old : List Entry) (first : List ℕ) (before after : Seen) (fault : SessionFault) : Type 0 where
   pub events : List Event
@@ -103,6 +105,7 @@ pub record Takes (i : Premises) (old new : List Entry) (line : List ℕ) (before
   pub taken : IsTaken i old new turn
   pub heard : turn.line ≡ line
   pub noted : Notes before after (handed (kept_text turn) (answer_text turn))
+  pub unread : HearsNothing before after
 
 pub record TakesPart (i : Premises) (old : List Entry) (line : List ℕ) (before after : Seen) (fault : SessionFault) : Type 0 where
   pub events : List Event
@@ -114,11 +117,13 @@ pub record TakesTurn (i : Premises) (old new : List Entry) (before after : Seen)
   pub turn : Turn
   pub taken : IsTaken i old new turn
   pub noted : Notes before after (turn_events turn)
+  pub read : HearsSoFar before.left after.left (turn_events turn)
 
 -- the input ended
 pub record Ends (old new : List Entry) (before after : Seen) : Type 0 where
   pub kept : new ≡ old
   pub noted : Notes before after (Ended ∷ [])
+  pub none : HearsNext before after None
 
 -- whether there was a line, and its turn
 abbrev pub GoesOn : Premises → List Entry → List Entry → Seen → Seen → Bool → Type 0
@@ -129,3 +134,4 @@ pub record CutsTurn (i : Premises) (old : List Entry) (before after : Seen) (fau
   pub events : List Event
   pub cut : IsCut i old fault events
   pub noted : Notes before after events
+  pub heard : AreHeard before.left events

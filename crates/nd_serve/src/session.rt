@@ -18,6 +18,9 @@ use std::alloc::{AllocError, Global};
 /// hold nothing yet, and gets the first line of a history text of the second version. One that isn't is to
 /// hold the text of the dispatch's history in that version.
 ///
+/// A line ends with a newline. What stands behind the last newline of the input is no line and asks for nothing,
+/// as a command that was cut off while it was written.
+///
 /// A line that asks for nothing that is known is answered `refused BadLine`, a refused command `refused`
 /// and the refusal's name, and the session goes on.
 ///
@@ -26,7 +29,8 @@ use std::alloc::{AllocError, Global};
 /// in the journal.
 ///
 /// Where it is known what the output holds, it holds at the end what it held before and all that was
-/// answered, but for an end by `Write`.
+/// answered, but for an end by `Write`. Where it is known what the input has left, the lines of the turns are the
+/// beginning of that.
 #[tactic(auto, using(crate::proofs::Serving::sessions))]
 pub fn serve<D: Desk>(
     alloc: Global,

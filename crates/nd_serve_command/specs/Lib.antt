@@ -1,5 +1,6 @@
 pub mod Faults
 pub mod Lines
+pub mod Ends
 pub mod Sessions
 pub mod Advised
 pub mod Resumes

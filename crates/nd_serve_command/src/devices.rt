@@ -3,7 +3,7 @@
 ghost use Rattle.std.specs.Prelude.{◌≡◌, ◌↔◌, IsTrue, is_ok, IfErr, IfOk, OnOk};
 ghost use Rattle.std.specs.Io.KnownBytes.{Appends};
 ghost use Rattle.nd_keeping.specs.Stored.{IsAppended, IsSynced};
-ghost use Rattle.nd_serve_command.specs.Lines.{IsLineRead};
+ghost use Rattle.nd_desk.specs.Hearing.{IsLineHeard};
 
 use crate::lines::next_line;
 use nd_bytes::ByteString;
@@ -15,7 +15,7 @@ use std::io::{self, BufRead, Write};
 /// A reader of lines, a writer and a journal. What is done to them isn't known to contracts, but for what
 /// the writer holds, where it says that, as one in memory does: an answer adds its bytes to it, and no other
 /// call adds any; for what the reader has left, where it says that: a line that is heard is the next one
-/// of it; and for what the journal holds, where it says that: what is appended stands behind it, and a sync
+/// of it, which ends with a newline; and for what the journal holds, where it says that: what is appended stands behind it, and a sync
 /// makes all of it durable. Each call leaves the two devices that it isn't about as they were. Whatever the
 /// journal or the writer is refused for, the system's want of memory too, is their own refusal: a part of the
 /// bytes may be there.
@@ -30,24 +30,25 @@ pub struct Devices<R, W, J> {
 }
 
 impl<R: BufRead, W: Write, J: Journal> Desk for Devices<R, W, J> {
-    ghost use Rattle.nd_desk.specs.Notes.{told_alone, Notes, heard, tried};
+    ghost use Rattle.nd_desk.specs.Notes.{Notes, heard, tried};
     ghost use Rattle.nd_desk.specs.declared.event.Event.{Event};
+    ghost use Rattle.nd_serve_command.specs.Ends.{ends_of};
 
-    ghost seen = { λ d. told_alone (W.contents d.output) };
+    ghost seen = { λ d. ends_of R.remaining W.contents d };
 
     #[tactic(auto, using(crate::proofs::Passed::reads))]
     fn hear(&mut self, alloc: Global) -> Result<Option<ByteString>, DeskFault>
-        ensures noted { Notes (told_alone (W.contents self.old.output)) (told_alone (W.contents self.new.output)) (heard result) }
+        ensures noted { Notes (ends_of R.remaining W.contents self.old) (ends_of R.remaining W.contents self.new) (heard result) }
         ensures output { self.new.output ≡ self.old.output }
         ensures journal { self.new.journal ≡ self.old.journal }
-        ensures line { IfOk result (λ line. IsLineRead (R.remaining self.old.input) (R.remaining self.new.input) line) }
+        ensures line { IfOk result (λ line. IsLineHeard (R.remaining self.old.input) (R.remaining self.new.input) line) }
     {
         next_line(alloc, &mut self.input)
     }
 
     #[tactic(auto, using(crate::proofs::Passed::appends))]
     fn append(&mut self, bytes: &[u8]) -> Result<(), DeskFault>
-        ensures noted { Notes (told_alone (W.contents self.old.output)) (told_alone (W.contents self.new.output)) (tried result (Event.Appended bytes.now)) }
+        ensures noted { Notes (ends_of R.remaining W.contents self.old) (ends_of R.remaining W.contents self.new) (tried result (Event.Appended bytes.now)) }
         ensures input { self.new.input ≡ self.old.input }
         ensures output { self.new.output ≡ self.old.output }
         ensures stored { OnOk result (IsAppended (J.stored self.old.journal) (J.stored self.new.journal) bytes.now) }
@@ -57,7 +58,7 @@ impl<R: BufRead, W: Write, J: Journal> Desk for Devices<R, W, J> {
 
     #[tactic(auto, using(crate::proofs::Passed::syncs))]
     fn sync(&mut self) -> Result<(), DeskFault>
-        ensures noted { Notes (told_alone (W.contents self.old.output)) (told_alone (W.contents self.new.output)) (tried result Event.Synced) }
+        ensures noted { Notes (ends_of R.remaining W.contents self.old) (ends_of R.remaining W.contents self.new) (tried result Event.Synced) }
         ensures input { self.new.input ≡ self.old.input }
         ensures output { self.new.output ≡ self.old.output }
         ensures stored { OnOk result (IsSynced (J.stored self.old.journal) (J.stored self.new.journal)) }
@@ -67,7 +68,7 @@ impl<R: BufRead, W: Write, J: Journal> Desk for Devices<R, W, J> {
 
     #[tactic(auto, using(crate::proofs::Passed::answers))]
     fn answer(&mut self, bytes: &[u8]) -> Result<(), DeskFault>
-        ensures noted { Notes (told_alone (W.contents self.old.output)) (told_alone (W.contents self.new.output)) (tried result (Event.Answered bytes.now)) }
+        ensures noted { Notes (ends_of R.remaining W.contents self.old) (ends_of R.remaining W.contents self.new) (tried result (Event.Answered bytes.now)) }
         ensures input { self.new.input ≡ self.old.input }
         ensures journal { self.new.journal ≡ self.old.journal }
     {

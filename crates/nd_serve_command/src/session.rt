@@ -21,11 +21,12 @@ use std::alloc::Global;
 /// Of a desk that notes what is done to it: at whatever moment the session stops, and wherever what wasn't
 /// durable is cut off, the journal is gone on from with a legal history, which begins with every entry that
 /// was answered by a whole answer. Of a desk whose output is known: it gets all that was answered, and
-/// nothing else, unless it refuses an answer.
+/// nothing else, unless it refuses an answer. Of one whose input is known: the session's lines are those that it
+/// had left, in their order, of which each ends with a newline.
 ///
 /// What is noted of [`Devices`](crate::Devices) isn't known, and of what they do in a session only that is
-/// proved which speaks of the output. That the session's lines are those of their reader, each of which `hear`
-/// has a clause for, and that their journal gets what is noted and makes it durable, is only tested.
+/// proved which speaks of the input and the output. That their journal gets what is noted and makes it durable
+/// is only tested.
 #[tactic(auto, using(crate::proofs::Ended::sessions))]
 pub fn serve_engine<D: Desk>(alloc: Global, opened: Opened, desk: &mut D) -> Result<u8, ServeFault>
     ensures ended { IfOk result (λ status. EndsSession opened.dispatch (opened.kept == 0) status (D.seen desk.old) (D.seen desk.new)) }

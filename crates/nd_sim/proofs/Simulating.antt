@@ -29,7 +29,7 @@ use Rattle.nd_sim.specs.Outcomes.{IsAnswer, ComesTo, HasReplied, IsReplyNow}
 use Rattle.nd_history.specs.Statuses.{IsExitStatus}
 use Rattle.nd_sim.specs.Runs.{refused_line, IsPumping, IsPumped, IsObeyed, IsTurn, IsRun}
 use Rattle.nd_sim.specs.RunParts.{IsPumpingPart, IsTurnPart, IsSimulationPart}
-use Rattle.nd_sim.specs.Written.{WritesObeyed, WritesPumped, WritesPumpedPart, WritesTurn, WritesTurnPart, WritesRun, WritesSimulation, WritesSimulationPart}
+use Rattle.nd_sim.specs.Written.{WritesObeyed, WritesPumping, WritesPumped, WritesPumpedPart, WritesTurn, WritesTurnPart, WritesRun, WritesSimulation, WritesSimulationPart}
 
 -- ---- entries that are new
 
@@ -89,6 +89,14 @@ some_pumped i old new n before written is pumped appended = record {
   part = whole_part before written (flat_map line_of (drop n new)) appended;
 }
 
+pub some_pumped_whole : (i : Premises) (old new : List Entry) (n : ℕ) (before written : Option (List ℕ)) → n ≡ length old → HasPumped i old new
+    → Appends before written (flat_map line_of (drop n new)) → WritesPumping i old new before written
+some_pumped_whole i old new n before written is pumped appended = record {
+  text = flat_map line_of (drop n new);
+  pumping = lines_pumped i old new n is pumped;
+  appended = appended;
+}
+
 -- .. in part
 pub some_pumped_cut : (i : Premises) (old new : List Entry) (n : ℕ) (before written : Option (List ℕ)) → n ≡ length old → HasPumped i old new
     → WritesPart before written (flat_map line_of (drop n new)) → WritesPumpedPart i old before written
@@ -98,7 +106,7 @@ some_pumped_cut i old new n before written is pumped part = record {
   part = part;
 }
 
-pub ruleset pumps = (steps_past, all_steps_past, all_pumped, all_pumped_cut, some_pumped, some_pumped_cut)
+pub ruleset pumps = (steps_past, all_steps_past, all_pumped, all_pumped_cut, some_pumped, some_pumped_whole, some_pumped_cut)
 
 -- ---- a command
 

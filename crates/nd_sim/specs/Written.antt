@@ -7,7 +7,7 @@ use Rattle.nd_history.specs.declared.entry.Entry.{Entry}
 use Rattle.nd_history.specs.Premises.{Premises}
 use Rattle.nd_ledger.specs.Worlds.{World}
 use Rattle.nd_script.specs.declared.command.Command.{Command}
-use Rattle.nd_sim.specs.Runs.{IsObeyed, IsPumped, IsTurn, IsRun, IsSimulation}
+use Rattle.nd_sim.specs.Runs.{IsObeyed, IsPumping, IsPumped, IsTurn, IsRun, IsSimulation}
 use Rattle.nd_sim.specs.RunParts.{IsPumpingPart, IsTurnPart, IsSimulationPart}
 use Rattle.nd_sim.specs.declared.fault.SimFault.{SimFault}
 use Rattle.nd_sim.specs.declared.fault.SimFault.TheVariants.{Write, Memory}
@@ -37,6 +37,17 @@ pub record WritesPumped (i : Premises) (old new : List Entry) (before written : 
 -- .. between two states of the dispatch
 abbrev pub PumpedBetween : World → World → Option (List ℕ) → Option (List ℕ) → Type 0
 PumpedBetween old new before written = WritesPumped old.inputs old.history new.history before written
+
+-- the lines of pump steps, of which more may be due
+pub record WritesPumping (i : Premises) (old new : List Entry) (before written : Option (List ℕ)) : Type 0 where
+  pub text : List ℕ
+  pub pumping : IsPumping i old new text
+  pub appended : Appends before written text
+
+-- what is written where the pump ends early: for want of memory, the line of each entry that the history gained
+abbrev pub PumpedUntil : World → World → Option (List ℕ) → Option (List ℕ) → SimFault → Type 0
+PumpedUntil old new before written Write = Unit {0}
+PumpedUntil old new before written Memory = WritesPumping old.inputs old.history new.history before written
 
 -- the lines of some pump steps, or a part of them, from their beginning
 pub record WritesPumpedPart (i : Premises) (old : List Entry) (before written : Option (List ℕ)) : Type 0 where

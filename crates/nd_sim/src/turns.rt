@@ -1,9 +1,9 @@
 //! The turns of a script's commands, with the lines that are written of them.
 
-ghost use Rattle.std.specs.Prelude.{◌≡◌, ◌||◌, [], OnOk, OnErr};
+ghost use Rattle.std.specs.Prelude.{◌≡◌, ◌||◌, [], IfErr, OnOk, OnErr};
 ghost use Rattle.std.specs.List.{All};
 ghost use Rattle.nd_sim.specs.Answers.{IsNamed};
-ghost use Rattle.nd_sim.specs.Written.{ObeyedBetween, PumpedBetween, WritesPumpedPart, TurnedBetween, WritesTurnPart, WritesRun, WritesSimulationPart, is_write_failure};
+ghost use Rattle.nd_sim.specs.Written.{ObeyedBetween, PumpedBetween, PumpedUntil, WritesPumpedPart, TurnedBetween, WritesTurnPart, WritesRun, WritesSimulationPart, is_write_failure};
 
 use crate::answer::Answer;
 use crate::commands::obey;
@@ -101,12 +101,13 @@ fn act<W: io::Write>(
 /// were taken before want of memory, too.
 ///
 /// Refuses with `Write` (1) and `Memory` (2) as [`take_turns`] does. The beginning of the lines is out
-/// then, and the dispatch may have gone on.
+/// then, and the dispatch may have gone on: at `Memory` the lines of all steps that it took are out.
 #[tactic(auto, using(crate::proofs::Simulating::pumps))]
 pub fn pump<W: io::Write>(dispatch: &mut Dispatch, out: &mut Told<W>) -> Result<(), SimFault>
     ensures inputs { dispatch.new.inputs ≡ dispatch.old.inputs }
     ensures written { OnOk result (PumpedBetween dispatch.old dispatch.new (W.contents out.old.device) (W.contents out.new.device)) }
     ensures partly { OnErr result (WritesPumpedPart dispatch.old.inputs dispatch.old.history (W.contents out.old.device) (W.contents out.new.device)) }
+    ensures short { IfErr result (PumpedUntil dispatch.old dispatch.new (W.contents out.old.device) (W.contents out.new.device)) }
     ensures mark { out.new.is_marked ≡ (out.old.is_marked || is_write_failure result) }
 {
     let before = dispatch.history().len();

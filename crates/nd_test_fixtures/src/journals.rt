@@ -49,6 +49,7 @@ impl Journal for MemoryJournal {
 
     ghost stored = { λ j. Some (record { bytes = j.bytes.items; durable = j.durable }) };
 
+    #[tactic(auto, using(nd_keeping::proofs::Parts::part_none, nd_keeping::proofs::Parts::part_all))]
     fn append(&mut self, bytes: &[u8]) -> io::Result<()> {
         // What a refused call is given may be there all the same.
         self.bytes.extend_from_slice(bytes)?;
@@ -59,6 +60,7 @@ impl Journal for MemoryJournal {
         Ok(())
     }
 
+    #[tactic(auto, using(nd_keeping::proofs::Parts::same_bytes))]
     fn sync(&mut self) -> io::Result<()> {
         if self.grants == 0 {
             // The system's own want of memory is a refusal as any other.

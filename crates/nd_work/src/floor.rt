@@ -1,8 +1,8 @@
 //! What the workers and the scribe of a run share, and where each of them stands.
 
 ghost use Rattle.std.specs.Prelude.{◌≡◌, ◌<◌, [], true, IfErr, OnOk, OnErr};
-ghost use Rattle.nd_receipts.specs.Made.{is_worker_cause};
 ghost use Rattle.nd_receipts.specs.Noted.{HasNoted, HasJudged, afresh};
+ghost use Rattle.nd_run_desk.specs.Judgements.{is_own_cause};
 
 use crate::bells::Bells;
 use crate::hand::Hand;
@@ -114,7 +114,7 @@ impl<'a, L: Opened, R: Wait> Floor<'a, L, R> {
         behind: Behind,
     ) -> Result<(), Refusal>
         requires room { 0 < hand.old.notes.room }
-        requires cause { is_worker_cause why ≡ true }
+        requires cause { is_own_cause why ≡ true }
         ensures ok { OnOk result (HasNoted hand.old.notes hand.new.notes Kind.Failed behind (Entry.Failed ticket.drv why)) }
     {
         let mut desk = self.shared.desk.lock(self.rt);

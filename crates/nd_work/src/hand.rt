@@ -2,8 +2,8 @@
 
 ghost use Rattle.std.specs.Prelude.{◌≡◌, ◌+◌, ◌<◌, ◌≤◌, [], length, reverse, true, IfErr, OnOk, OnErr};
 ghost use Rattle.nd_ledger.specs.Moves.{IsEndRefused};
-ghost use Rattle.nd_receipts.specs.Made.{is_worker_cause};
 ghost use Rattle.nd_receipts.specs.Noted.{HasNoted, HasNotedWith, HasJudged, afresh};
+ghost use Rattle.nd_run_desk.specs.Judgements.{is_own_cause};
 
 use nd_closure::Refs;
 use nd_history::{Entry, Why};
@@ -231,7 +231,7 @@ impl<L: Opened> Hand<L> {
         behind: Behind,
     ) -> Result<(), Refusal>
         requires room { 0 < self.old.notes.room }
-        requires cause { is_worker_cause why ≡ true }
+        requires cause { is_own_cause why ≡ true }
         ensures ok { OnOk result (HasNoted self.old.notes self.new.notes Kind.Failed behind (Entry.Failed ticket.drv why)) }
     {
         let Hand { share, notes } = self;

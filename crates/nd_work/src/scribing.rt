@@ -103,6 +103,7 @@ impl<'a, L: Opened, R: Wait> Floor<'a, L, R> {
 
     /// Waits until the entry that stands behind a step of a lease is durable. There is no leave where the journal has
     /// refused. A run without a journal waits for nothing.
+    #[tactic(auto, using(crate::proofs::Unkept::unkept))]
     pub(crate) fn leave_for(&self, step: Step, ticket: &Ticket) -> Option<Leave<L>>
         ensures { IfSome result (λ leave. Allows L.keeping.keeps leave.kept.entries leave.place step ticket.now) }
     {

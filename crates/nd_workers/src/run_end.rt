@@ -2,7 +2,7 @@
 
 use crate::seat::Seat;
 use nd_history::Entry;
-use nd_keeping::{Journal, Scribe};
+use nd_keeping::{Front, Journal, Scribe};
 use nd_ledger::Dispatch;
 use nd_receipts::{Misreports, Receipt};
 
@@ -65,6 +65,8 @@ pub struct Evidence {
     pub threads: usize,
     /// Whether the run's journal took the whole history, where it has one; else it is set.
     pub kept: bool,
+    /// The entries that the run handed to its scribe: the first ones of the history.
+    pub handed: Front,
 }
 
 /// The end of a run.

@@ -5,13 +5,13 @@ ghost use Rattle.std.specs.List.{AllZip, zip, list_any, list_all};
 ghost use Rattle.nd_history.specs.History.{is_stop};
 ghost use Rattle.nd_history.specs.Standing.{drvs_in};
 ghost use Rattle.nd_receipts.specs.Made.{made, is_quiet};
-ghost use Rattle.nd_receipts.specs.Judged.{AreMisreports};
 ghost use Rattle.nd_receipts.specs.Dealt.{AreApart};
 ghost use Rattle.nd_receipts.specs.Standing.{IsIdle};
 ghost use Rattle.nd_receipts.specs.Walks.{AreUnknown};
 ghost use Rattle.nd_workers.specs.Faults.{IsFaultFrom, IsFaultOf, AreAllWrong};
 ghost use Rattle.nd_workers.specs.Runs.{AreManned, IsRunRefused, Agrees, IsOver, AreServed, AreReceiptedSince, since};
 ghost use Rattle.nd_workers.specs.Served.{places_served, HaveServed, is_refused, receipts_in};
+ghost use Rattle.nd_run_desk.specs.Judgements.{AreJudged};
 ghost use Rattle.nd_run_desk.specs.Leaves.{IsFrontOf};
 ghost use Rattle.nd_run_desk.specs.Steps.{RunsOn, StopsAreTold};
 ghost use Rattle.nd_run_desk.specs.Written.{IsWritten, IsWrittenWhole};
@@ -144,11 +144,11 @@ fn serve_leases<
     requires stints_room { vec_len seats ≤ vec_capacity stints }
     ensures runs { RunsOn dispatch result.served.dispatch }
     ensures told { StopsAreTold dispatch result.served.dispatch }
-    ensures misreports { AreMisreports result.served.dispatch.inputs result.served.dispatch.history result.served.misreports }
+    ensures misreports { AreJudged dispatch result.served.dispatch result.served.misreports }
     ensures count { vec_len result.served.stints ≡ vec_len seats }
     ensures total { made result.served.dispatch.history ≡ made dispatch.history + receipts_in result.served.stints.items }
     ensures each { HaveServed T.state seats.items result.served.stints.items }
-    ensures written { IsWritten paper.keeps result.served.kept result.scribe result.served.dispatch.history }
+    ensures written { IsWritten paper.keeps result.served.kept result.scribe result.served.handed.entries result.served.dispatch.history }
 {
     let Stations { manned, bells } = stations;
     let Paper { scribe, keeps } = paper;
@@ -171,12 +171,14 @@ fn serve_leases<
         dispatch,
         misreports,
         kept,
+        handed,
     } = closed;
     let served = Served {
         dispatch,
         stints,
         misreports,
         kept,
+        handed,
     };
     Brought { served, scribe }
 }
@@ -224,10 +226,10 @@ fn run_in<
     ensures thread { result.run.fault ≡ Some RunFault.Thread → list_any is_stop result.run.dispatch.history ≡ true }
     ensures memory { result.run.fault ≡ Some RunFault.Memory → list_any is_stop result.run.dispatch.history ≡ true }
     ensures journal { result.run.fault ≡ Some RunFault.Journal → list_any is_stop result.run.dispatch.history ≡ true }
-    ensures written { IsWritten paper.keeps result.run.evidence.kept result.scribe result.run.dispatch.history }
+    ensures written { IsWritten paper.keeps result.run.evidence.kept result.scribe result.run.evidence.handed.entries result.run.dispatch.history }
     ensures calls { Agrees result.run.fault → AreServed T.state dispatch result.run.dispatch seats.items result.run.workers.items result.run.receipts.items }
     ensures judged { Agrees result.run.fault → AreAllWrong result.run.dispatch.inputs result.run.dispatch.history result.run.receipts.items }
-    ensures misreports { AreMisreports result.run.dispatch.inputs result.run.dispatch.history result.run.evidence.misreports }
+    ensures misreports { AreJudged dispatch result.run.dispatch result.run.evidence.misreports }
     ensures fault { IsFaultOf dispatch result.run.dispatch plan.places.items result.run.receipts.items result.run.evidence result.run.fault }
 {
     let Room {
@@ -284,10 +286,10 @@ fn run_named<
     ensures thread { IfOk result (λ e. e.run.fault ≡ Some RunFault.Thread → list_any is_stop e.run.dispatch.history ≡ true) }
     ensures memory { IfOk result (λ e. e.run.fault ≡ Some RunFault.Memory → list_any is_stop e.run.dispatch.history ≡ true) }
     ensures journal { IfOk result (λ e. e.run.fault ≡ Some RunFault.Journal → list_any is_stop e.run.dispatch.history ≡ true) }
-    ensures written { IfOk result (λ e. IsWritten paper.keeps e.run.evidence.kept e.scribe e.run.dispatch.history) }
+    ensures written { IfOk result (λ e. IsWritten paper.keeps e.run.evidence.kept e.scribe e.run.evidence.handed.entries e.run.dispatch.history) }
     ensures calls { IfOk result (λ e. Agrees e.run.fault → AreServed T.state dispatch e.run.dispatch seats.items e.run.workers.items e.run.receipts.items) }
     ensures judged { IfOk result (λ e. Agrees e.run.fault → AreAllWrong e.run.dispatch.inputs e.run.dispatch.history e.run.receipts.items) }
-    ensures misreports { IfOk result (λ e. AreMisreports e.run.dispatch.inputs e.run.dispatch.history e.run.evidence.misreports) }
+    ensures misreports { IfOk result (λ e. AreJudged dispatch e.run.dispatch e.run.evidence.misreports) }
     ensures fault { IfOk result (λ e. IsFaultOf dispatch e.run.dispatch plan.places.items e.run.receipts.items e.run.evidence e.run.fault) }
 {
     let Ok(room) = make_room::<L, T>(alloc, seats.len()) else {
@@ -328,10 +330,10 @@ pub(crate) fn run_by<T: Transport, J: Journal + Send + Drop, R: Threads + Wait +
     ensures thread { IfOk result (λ e. e.run.fault ≡ Some RunFault.Thread → list_any is_stop e.run.dispatch.history ≡ true) }
     ensures memory { IfOk result (λ e. e.run.fault ≡ Some RunFault.Memory → list_any is_stop e.run.dispatch.history ≡ true) }
     ensures journal { IfOk result (λ e. e.run.fault ≡ Some RunFault.Journal → list_any is_stop e.run.dispatch.history ≡ true) }
-    ensures written { IfOk result (λ e. IsWritten keeps e.run.evidence.kept e.scribe e.run.dispatch.history) }
+    ensures written { IfOk result (λ e. IsWritten keeps e.run.evidence.kept e.scribe e.run.evidence.handed.entries e.run.dispatch.history) }
     ensures calls { IfOk result (λ e. Agrees e.run.fault → AreServed T.state dispatch e.run.dispatch workers.items e.run.workers.items e.run.receipts.items) }
     ensures judged { IfOk result (λ e. Agrees e.run.fault → AreAllWrong e.run.dispatch.inputs e.run.dispatch.history e.run.receipts.items) }
-    ensures misreports { IfOk result (λ e. AreMisreports e.run.dispatch.inputs e.run.dispatch.history e.run.evidence.misreports) }
+    ensures misreports { IfOk result (λ e. AreJudged dispatch e.run.dispatch e.run.evidence.misreports) }
     ensures fault { IfOk result (λ e. IsFaultOf dispatch e.run.dispatch (places_served workers.items) e.run.receipts.items e.run.evidence e.run.fault) }
 {
     let alloc = *workers.allocator();
@@ -389,7 +391,7 @@ pub fn run<T: Transport, R: Threads + Wait + Sync>(
     ensures unkept { IfOk result (λ e. e.fault ≡ Some RunFault.Journal → ⊥) }
     ensures calls { IfOk result (λ e. Agrees e.fault → AreServed T.state dispatch e.dispatch workers.items e.workers.items e.receipts.items) }
     ensures judged { IfOk result (λ e. Agrees e.fault → AreAllWrong e.dispatch.inputs e.dispatch.history e.receipts.items) }
-    ensures misreports { IfOk result (λ e. AreMisreports e.dispatch.inputs e.dispatch.history e.evidence.misreports) }
+    ensures misreports { IfOk result (λ e. AreJudged dispatch e.dispatch e.evidence.misreports) }
     ensures fault { IfOk result (λ e. IsFaultOf dispatch e.dispatch (places_served workers.items) e.receipts.items e.evidence e.fault) }
 {
     let scribe = Scribe::fresh(*workers.allocator(), NoJournal);

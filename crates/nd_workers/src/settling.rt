@@ -14,6 +14,7 @@ use crate::run_end::{Evidence, Ran, RunFault};
 use crate::seat::Seat;
 use crate::threads::Stint;
 use nd_history::Entry;
+use nd_keeping::Front;
 use nd_ledger::Dispatch;
 use nd_receipts::{Misreports, ParkPlace, Receipt, Standing, Tables};
 use nd_transports::Transport;
@@ -51,6 +52,7 @@ pub(crate) struct Served<T> {
     pub(crate) stints: Vec<Stint<T>>,
     pub(crate) misreports: Misreports,
     pub(crate) kept: bool,
+    pub(crate) handed: Front,
 }
 
 /// Room for so many workers, their receipts and the copies beside them.
@@ -132,6 +134,7 @@ pub(crate) fn settle<T: Transport>(
     ensures refused { result.evidence.refused ≡ list_any (λ stint. is_refused stint.end) served.stints.items }
     ensures threads { result.evidence.threads ≡ count_by (λ stint. stint.threaded) served.stints.items }
     ensures kept { result.evidence.kept ≡ served.kept }
+    ensures handed { result.evidence.handed ≡ served.handed }
     ensures fault { IsFaultFrom plan.opened result.dispatch plan.places.items result.receipts.items result.evidence result.fault }
 {
     let Served {
@@ -139,6 +142,7 @@ pub(crate) fn settle<T: Transport>(
         stints,
         misreports,
         kept,
+        handed,
     } = served;
     let Back {
         mut workers,
@@ -154,6 +158,7 @@ pub(crate) fn settle<T: Transport>(
         refused,
         threads,
         kept,
+        handed,
     };
     let fault = judge(rt, plan, &dispatch, receipts.as_slice(), &evidence);
     Ran {

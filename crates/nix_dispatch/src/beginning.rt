@@ -1,6 +1,7 @@
 //! What the command `run` begins with.
 
 ghost use Rattle.std.specs.Prelude.{◌≡◌, [], IfOk};
+ghost use Rattle.nix_dispatch.specs.Statuses.{fault_in};
 
 use crate::endings::Ending;
 use crate::journal_files::{Found, Kept, find_journal, ready_journal};
@@ -106,7 +107,9 @@ fn refusal<'a>(
     fault: ServeFault,
     name: &'a str,
     bytes: &[u8],
-) -> Ending<'a> {
+) -> Ending<'a>
+    ensures { fault_in result ≡ fault }
+{
     match fault {
         ServeFault::Cli(fault) => Ending::Common(placed(options, fault)),
         fault => Ending::Journal(JournalFailure::of_bytes(alloc, fault, name, bytes)),

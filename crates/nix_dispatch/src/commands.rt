@@ -1,9 +1,13 @@
 //! What each command does with its words.
 
+ghost use Rattle.std.specs.Prelude.{◌≡◌, None, IfErr, IfOk};
+ghost use Rattle.nd_cli.specs.Statuses.{exit_status};
+ghost use Rattle.nix_dispatch.specs.Statuses.{journal_name, usage};
+
 use crate::agents::run_given;
-use crate::endings::{Ending, common, told_ending};
+use crate::endings::{Ending, common, exit_by};
 use crate::listing::list_park;
-use crate::reporting::{Question, look_at};
+use crate::reporting::{Question, look_at, report};
 use crate::serving::serve;
 use clap::ArgMatches;
 use clap::error::{Error, ErrorKind};
@@ -42,15 +46,7 @@ pub(crate) fn run<
         None => false,
     };
     drop(matches);
-    match answer {
-        Some(Ok(status)) => status,
-        Some(Err(ending)) => {
-            let status = told_ending(rt, &ending, explain);
-            drop(ending);
-            status
-        }
-        None => not_understood(rt, "the command line names no command"),
-    }
+    exit_by(rt, answer, explain)
 }
 
 /// Prints why the words aren't understood, or the help that they ask for, and answers the exit status.
@@ -77,7 +73,7 @@ fn answer_to<
         Some(("audit", options)) => Some(audit(rt, alloc, options)),
         Some(("serve", options)) => Some(serve(rt, alloc, options)),
         Some(("run", options)) => Some(run_given(rt, alloc, options)),
-        Some(("report", options)) => Some(look_at(rt, alloc, options, Question::Report)),
+        Some(("report", options)) => Some(report(rt, alloc, options)),
         Some(("park", options)) => Some(common(list_park(rt, alloc, options))),
         _ => None,
     }
@@ -85,13 +81,17 @@ fn answer_to<
 
 /// Says in one line on standard error why the command line isn't understood, and answers the exit
 /// status for that.
-pub(crate) fn not_understood<R: Eprint>(rt: &R, why: &str) -> u8 {
+pub(crate) fn not_understood<R: Eprint>(rt: &R, why: &str) -> u8
+    ensures { result ≡ usage }
+{
     let _ = eprintln!(rt; "error: {why}");
     USAGE
 }
 
 /// Says a fault in one line on standard error, and answers its exit status.
-pub(crate) fn told<R: Eprint>(rt: &R, fault: &CliFault) -> u8 {
+pub(crate) fn told<R: Eprint>(rt: &R, fault: &CliFault) -> u8
+    ensures { result ≡ exit_status fault.now }
+{
     say(rt, fault);
     fault.status()
 }
@@ -121,7 +121,10 @@ fn path_answered<'a, I: Read + Drop, O: Write + Drop>(
     answer: Result<u8, CliFault>,
     input: Heard<I>,
     output: Heard<O>,
-) -> Result<u8, Failure<'a>> {
+) -> Result<u8, Failure<'a>>
+    ensures status { IfOk result (λ status. answer ≡ Ok status) }
+    ensures fault { IfErr result (λ failure. answer ≡ Err failure.fault) }
+{
     match answer {
         Ok(status) => {
             drop(input);
@@ -188,16 +191,19 @@ fn audit<'a, R: Files<File = File> + Input + Print + AllocGlobal + Threads + Syn
     options: &ArgMatches<'a>,
 ) -> Result<u8, Ending<'a>> {
     match options.get_str("journal") {
-        Some(_) => look_at(rt, alloc, options, Question::Audit),
+        Some(name) => look_at(rt, alloc, options, name, Question::Audit),
         None => common(audit_history(rt, alloc, options)),
     }
 }
 
+/// Audits the history text. No journal is given.
 fn audit_history<'a, R: Files + Input + Print + AllocGlobal + Threads + Sync>(
     rt: &R,
     alloc: Global,
     options: &ArgMatches<'a>,
-) -> Result<u8, Failure<'a>> {
+) -> Result<u8, Failure<'a>>
+    requires { journal_name options.now ≡ None }
+{
     let mut inputs = read_inputs(rt, alloc, options, Some("history"))?;
     let mut output = Told::new(Heard::new(io::writer(rt)));
     let history = inputs.own.as_slice();

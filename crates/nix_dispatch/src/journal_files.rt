@@ -1,5 +1,8 @@
 //! The journal of a session or of a run in a file.
 
+ghost use Rattle.std.specs.Prelude.{◌≡◌};
+ghost use Rattle.nix_dispatch.specs.Statuses.{fault_in};
+
 use crate::endings::Ending;
 use nd_bytes::ByteString;
 use nd_cli::CliFault;
@@ -57,23 +60,29 @@ impl<'a, F: OpenFile + Drop> Kept<'a, F> {
         }
     }
 
-    /// What is known of a refusal of the file.
-    pub(crate) fn into_failure(self) -> JournalFailure<'a> {
+    /// What is known of a fault of the journal, with what the system last said of its file.
+    pub(crate) fn into_failure(self, fault: ServeFault) -> JournalFailure<'a>
+        ensures { result.fault ≡ fault }
+    {
         match self {
-            Kept::Nowhere => JournalFailure::of_file(ServeFault::JournalFailed, "", None),
-            Kept::InFile { name, refusal, .. } => {
-                JournalFailure::of_file(ServeFault::JournalFailed, name, refusal)
-            }
+            Kept::Nowhere => JournalFailure::of_file(fault, "", None),
+            Kept::InFile { name, refusal, .. } => JournalFailure::of_file(fault, name, refusal),
         }
     }
 }
 
 impl<F: Write + OpenFile> Journal for Kept<'_, F> {
-    ghost use Rattle.std.specs.Prelude.{None};
+    ghost use Rattle.std.specs.Prelude.{None, OnErr, OnOk};
+    ghost use Rattle.nd_keeping.specs.Stored.{HoldsPart, IsAppended};
+    ghost use Rattle.nix_dispatch.specs.Files.{KeepsBytes};
 
     ghost stored = { λ _. None };
 
-    fn append(&mut self, bytes: &[u8]) -> io::Result<()> {
+    fn append(&mut self, bytes: &[u8]) -> io::Result<()>
+        ensures stored { OnOk result (IsAppended None None bytes.now) }
+        ensures refused { OnErr result (HoldsPart None None bytes.now) }
+        ensures written { OnOk result (KeepsBytes F.contents self.old self.new bytes.now) }
+    {
         let Kept::InFile { file, refusal, .. } = self else {
             return Ok(());
         };
@@ -175,7 +184,7 @@ pub(crate) fn ready_journal<'a, R: Files<File = File>>(
     drop(bytes);
     let mut journal = begin_journal(rt, name, file)?;
     if held > 0 && journal.cut(length).is_err() {
-        return Err(Ending::Journal(journal.into_failure()));
+        return Err(Ending::Journal(journal.into_failure(ServeFault::JournalFailed)));
     }
     Ok(journal)
 }
@@ -259,7 +268,9 @@ fn failed(name: &str, error: io::Error) -> Ending<'_> {
 }
 
 /// How a command ends by this fault over the journal of this name, with what the system said of it.
-fn unread(name: &str, fault: ServeFault, system: Option<io::Error>) -> Ending<'_> {
+fn unread(name: &str, fault: ServeFault, system: Option<io::Error>) -> Ending<'_>
+    ensures { fault_in result ≡ fault }
+{
     match fault {
         ServeFault::Cli(fault) => {
             let source = Source::File {

@@ -1,5 +1,7 @@
 //! The command `park`: a line for each slot.
 
+ghost use Rattle.std.specs.Prelude.{◌≡◌, IfErr, IfOk};
+
 use clap::ArgMatches;
 use nd_cli::{CliFault, ParkOptions, park_engine};
 use nd_command_line::{Given, failure, write_failure};
@@ -7,7 +9,7 @@ use nd_devices::Told;
 use nd_explain::{Failure, Heard};
 use nd_options::park_options;
 use std::alloc::Global;
-use std::io;
+use std::io::{self, Write};
 use std::rt::Files;
 use std::thread::Threads;
 
@@ -20,7 +22,21 @@ pub(crate) fn list_park<'a, R: Files + Print + AllocGlobal + Threads + Sync>(
     let park = park_options(rt, alloc, options)?;
     let mut output = Told::new(Heard::new(io::writer(rt)));
     let answer = park_engine(rt, alloc, &park, &mut output);
-    let output = output.into_inner();
+    listed(alloc, options, park, answer, output.into_inner())
+}
+
+/// What the command answers, whose options say this of a park: the status of its engine, and else what is known of
+/// the fault that it ended with over this output.
+fn listed<'a, W: Write + Drop>(
+    alloc: Global,
+    options: &ArgMatches<'a>,
+    park: ParkOptions,
+    answer: Result<u8, CliFault>,
+    output: Heard<W>,
+) -> Result<u8, Failure<'a>>
+    ensures status { IfOk result (λ status. answer ≡ Ok status) }
+    ensures fault { IfErr result (λ failure. answer ≡ Err failure.fault) }
+{
     match answer {
         Ok(status) => {
             drop(output);
@@ -46,7 +62,9 @@ fn park_failure<'a>(
     options: &ArgMatches<'a>,
     park: ParkOptions,
     fault: CliFault,
-) -> Failure<'a> {
+) -> Failure<'a>
+    ensures { result.fault ≡ fault }
+{
     let given = Given {
         options,
         park: &park,

@@ -1,9 +1,13 @@
 //! The commands that look at a journal: `report`, and `audit` where a journal is given.
 
+ghost use Rattle.std.specs.Prelude.{◌≡◌, false, IfErr, IfOk};
+ghost use Rattle.nix_dispatch.specs.Looked.{AnswersAbout, IsUnansweredFor};
+ghost use Rattle.nix_dispatch.specs.Statuses.{fault_in};
+
 use crate::endings::Ending;
 use crate::journal_files::read_aside;
 use clap::ArgMatches;
-use nd_cli::CliFault;
+use nd_cli::{CliFault, ParkOptions};
 use nd_command_line::{Inputs, read_inputs, write_failure};
 use nd_devices::Told;
 use nd_explain::{Failure, Heard};
@@ -24,14 +28,25 @@ pub(crate) enum Question {
     Audit,
 }
 
-/// Writes what is asked of the history that the journal tells. Its file isn't locked, and nothing is written to it.
+/// Writes the report of the history that the journal tells.
+pub(crate) fn report<'a, R: Files<File = File> + Input + Print + AllocGlobal + Threads + Sync>(
+    rt: &R,
+    alloc: Global,
+    options: &ArgMatches<'a>,
+) -> Result<u8, Ending<'a>> {
+    let name = options.get_str("journal").unwrap_or("");
+    look_at(rt, alloc, options, name, Question::Report)
+}
+
+/// Writes what is asked of the history that the journal of this name tells. Its file isn't locked, and nothing is
+/// written to it.
 pub(crate) fn look_at<'a, R: Files<File = File> + Input + Print + AllocGlobal + Threads + Sync>(
     rt: &R,
     alloc: Global,
     options: &ArgMatches<'a>,
+    name: &'a str,
     asked: Question,
 ) -> Result<u8, Ending<'a>> {
-    let name = options.get_str("journal").unwrap_or("");
     let journal = read_aside(rt, alloc, name)?;
     let answer = look_at_bytes(rt, alloc, options, name, journal.as_slice(), asked);
     drop(journal);
@@ -56,12 +71,72 @@ fn look_at_bytes<'a, R: Files + Input + Print + AllocGlobal + Threads + Sync>(
         return Err(Ending::Common(Failure::of(CliFault::Memory)));
     };
     let mut output = Told::new(Heard::new(buffer));
-    let park = &inputs.park;
-    let bundle = &mut inputs.bundle;
-    let answer = match asked {
-        Question::Report => report_engine(rt, alloc, park, journal, bundle, &mut output),
-        Question::Audit => audit_journal_engine(rt, alloc, park, journal, bundle, &mut output),
-    };
+    let answer = answer_about(
+        rt,
+        alloc,
+        asked,
+        &inputs.park,
+        journal,
+        &mut inputs.bundle,
+        &mut output,
+    );
+    looked(
+        alloc,
+        options,
+        Journal {
+            name,
+            bytes: journal,
+        },
+        inputs,
+        answer,
+        output,
+    )
+}
+
+/// Writes the answer to what is asked of the history that a journal with these bytes tells, over the bundle on the
+/// input and the park of the options.
+fn answer_about<R: Read, W: Write>(
+    rt: &(impl Threads + Sync),
+    alloc: Global,
+    asked: Question,
+    park: &ParkOptions,
+    journal: &[u8],
+    input: &mut Told<R>,
+    output: &mut Told<W>,
+) -> Result<u8, ServeFault>
+    requires reader { input.old.is_marked ≡ false }
+    requires writer { output.old.is_marked ≡ false }
+    ensures answer { IfOk result (λ status. AnswersAbout asked park.now journal.now status R.remaining input.old input.new W.contents output.old output.new) }
+    ensures fault { IfErr result (IsUnansweredFor asked park.now journal.now R.remaining input.old input.new W.contents output.old output.new) }
+{
+    match asked {
+        Question::Report => report_engine(rt, alloc, park, journal, input, output),
+        Question::Audit => audit_journal_engine(rt, alloc, park, journal, input, output),
+    }
+}
+
+/// A journal that was read.
+#[derive(Clone, Copy)]
+struct Journal<'a, 'b> {
+    /// Its name.
+    name: &'a str,
+    /// Its bytes.
+    bytes: &'b [u8],
+}
+
+/// What a command answers: the status of its engine, and else what is known of the fault that it ended with over
+/// this journal, these inputs and this output.
+fn looked<'a, I: Read + Drop, F: Read + Drop, W: Write + Drop>(
+    alloc: Global,
+    options: &ArgMatches<'a>,
+    journal: Journal<'a, '_>,
+    inputs: Inputs<I, F>,
+    answer: Result<u8, ServeFault>,
+    output: Told<Heard<W>>,
+) -> Result<u8, Ending<'a>>
+    ensures status { IfOk result (λ status. answer ≡ Ok status) }
+    ensures fault { IfErr result (λ ending. answer ≡ Err (fault_in ending)) }
+{
     match answer {
         Ok(status) => {
             drop(inputs);
@@ -74,7 +149,8 @@ fn look_at_bytes<'a, R: Files + Input + Print + AllocGlobal + Threads + Sync>(
         Err(fault) => {
             drop(inputs);
             drop(output);
-            Err(Ending::Journal(JournalFailure::of_bytes(alloc, fault, name, journal)))
+            let Journal { name, bytes } = journal;
+            Err(Ending::Journal(JournalFailure::of_bytes(alloc, fault, name, bytes)))
         }
     }
 }
@@ -86,7 +162,9 @@ fn unanswered<'a, I: Read + Drop, F: Read + Drop, W: Write + Drop>(
     inputs: Inputs<I, F>,
     fault: CliFault,
     output: Told<Heard<W>>,
-) -> Failure<'a> {
+) -> Failure<'a>
+    ensures { result.fault ≡ fault }
+{
     let output = output.into_inner();
     match fault {
         CliFault::Write => {

@@ -1,7 +1,8 @@
 //! A run by workers of any kind.
 
-ghost use Rattle.std.specs.Prelude.{map};
+ghost use Rattle.std.specs.Prelude.{◌≡◌, map, IfErr, IfOk};
 ghost use Rattle.nd_workers.specs.Runs.{AreManned};
+ghost use Rattle.nix_dispatch.specs.Statuses.{fault_in};
 
 use crate::endings::{Ending, common};
 use crate::journal_files::Kept;
@@ -59,21 +60,16 @@ pub(crate) fn run_workers<'a, T: Transport, R: Print + AllocGlobal + Threads + W
 fn ended<'a, W: Write + Drop>(
     answer: Result<u8, CliFault>,
     output: Heard<W>,
-) -> Result<u8, Failure<'a>> {
+) -> Result<u8, Failure<'a>>
+    ensures status { IfOk result (λ status. answer ≡ Ok status) }
+    ensures fault { IfErr result (λ failure. answer ≡ Err failure.fault) }
+{
     match answer {
         Ok(status) => {
             drop(output);
             Ok(status)
         }
-        Err(CliFault::Write) => {
-            let failure = write_failure(&output);
-            drop(output);
-            Err(failure)
-        }
-        Err(fault) => {
-            drop(output);
-            Err(Failure::of(fault))
-        }
+        Err(fault) => Err(failed(fault, output)),
     }
 }
 
@@ -81,7 +77,10 @@ fn ended<'a, W: Write + Drop>(
 fn kept_ended<'a, W: Write + Drop>(
     end: KeptEnd<Kept<'a, File>>,
     output: Heard<W>,
-) -> Result<u8, Ending<'a>> {
+) -> Result<u8, Ending<'a>>
+    ensures status { IfOk result (λ status. end.entry.answer ≡ Ok status) }
+    ensures fault { IfErr result (λ ending. end.entry.answer ≡ Err (fault_in ending)) }
+{
     let KeptEnd { answer, journal } = end;
     match answer {
         Ok(status) => {
@@ -91,12 +90,28 @@ fn kept_ended<'a, W: Write + Drop>(
         }
         Err(ServeFault::Cli(fault)) => {
             drop(journal);
-            common(ended(Err(fault), output))
+            Err(Ending::Common(failed(fault, output)))
         }
         Err(fault) => {
-            drop(fault);
             drop(output);
-            Err(Ending::Journal(journal.into_failure()))
+            Err(Ending::Journal(journal.into_failure(fault)))
+        }
+    }
+}
+
+/// What is known of a fault that a run ended with over this output.
+fn failed<'a, W: Write + Drop>(fault: CliFault, output: Heard<W>) -> Failure<'a>
+    ensures { result.fault ≡ fault }
+{
+    match fault {
+        CliFault::Write => {
+            let failure = write_failure(&output);
+            drop(output);
+            failure
+        }
+        fault => {
+            drop(output);
+            Failure::of(fault)
         }
     }
 }

@@ -1,6 +1,9 @@
 //! The command `serve`: a session over standard input and output, with a journal in a file. What was opened is left
 //! to the system where the command ends early, since the process ends with it.
 
+ghost use Rattle.std.specs.Prelude.{◌≡◌, IfErr, IfOk};
+ghost use Rattle.nix_dispatch.specs.Statuses.{fault_in};
+
 use crate::endings::Ending;
 use crate::journal_files::{Kept, find_journal, ready_journal};
 use clap::ArgMatches;
@@ -94,7 +97,20 @@ fn hold<'a, R: Files<File = File> + Input + Print + AllocGlobal>(
         output,
         journal,
     } = devices;
-    let input = input.into_inner();
+    held(answer, input.into_inner(), output, journal)
+}
+
+/// What the command answers: the status of its session, and else what is known of the fault that it ended with over
+/// these devices.
+fn held<'a, I: Read + Drop, O: Write + Drop>(
+    answer: Result<u8, ServeFault>,
+    input: Heard<I>,
+    output: Heard<O>,
+    journal: Kept<'a, File>,
+) -> Result<u8, Ending<'a>>
+    ensures status { IfOk result (λ status. answer ≡ Ok status) }
+    ensures fault { IfErr result (λ ending. answer ≡ Err (fault_in ending)) }
+{
     match answer {
         Ok(status) => {
             drop(input);
@@ -107,10 +123,9 @@ fn hold<'a, R: Files<File = File> + Input + Print + AllocGlobal>(
             Err(Ending::Common(held_failure(fault, input, output)))
         }
         Err(fault) => {
-            drop(fault);
             drop(input);
             drop(output);
-            Err(Ending::Journal(journal.into_failure()))
+            Err(Ending::Journal(journal.into_failure(fault)))
         }
     }
 }
@@ -120,7 +135,9 @@ fn held_failure<'a, I: Read + Drop, O: Write + Drop>(
     fault: CliFault,
     input: Heard<I>,
     output: Heard<O>,
-) -> Failure<'a> {
+) -> Failure<'a>
+    ensures { result.fault ≡ fault }
+{
     match fault {
         CliFault::Read => {
             drop(output);

@@ -1,5 +1,5 @@
 //! What no contract of `nd_bundle` says of reading needs: that it is done with ample memory, and that derivations which need
-//! the same share it, also where they stand in other rooms.
+//! the same share it, also where they stand in other blocks.
 
 use crate::tests::shapes::{Shape, text_of};
 use nd_bundle::{GraphError, Needs, NeedsReader, read_bundle};
@@ -8,8 +8,8 @@ use nd_graph::Graph;
 use std::alloc::{AllocError, Global};
 use std::thread::Threads;
 
-/// The needs of a text that comes in rooms of so many bytes.
-fn read_rooms<R: Threads + Sync>(
+/// The needs of a text that comes in blocks of so many bytes.
+fn read_blocks<R: Threads + Sync>(
     rt: &R,
     alloc: Global,
     text: &[u8],
@@ -17,9 +17,7 @@ fn read_rooms<R: Threads + Sync>(
 ) -> Result<Needs, GraphError> {
     let mut reader = NeedsReader::new(alloc, false);
     for part in text.chunks(size.max(1)) {
-        let room = Vec::from_slice(alloc, part)?;
-        let filled = room.len();
-        reader.feed(rt, room, filled)?;
+        reader.feed(rt, part)?;
     }
     reader.finish(rt)
 }
@@ -91,7 +89,7 @@ fn kinds(alloc: Global, count: usize, kinds: usize) -> Result<Vec<u8>, AllocErro
     Ok(text)
 }
 
-/// How many needs the table has of so many derivations of so many kinds, in rooms of so many bytes, or none where they aren't
+/// How many needs the table has of so many derivations of so many kinds, in blocks of so many bytes, or none where they aren't
 /// those of their graph.
 fn shared<R: Threads + Sync>(
     rt: &R,
@@ -102,7 +100,7 @@ fn shared<R: Threads + Sync>(
 ) -> Result<Option<usize>, GraphError> {
     let text = kinds(alloc, count, many)?;
     let graph = read_bundle(rt, alloc, text.as_slice(), false)?;
-    let needs = read_rooms(rt, alloc, text.as_slice(), size)?;
+    let needs = read_blocks(rt, alloc, text.as_slice(), size)?;
     if !are_needs_of(&needs, &graph) {
         return Ok(None);
     }
@@ -132,7 +130,7 @@ fn many_kinds_keep_their_places(rt: HostRuntime) {
 fn are_linked<R: Threads + Sync>(rt: &R, alloc: Global, shape: Shape) -> Result<bool, GraphError> {
     let text = text_of(alloc, shape, 300)?;
     let graph = read_bundle(rt, alloc, text.as_slice(), false)?;
-    let needs = read_rooms(rt, alloc, text.as_slice(), 30_000)?;
+    let needs = read_blocks(rt, alloc, text.as_slice(), 30_000)?;
     Ok(needs.table().len() == 1 && are_needs_of(&needs, &graph))
 }
 

@@ -1,7 +1,5 @@
-//! What no contract of `nd_bundle` says of a bundle that comes in parts: that it is read with ample memory,
+//! What no contract of `nd_bundle` says of a bundle that comes in blocks: that it is read with ample memory,
 //! wherever it is cut. Its answer is that of the reader of whole bundles.
-
-ghost use Rattle.std.specs.Prelude.{◌≤◌, length, IfOk};
 
 use crate::tests::long_bundles::{UNKNOWN, many};
 use crate::tests::reading::size_of;
@@ -11,60 +9,29 @@ use nd_graph::Graph;
 use std::alloc::{AllocError, Global};
 use std::thread::Threads;
 
-/// What stands in a room behind what is fed: no part of the bundle.
-const STALE: &[u8] = b"\n/nix/store\n";
-
-/// A room with this part, the one that was given back if there is one, and more behind the part.
-fn room_with(alloc: Global, spare: Option<Vec<u8>>, part: &[u8]) -> Result<Vec<u8>, AllocError>
-    ensures { IfOk result (λ room. length part.now ≤ length room.items) }
-{
-    let mut room = match spare {
-        Some(room) => room,
-        None => Vec::new(alloc),
-    };
-    room.clear();
-    room.extend_from_slice(part)?;
-    room.extend_from_slice(STALE)?;
-    Ok(room)
-}
-
-/// Feeds a part in a room, and answers the room that is given back.
-fn feed_part<R: Threads + Sync>(
-    rt: &R,
-    alloc: Global,
-    reader: &mut BundleReader,
-    spare: Option<Vec<u8>>,
-    part: &[u8],
-) -> Result<Option<Vec<u8>>, AllocError> {
-    let room = room_with(alloc, spare, part)?;
-    reader.feed(rt, room, part.len())
-}
-
-/// The answer for a text that comes in these parts.
+/// The answer for a text that comes in these blocks.
 fn read_parts<R: Threads + Sync>(
     rt: &R,
     alloc: Global,
     parts: &[&[u8]],
 ) -> Result<Graph, GraphError> {
     let mut reader = BundleReader::new(alloc, false);
-    let mut spare = None;
     for part in parts {
-        spare = feed_part(rt, alloc, &mut reader, spare, part)?;
+        reader.feed(rt, part)?;
     }
     reader.finish(rt)
 }
 
-/// The answer for a text that comes in rooms of so many bytes.
-fn read_rooms<R: Threads + Sync>(
+/// The answer for a text that comes in blocks of so many bytes.
+fn read_blocks<R: Threads + Sync>(
     rt: &R,
     alloc: Global,
     text: &[u8],
     size: usize,
 ) -> Result<Graph, GraphError> {
     let mut reader = BundleReader::new(alloc, false);
-    let mut spare = None;
-    for part in text.chunks(size.max(1)) {
-        spare = feed_part(rt, alloc, &mut reader, spare, part)?;
+    for block in text.chunks(size.max(1)) {
+        reader.feed(rt, block)?;
     }
     reader.finish(rt)
 }
@@ -150,7 +117,7 @@ fn refused_bundle_cut_anywhere(rt: HostRuntime) {
 
 /// The answer for a text that comes byte by byte.
 fn read_bytes<R: Threads + Sync>(rt: &R, alloc: Global, text: &[u8]) -> Result<Graph, GraphError> {
-    read_rooms(rt, alloc, text, 1)
+    read_blocks(rt, alloc, text, 1)
 }
 
 /// Whether 20 lines that come byte by byte are read. Want of memory is a no.
@@ -230,20 +197,20 @@ fn long_lines(alloc: Global) -> Result<Vec<u8>, AllocError> {
     Ok(text)
 }
 
-/// Whether these are read in rooms that are shorter than such a line, and in longer ones. Want of memory is a no.
+/// Whether these are read in blocks that are shorter than such a line, and in longer ones. Want of memory is a no.
 fn are_long_lines_read<R: Threads + Sync>(rt: &R, alloc: Global) -> bool {
     match long_lines(alloc) {
         Ok(text) => {
             text.len() > 800_000
-                && size_of(read_rooms(rt, alloc, text.as_slice(), 30_000)) == Some(1010)
-                && size_of(read_rooms(rt, alloc, text.as_slice(), 140_000)) == Some(1010)
+                && size_of(read_blocks(rt, alloc, text.as_slice(), 30_000)) == Some(1010)
+                && size_of(read_blocks(rt, alloc, text.as_slice(), 140_000)) == Some(1010)
         }
         Err(_) => false,
     }
 }
 
 #[test]
-fn long_lines_in_short_rooms(rt: HostRuntime) {
+fn long_lines_in_short_blocks(rt: HostRuntime) {
     assert!(rt; are_long_lines_read(&rt, rt.alloc()));
 }
 
@@ -255,10 +222,9 @@ fn is_read_in_blocks<R: Threads + Sync>(rt: &R, alloc: Global, text: &[u8], want
         && seen_of(read_parts(rt, alloc, &[front, middle, back])) == want
 }
 
-/// Whether 16,384 lines in rooms of which each has enough for a thread, and which are more than may be read ahead, have
-/// this answer with a line that is refused at this place and the first line again behind it, where there is such a
-/// place. Want of memory is a no.
-fn are_rooms_read<R: Threads + Sync>(rt: &R, alloc: Global, refused: usize, want: Seen) -> bool {
+/// Whether 16,384 lines in blocks of which each has enough for many threads have this answer with a line that is refused
+/// at this place and the first line again behind it, where there is such a place. Want of memory is a no.
+fn are_blocks_read<R: Threads + Sync>(rt: &R, alloc: Global, refused: usize, want: Seen) -> bool {
     let Ok(first) = many(alloc, 1, &[]) else {
         return false;
     };
@@ -269,35 +235,35 @@ fn are_rooms_read<R: Threads + Sync>(rt: &R, alloc: Global, refused: usize, want
     ) {
         Ok(text) => {
             seen_of(read_bundle(rt, alloc, text.as_slice(), false)) == want
-                && seen_of(read_rooms(rt, alloc, text.as_slice(), 140_000)) == want
-                && seen_of(read_rooms(rt, alloc, text.as_slice(), 262_144)) == want
+                && seen_of(read_blocks(rt, alloc, text.as_slice(), 140_000)) == want
+                && seen_of(read_blocks(rt, alloc, text.as_slice(), 262_144)) == want
         }
         Err(_) => false,
     }
 }
 
 #[test]
-fn refused_in_the_first_room(rt: HostRuntime) {
+fn refused_in_the_first_block(rt: HostRuntime) {
     let want = Seen::Refused(GraphError::UnknownOutput(1));
-    assert!(rt; are_rooms_read(&rt, rt.alloc(), 0, want));
+    assert!(rt; are_blocks_read(&rt, rt.alloc(), 0, want));
 }
 
 #[test]
-fn refused_in_a_room_read_ahead(rt: HostRuntime) {
+fn refused_in_a_block_between(rt: HostRuntime) {
     let want = Seen::Refused(GraphError::UnknownOutput(9001));
-    assert!(rt; are_rooms_read(&rt, rt.alloc(), 9000, want));
+    assert!(rt; are_blocks_read(&rt, rt.alloc(), 9000, want));
 }
 
 #[test]
-fn refused_in_the_last_room(rt: HostRuntime) {
+fn refused_in_the_last_block(rt: HostRuntime) {
     let want = Seen::Refused(GraphError::UnknownOutput(16383));
-    assert!(rt; are_rooms_read(&rt, rt.alloc(), 16382, want));
+    assert!(rt; are_blocks_read(&rt, rt.alloc(), 16382, want));
 }
 
 #[test]
-fn repeat_in_the_last_room(rt: HostRuntime) {
+fn repeat_in_the_last_block(rt: HostRuntime) {
     let want = Seen::Refused(GraphError::Duplicate(16384));
-    assert!(rt; are_rooms_read(&rt, rt.alloc(), 16384, want));
+    assert!(rt; are_blocks_read(&rt, rt.alloc(), 16384, want));
 }
 
 /// Whether 4,096 lines, each third of them enough for many threads, have this answer with the first line again at this

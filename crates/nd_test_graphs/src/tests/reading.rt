@@ -14,9 +14,7 @@ pub(crate) fn needs_of<R: Threads + Sync>(
     check: bool,
 ) -> Result<Needs, GraphError> {
     let mut reader = NeedsReader::new(alloc, check);
-    let room = Vec::from_slice(alloc, text)?;
-    let filled = room.len();
-    reader.feed(rt, room, filled)?;
+    reader.feed(rt, text)?;
     reader.finish(rt)
 }
 

@@ -36,7 +36,7 @@ fn diamond(rt: HostRuntime) {
             &rt,
             rt.alloc(),
             TWO_SLOTS,
-            "job 0\nbuilt 0\njob 3\nstart 0\nsomething else\nbuilt 0\nstart 1\n\nreport\nstop\njob 9",
+            "job 0\nbuilt 0\njob 3\nstart 0\nsomething else\nbuilt 0\nstart 1\n\nreport\nstop\njob 9\n",
             "\
         chosen 0 1 0\n\
         ready\n\

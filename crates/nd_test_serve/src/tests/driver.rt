@@ -173,9 +173,9 @@ impl Driver {
 
 impl Desk for Driver {
     ghost use Rattle.std.specs.Prelude.{None};
-    ghost use Rattle.nd_desk.specs.Notes.{told_alone};
+    ghost use Rattle.nd_desk.specs.Notes.{ends_alone};
 
-    ghost seen = { λ _. told_alone None };
+    ghost seen = { λ _. ends_alone None None };
 
     fn hear(&mut self, alloc: Global) -> Result<Option<ByteString>, DeskFault> {
         match self.next_line(alloc) {

@@ -2,7 +2,7 @@
 
 use crate::tests::holding::{End, Held, hold};
 use crate::tests::outputs::Grants;
-use crate::tests::texts::{first_answers, newline_count, ready_count};
+use crate::tests::texts::{first_answers, first_lines, newline_count, ready_count};
 use nd_test_fixtures::examples::TWO_SLOTS;
 use std::alloc::Global;
 use std::thread::Threads;
@@ -55,7 +55,7 @@ fn long_line(rt: HostRuntime) {
 }
 
 /// Whether a session that has the first so many of these bytes ends with this status, has answered to its whole
-/// lines what the whole one answers to them, and to a part of a line what it answers to that part as a line.
+/// lines what the whole one answers to them, and has done nothing for a part of a line.
 fn ends_within<R: Threads + Sync>(
     rt: &R,
     alloc: Global,
@@ -69,46 +69,32 @@ fn ends_within<R: Threads + Sync>(
         return false;
     };
     let turns = newline_count(cut).saturating_add(1);
-    let answered = first_answers(whole, turns);
-    let text = held.text.as_slice();
-    if held.end != End::Status(status) || !text.starts_with(answered) {
-        return false;
-    }
-    if cut.is_empty() || cut.ends_with(b"\n") {
-        return text.len() == answered.len();
-    }
-    ready_count(text) == turns.saturating_add(1) && ends_as_a_line(rt, alloc, cut, &held)
+    held.end == End::Status(status)
+        && held.text.as_slice() == first_answers(whole, turns)
+        && is_journal_of_lines(rt, alloc, cut, &held)
 }
 
-/// Whether the session with these bytes and a newline behind them is the same.
-fn ends_as_a_line<R: Threads + Sync>(rt: &R, alloc: Global, cut: &[u8], held: &Held) -> bool {
-    let Ok(mut lines) = Vec::from_slice(alloc, cut) else {
-        return false;
-    };
-    if lines.push(b'\n').is_err() {
-        return false;
-    }
-    match hold(rt, alloc, TWO_SLOTS, b"", Grants::ALL, lines.as_slice()) {
-        Some(other) => {
-            other.end == held.end
-                && other.text.as_slice() == held.text.as_slice()
-                && other.journal.bytes.as_slice() == held.journal.bytes.as_slice()
-        }
+/// Whether the session with the whole lines of these bytes alone leaves the same journal.
+fn is_journal_of_lines<R: Threads + Sync>(rt: &R, alloc: Global, cut: &[u8], held: &Held) -> bool {
+    let lines = first_lines(cut, newline_count(cut));
+    match hold(rt, alloc, TWO_SLOTS, b"", Grants::ALL, lines) {
+        Some(other) => other.journal.bytes.as_slice() == held.journal.bytes.as_slice(),
         None => false,
     }
 }
 
-/// The session's end at each byte. The last command fails a derivation, and needs no newline for that.
+/// The session's end at each byte. The last command fails a derivation, and without its newline, or without a
+/// digit of its status too, it would be a command as well: it is done only once it is whole.
 #[test]
 fn end_at_each_byte(rt: HostRuntime) {
-    let lines = b"start 0\nbuilt 0\njob 1\nstart 2\nask 3\nfail 2 1\n".as_slice();
+    let lines = b"start 0\nbuilt 0\njob 1\nstart 2\nask 3\nfail 2 12\n".as_slice();
     let Some(whole) = hold(&rt, rt.alloc(), TWO_SLOTS, b"", Grants::ALL, lines) else {
         assert!(rt; false);
         return;
     };
     assert!(rt; ready_count(whole.text.as_slice()) == 7);
     for end in 0..=lines.len() {
-        let status = u8::from(end.saturating_add(1) >= lines.len());
+        let status = u8::from(end >= lines.len());
         assert!(rt; ends_within(&rt, rt.alloc(), lines, end, whole.text.as_slice(), status));
     }
 }

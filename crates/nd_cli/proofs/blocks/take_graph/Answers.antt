@@ -1,6 +1,8 @@
+use denote.Param.Send.{sendable}
 use Rattle.std.proofs.Common.{◌≡◌, ℕ, List, sym, subst}
 use Rattle.nd_cli.specs.Parks.{HasGraph}
 use Rattle.nd_cli.proofs.Refused.{known_answer}
+use Rattle.nd_cli.proofs.Sent.{graph_send}
 use Rattle.nd_cli.proofs.Whole.{whole_read}
 use Rattle.nd_cli.proofs.blocks.take_graph.Goals as goal
 
@@ -11,3 +13,6 @@ returns-clause-exactly g c = λ text graph known has.
     whole_read (g.R.Read.remaining c.args.input.now.device) (g.R.Read.remaining c.feed_input.new.input.device) text fed known c.in_ok-count.ensures.read has.within in
     let here : HasGraph c.args.options.now fed graph = subst (λ (t : List ℕ). HasGraph c.args.options.now t graph) (sym whole) has in
     known_answer c.graph_of_blocks.result (λ read. read ≡ graph) (c.graph_of_blocks.ensures.exactly graph here)
+
+pub feed_input-requires-send-P : goal.feed_input-requires-send-P
+feed_input-requires-send-P g c κs within = search (sendable, graph_send) depth 20

@@ -1,10 +1,11 @@
 use Rattle.std.proofs.Common.{◌+◌, ℕ, Bool, length, sym, subst, ap, ◌∙◌}
+use Rattle.nd_keeping.specs.Listing.{Listed}
 use Rattle.nd_ledger.specs.Worlds.{World}
-use Rattle.nd_receipts.specs.Judged.{AreMisreports}
 use Rattle.nd_receipts.specs.Made.{made}
 use Rattle.nd_workers.specs.declared.seat.Seat.{Seat}
 use Rattle.nd_workers.specs.Faults.{IsFaultFrom}
 use Rattle.nd_workers.specs.Runs.{IsServedIn, AreReceiptedFrom}
+use Rattle.nd_run_desk.specs.Judgements.{AreJudged}
 use Rattle.nd_run_desk.specs.Steps.{RunsOn, StopsAreTold}
 use Rattle.nd_run_desk.specs.Written.{IsWritten}
 use Rattle.nd_workers.specs.Served.{Seated, seat_of, places_served, IsSound}
@@ -45,9 +46,12 @@ pub returns-clause-written : goal.returns-clause-written
 returns-clause-written g c =
     let keeps = c.args.paper.keeps in
     let brought = c.serve_leases-brought in
-    let P : Bool → Type 0 = λ kept. IsWritten keeps kept brought.result.scribe brought.result.served.dispatch.history in
-    let Q : World → Type 0 = λ w. IsWritten keeps c.settle-run.result.evidence.kept brought.result.scribe w.history in
-    subst Q (sym c.settle-run.ensures.dispatch) (subst P (sym c.settle-run.ensures.kept) brought.ensures.written)
+    let served = brought.result.served in
+    let evidence = c.settle-run.result.evidence in
+    let P : Bool → Type 0 = λ kept. IsWritten keeps kept brought.result.scribe served.handed.entries served.dispatch.history in
+    let Q : Listed → Type 0 = λ handed. IsWritten keeps evidence.kept brought.result.scribe handed.entries served.dispatch.history in
+    let R : World → Type 0 = λ w. IsWritten keeps evidence.kept brought.result.scribe evidence.handed.entries w.history in
+    subst R (sym c.settle-run.ensures.dispatch) (subst Q (sym c.settle-run.ensures.handed) (subst P (sym c.settle-run.ensures.kept) brought.ensures.written))
 
 pub returns-clause-memory : goal.returns-clause-memory
 returns-clause-memory g c = λ memory.
@@ -56,13 +60,13 @@ returns-clause-memory g c = λ memory.
 
 pub returns-clause-misreports : goal.returns-clause-misreports
 returns-clause-misreports g c =
-    let P : World → Type 0 = λ w. AreMisreports w.inputs w.history c.settle-run.result.evidence.misreports in
+    let P : World → Type 0 = λ w. AreJudged c.args.dispatch w c.settle-run.result.evidence.misreports in
     subst P (sym c.settle-run.ensures.dispatch) (rw c.settle-run.ensures.misreports c.serve_leases-brought.ensures.misreports)
 
 pub returns-clause-judged : goal.returns-clause-judged
 returns-clause-judged g c = λ agrees.
     let alike = alike_of _ _ _ _ _ _ c.settle-run.ensures.fault agrees in
-    wrong_rows _ _ _ _ _ _ (returns-clause-misreports g c) alike.noted.each alike.judged.each
+    wrong_rows _ _ _ _ _ _ (returns-clause-misreports g c).wrong alike.noted.each alike.judged.each
 
 pub returns-clause-calls : goal.returns-clause-calls
 returns-clause-calls g c = λ agrees.

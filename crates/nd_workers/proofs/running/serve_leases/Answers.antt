@@ -1,6 +1,7 @@
 use Rattle.std.proofs.Common.{sym, ap, ◌∙◌, subst, arith}
 use Rattle.nd_ledger.specs.Worlds.{World}
 use Rattle.nd_receipts.specs.Made.{made}
+use Rattle.nd_run_desk.specs.Judgements.{AreJudged}
 use Rattle.nd_run_desk.specs.Steps.{RunsOn, StopsAreTold}
 use Rattle.nd_workers.proofs.running.serve_leases.Goals as goal
 
@@ -25,3 +26,8 @@ pub returns-clause-told : goal.returns-clause-told
 returns-clause-told g c =
     let P : World → Type 0 = λ w. StopsAreTold w c.close-closed.result.dispatch in
     subst P c.requires.opening c.close-closed.ensures.told
+
+pub returns-clause-misreports : goal.returns-clause-misreports
+returns-clause-misreports g c =
+    let P : World → Type 0 = λ w. AreJudged w c.close-closed.result.dispatch c.close-closed.result.misreports in
+    subst P c.requires.opening c.close-closed.ensures.misreports

@@ -9,6 +9,6 @@ invariant_of-self g c =
     let stored = g.J.Journal.stored in
     let s : Scribing = record { stored = stored i.journal; handed = i.roll; kept = i.kept; text = i.text.items; begun = i.begun; refused = i.refused } in
     let more : HoldsMore s.stored (stored c.append_and_sync.new.journal) s.text =
-    subst (λ (text : List ℕ). HoldsMore s.stored (stored c.append_and_sync.new.journal) text) c.as_slice.ensures.value c.in-Ok.ensures in
+    subst (λ (text : List ℕ). HoldsMore s.stored (stored c.append_and_sync.new.journal) text) c.as_slice.ensures.value c.in-Ok.ensures.done in
     rw (c.new.ensures, c.front.ensures, c.clear.ensures.items, c.if-self.false)
     (kept_all s (stored c.append_and_sync.new.journal) c.self.invariant c.if-self.false (λ same. c.if-len.false (c.len.ensures ∙ same ∙ sym c.len-2.ensures)) more)
