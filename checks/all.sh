@@ -24,6 +24,9 @@
 # bad-day.sh       graphs on machines behind ssh that break: connections refused, builds lost, collections in the middle,
 #                  full disks, signals, kills and silence; needs what ssh-park.sh needs, and takes some
 #                  twenty-five minutes
+# apart.sh         graphs on machines that are apart, each with a network, a store, a daemon and an sshd of its own: cut
+#                  off, started anew, hung, shared by two; needs what bad-day.sh needs, Nix's build users, iproute2 and
+#                  /dev/net/tun, and takes some fifteen minutes
 # ssh-park.sh      the same graph on machines behind ssh; needs what real-park.sh needs, and OpenSSH's sshd
 # own-agent.sh     the same graph by agents that aren't farm/build's own; needs what real-park.sh needs
 # bodies-apply.py  each wrong body can still be applied; needs Python 3
@@ -59,6 +62,7 @@ needs_of() {
     journal.py) echo program python3 cc root ;;
     first.sh) echo rt python3 ;;
     own-agent.sh|real-park.sh) echo program nix-store busybox python3 root ;;
+    apart.sh) echo program nix-store nix-daemon busybox python3 root ssh-keygen sshd ip nsenter /dev/net/tun ;;
     bad-day.sh) echo program nix-store busybox python3 root ssh-keygen sshd ;;
     ssh-park.sh) echo program nix-store busybox python3 root ssh-keygen sshd ;;
     wrong-bodies.sh) echo rt git tar time ;;
@@ -72,6 +76,7 @@ wanting() {
     program) [ -x "$program" ] || echo 'the program is not built: ./build' ;;
     tests) [ -x "$tests" ] || echo 'the tests are not built: cd crates/nd_test_ledger && rt test' ;;
     root) [ "$(id -u)" -eq 0 ] || echo 'it is for root' ;;
+    /dev/*) [ -c "$1" ] || echo "there is no $1" ;;
     time) [ -n "$long" ] || echo 'it takes hours: checks/all.sh --long' ;;
     *) command -v "$1" > /dev/null || echo "there is no $1" ;;
   esac

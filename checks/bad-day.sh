@@ -151,7 +151,7 @@ stalled() {
   { machine one 1 | sed 's/root@localhost/root@proxied/; s/ 1 1 - / 1 9 - /'; machine two 1; } > "$folder/builders"
   salt=stalled
   more=''
-  [ "$farm" != farm ] || more='--connect-timeout 3'
+  [ "$farm" != farm ] || more='--connect-timeout 3 --reconnect 0'
   # shellcheck disable=SC2086  # words
   begin stalled --jobs 0 $more "$(drv slow)"
   soon 300 serving
@@ -172,7 +172,10 @@ stalled() {
 lost() {
   { machine one 1; machine two 1; } > "$folder/builders"
   salt=lost
-  begin lost --jobs 0 "$(drv slow)"
+  more=''
+  [ "$farm" != farm ] || more='--reconnect 0'
+  # shellcheck disable=SC2086  # words
+  begin lost --jobs 0 $more "$(drv slow)"
   soon 300 logged ' begin '
   sleep 3
   # shellcheck disable=SC2046  # process numbers
@@ -185,6 +188,25 @@ lost() {
   want 'the first history has no lost' has "$folder/lost/history.1" '^failed [0-9]* lost$'
   want 'there is no second round' has "$folder/lost/history.2" '^built '
   did="the remote nix-store killed in a build: lost, and built in round 2"
+}
+
+# 2, and the machine is asked again: the lease goes on
+resumed() {
+  machine one 1 > "$folder/builders"
+  salt=resumed
+  begin resumed --jobs 0 "$(drv slow)"
+  soon 300 logged ' begin '
+  sleep 3
+  # shellcheck disable=SC2046  # process numbers
+  kill -9 $(below_with "$(cat "$folder/sshd.pid")" 'nix-store --serve') 2> /dev/null
+  soon 600 ended
+  wait "$builder"
+  status=$?
+  want "status $status" is "$status" 0
+  sound resumed 2
+  want 'something is lost' is "$(grep -c ' lost$' "$folder/resumed/history")" 0
+  want "it isn't said" has "$folder/resumed.err" '^resumed: slow-resumed'
+  did="the remote nix-store killed in a build: the machine is asked again, and the lease goes on"
 }
 
 # Collects the garbage of a store, so many times.
@@ -624,7 +646,7 @@ quick() {
 }
 
 failed=0
-all='blamed slots refused lost collected collected_there gone needed progress told interrupted killed_run killed_all killed_half killed_later begun_anew full_at_start full_folder silent stalled killed_agent small substituted full_machine full_store read_only two_at_once pythons quick'
+all='blamed slots refused lost resumed collected collected_there gone needed progress told interrupted killed_run killed_all killed_half killed_later begun_anew full_at_start full_folder silent stalled killed_agent small substituted full_machine full_store read_only two_at_once pythons quick'
 # shellcheck disable=SC2086  # words
 for case in ${*:-$all}; do
   wrong='' did=''

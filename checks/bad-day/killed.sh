@@ -207,11 +207,11 @@ begun_anew() {
     sleep 1
     kill_all
     want "$reason: something goes on behind it" soon 200 all_ended
-    jobs=0
+    more=''
     case $reason in
       words)
-        said='other words (jobs)'
-        jobs=1 ;;
+        said='other words (keep-going)'
+        more='-k' ;;
       journal)
         said="can't be gone on from.*BadLine"
         echo nothing >> "$folder/$name/journal.1" ;;
@@ -223,7 +223,8 @@ begun_anew() {
           xargs nix-store --query --referrers-closure | sort -u) > /dev/null 2>&1
         : > "$folder/$name.ended" ;;
     esac
-    build "anew$reason" --jobs "$jobs" "$root"
+    # shellcheck disable=SC2086  # one word or none
+    build "anew$reason" --jobs 0 $more "$root"
     want "$reason: status $status" is "$status" 0
     want "$reason: it isn't said" has "$folder/$name.err" "$said"
     sound "anew$reason" "$(counted total "anew$reason")"

@@ -4,7 +4,7 @@ from typing import Dict, Mapping, Sequence, Set
 
 from . import history
 from .events import read_events
-from .folder import Folder, say, write_error, write_out
+from .folder import Folder, say, write_error
 from .gather import Store
 from .here import Here
 from .options import Options
@@ -13,10 +13,8 @@ from .report import Report, RoundText, Told
 from .report_json import Sources, report_json
 from .resume import Round
 from .settings import store_folder
+from .summary import counts_line, failures
 from .trace import trace
-
-_DOWN = "each machine that may build it is down"
-
 
 class Account:
     """What there is to tell of the rounds of a run, of which more may come."""
@@ -90,13 +88,14 @@ class Account:
         """Puts the report of so many rounds into the folder, also as JSON, and the timeline."""
         text = self._report.text(rounds, interrupted)
         self._folder.put("report", text.encode(errors="surrogateescape"))
+        parks = [one.machines or self._machines for one in self._rounds] or [self._machines]
+        self._sources.parks = parks
         self._folder.put("report.json", report_json(self._report, self._sources, status, interrupted, rounds).encode())
         if rounds > 0:
-            self._folder.put("trace.json", trace(self._machines, self._notes).encode())
+            self._folder.put("trace.json", trace(parks, self._notes).encode())
 
-    def tell(self, rounds: int, interrupted: str) -> None:
-        """Prints the report, and why what no machine may build isn't built."""
-        for path, one in self._report.standing.items():
-            if one.how == "nobuilder":
-                write_error(f"nobuilder: {path}: {self._nobuilder.get(path, _DOWN)}\n")
-        write_out(self._report.text(rounds, interrupted))
+    def tell(self, interrupted: str) -> None:
+        """Says the counts and the failures."""
+        more = f", interrupted by {interrupted}" if interrupted else ""
+        lines = [counts_line(self._report.counts()) + more, *failures(self._report, self._sources)]
+        write_error("".join(line + "\n" for line in lines))

@@ -66,6 +66,9 @@ OF_BUILDERS: Sequence[Row] = (
     ),
 )
 
+# What Nix says on a machine to a user that it doesn't trust.
+_UNTRUSTED = rb"lacks a (valid )?signature|not privileged to build|is not allowed to (build|copy)"
+
 # What keeps Nix from a machine, or from this store.
 OF_WAYS: Sequence[Row] = (
     # of ssh, where another try may help
@@ -89,6 +92,7 @@ OF_WAYS: Sequence[Row] = (
         rb"Could not resolve hostname",
         rb"No route to host",
         rb"ommand not found",
+        _UNTRUSTED,
     ),
     # of this store and of this machine
     *_rows(
@@ -124,7 +128,19 @@ def fault_of(message: bytes, call: str, status: int, where: str, drv: str = "") 
     fault = said.of_builder() if call == "build" else None
     if fault is None:
         fault = _of_way(said, call, status)
-    return fault._replace(cause=_plain(fault.cause) or f"Nix ended with status {status}")
+    return fault._replace(cause=_advised(_plain(fault.cause)) or f"Nix ended with status {status}")
+
+
+def refuses_user(said: bytes) -> bool:
+    """Whether ssh says that a machine is there and lets this user not in."""
+    return b"Permission denied" in said or b"Host key verification failed" in said
+
+
+def _advised(cause: str) -> str:
+    """A cause, behind what is to be done about it where that is known."""
+    if re.search(_UNTRUSTED, cause.encode()):
+        return f"the machine doesn't trust its user: name it in `trusted-users` of /etc/nix/nix.conf there: {_plain(cause)}"
+    return cause
 
 
 def printable(words: bytes) -> str:
@@ -134,7 +150,7 @@ def printable(words: bytes) -> str:
 
 
 def _plain(cause: str) -> str:
-    return re.sub(r"^ *(error: )?", "", cause)
+    return re.sub(r"^[ >]*(error: )?", "", cause)
 
 
 class _Said:

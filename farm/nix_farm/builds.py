@@ -2,17 +2,19 @@
 
 import os
 import tempfile
-from typing import IO, Callable, List, Mapping, Optional, Sequence
+from typing import IO, Awaitable, Callable, List, Mapping, Optional, Sequence
 
-from .blame import Fault, fault_of
+from .blame import TIMED_OUT, Fault, fault_of
+from .bounds import SOME, SOME_BY_DAEMON, OfBuild, Stalled, watched
 from .daemon import Daemon, Failed
 from .derivation import Derivation
 from .here import Here
+from .keys import is_by_daemon
 from .machine import Connection
 from .options import Options
 from .park import Machine, Place
 from .process import Processes
-from .settings import of_builds
+from .settings import bounds_of_builds, of_builds
 
 # What is kept in memory of the messages of a build, in bytes, and how much of them is looked at for a cause.
 _KEPT = 1 << 18
@@ -33,8 +35,11 @@ class Builds:
         options: Options,
         settings: Mapping[str, str],
         logs: str,
+        is_there: Optional[Callable[[], Awaitable[bool]]],
     ) -> None:
-        """`folder` is that of the agents, and `logs` the one for what Nix says of builds that don't end well."""
+        """`folder` is that of the agents, and `logs` the one for what Nix says of builds that don't end well; `is_there` asks
+        the machine."""
+        self._is_there = is_there
         env = connection.env if connection is not None else None
         self._daemon = Daemon(processes, folder, env, f"{place}")
         self._machine = machine
@@ -55,29 +60,42 @@ class Builds:
             jobs, builders = self._machine.jobs, ""
         else:
             jobs, builders = 0, self._machine.builders(drv.platform, ",".join(drv.features))
+        stalled: Optional[Fault] = None
         with tempfile.SpooledTemporaryFile(_KEPT, dir=self._folder) as said:
             try:
                 await self._daemon.set_options(of_builds(self._options, self._settings, jobs, builders))
-                status = await self._daemon.build(drv.path, said)
+                status = await watched(self._daemon.build(drv.path, said), self._bounds().look)
             except Failed as failed:
                 said.write(failed.said)
                 status = failed.status
-            if status == 0:
-                _hand_on(said, log)
-                ended(status)
-                return None
+            except Stalled as why:
+                await self._daemon.close()
+                status, stalled = TIMED_OUT, Fault("lost", "here" if self._machine.is_local else "machine", str(why))
             _hand_on(said, log)
             ended(status)
+            if status == 0:
+                return None
             self._keep(drv.path, said)
+            if stalled is not None:
+                return stalled
             said.seek(max(0, said.tell() - _LOOKED_AT))
             return fault_of(said.read(), "build", status, self.where, drv.path)
 
+    def _bounds(self) -> OfBuild:
+        """The bounds of a build that begins now."""
+        timeout, silent = bounds_of_builds(self._options, self._settings)
+        some = SOME_BY_DAEMON if is_by_daemon(os.environ.get("NIX_REMOTE", "")) else SOME
+        return OfBuild(self._daemon.progress, timeout, silent, some, self._is_there)
+
     def _keep(self, drv: str, said: IO[bytes]) -> None:
-        """Keeps what was said of a build that didn't end well."""
+        """Keeps what was said of a build that didn't end well, and the last lines of its builder."""
+        file = f"{self._logs}/{os.path.basename(drv)}"
         try:
             os.makedirs(self._logs, exist_ok=True)
-            with open(f"{self._logs}/{os.path.basename(drv)}.log", "wb") as log:
+            with open(f"{file}.log", "wb") as log:
                 _hand_on(said, log.write)
+            with open(f"{file}.last", "wb") as last:
+                last.write(b"".join(self._daemon.builder_said))
         except OSError:
             pass
 

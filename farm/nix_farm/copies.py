@@ -6,12 +6,14 @@ that this store lacks is no fault of the machine.
 
 from typing import Callable, List, Optional, Sequence
 
-from .blame import Fault, fault_of
+from .blame import TIMED_OUT, Fault, fault_of
+from .bounds import Progress, Stalled, stalls, watched
 from .daemon import Failed, PathInfo
+from .damage import Damage
 from .here import Here
 from .machine import Connection
 from .park import Machine
-from .process import Processes
+from .process import Ended, Processes
 from .settings import NIX
 
 # The most paths, and the most bytes of their NARs, that go by the process which is kept open.
@@ -44,19 +46,34 @@ def by_references(infos: Sequence[PathInfo]) -> List[PathInfo]:
 class Copies:
     """Copies from this machine's store to a machine by one of its connections."""
 
-    def __init__(self, processes: Processes, here: Here, machine: Machine, connection: Connection) -> None:
+    def __init__(
+        self, processes: Processes, here: Here, damage: Damage, machine: Machine, connection: Connection, bound: int
+    ) -> None:
+        """`bound` is the seconds for which a copy may stand still."""
+        self._bound = bound
         self._processes = processes
         self._here = here
+        self._damage = damage
         self._machine = machine
         self._connection = connection
 
     async def copy(self, paths: Sequence[str], log: Callable[[bytes], None], ended: Callable[[int], None]) -> Optional[Fault]:
         """Copies paths, and no other, to the machine, which has what else they refer to; of more than a thousand each
-        part goes with what it refers to. None, or whose fault it is; `ended` is told Nix's status."""
+        part goes with what it refers to. None, or whose fault it is; `ended` is told Nix's status. Before a machine is to
+        blame this store is looked at."""
         fault: Optional[Fault] = None
         for _ in range(TRIES):
-            status, fault = await self._copy_once(paths, log)
-            if fault is None or fault.who == "here":
+            try:
+                status, fault = await self._copy_once(paths, log)
+            except Stalled as why:
+                status, fault = TIMED_OUT, Fault("no", "machine", str(why))
+                break
+            if fault is None:
+                break
+            cause = "" if "is not valid" in fault.cause else await self._damage.of(paths)
+            if cause:
+                fault = Fault("no", "here", cause)
+            if fault.who == "here":
                 break
         ended(status)
         return fault
@@ -74,7 +91,7 @@ class Copies:
         for part in parts:
             alone = ["--no-recursive"] if len(parts) == 1 else []
             words = [*NIX, "copy", "--no-check-sigs", *alone, "--to", self._machine.keyed, *part]
-            ended = await self._processes.run(words, self._connection.env)
+            ended = await self._run(words)
             log(ended.said + ended.out)
             if ended.status != 0:
                 return ended.status, fault_of(ended.said + ended.out, "copy", ended.status, "there")
@@ -84,10 +101,10 @@ class Copies:
         link = self._connection.link
         async with self._connection.lock:
             try:
-                there = await link.valid_paths([info.path for info in infos])
-                for info in by_references(infos):
-                    if info.path not in there:
-                        await self._send(info)
+                await watched(self._send_all(infos), stalls(link.progress, self._bound))
+            except Stalled:
+                await link.close()
+                raise
             except _NotHere as error:
                 log(error.failed.said)
                 return error.failed.status, fault_of(error.failed.said, "copy", error.failed.status, "here")._replace(who="here")
@@ -97,6 +114,19 @@ class Copies:
                 log(said)
                 return failed.status, fault_of(said, "copy", failed.status, "there")
         return 0, None
+
+    async def _run(self, words: Sequence[str]) -> Ended:
+        """Runs a command that copies; Stalled where nothing moves any more."""
+        numbers: List[int] = []
+        progress = Progress(lambda: numbers[-1] if numbers else None)
+        running = self._processes.run(words, self._connection.env, started=numbers.append)
+        return await watched(running, stalls(progress, self._bound))
+
+    async def _send_all(self, infos: Sequence[PathInfo]) -> None:
+        there = await self._connection.link.valid_paths([info.path for info in infos])
+        for info in by_references(infos):
+            if info.path not in there:
+                await self._send(info)
 
     async def _send(self, info: PathInfo) -> None:
         try:

@@ -6,16 +6,25 @@ says it on standard error.
 """
 
 import asyncio
+import hashlib
 import re
 import tempfile
-from typing import IO, Callable, Dict, Iterable, List, Mapping, NamedTuple, Optional, Sequence, Set, Tuple, TypeVar
+from collections import deque
+from typing import IO, Callable, Deque, Dict, Iterable, List, Mapping, NamedTuple, Optional, Sequence, Set, Tuple, TypeVar
 
 from . import wire
+from .bounds import Progress
 from .process import Processes, status_of
 from .wire import Message, Operation
 
 _T = TypeVar("_T")
 
+# The seconds for which a store may say nothing in the middle of a NAR: what is shorter than it was registered never comes.
+_PATIENCE = 30.0
+# The kind of a build that repairs.
+_REPAIR = 1
+# How many lines of a builder are told.
+LAST_LINES = 25
 # What Nix colours its words with.
 _ESCAPES = re.compile(rb"\x1b\[[0-9;]*[A-Za-z]|\x1b\][^\x07]*\x07|\r(?=\n)")
 
@@ -54,12 +63,29 @@ class Daemon:
         self._name = name
         self._said: Optional[IO[bytes]] = None
         self._process: Optional[asyncio.subprocess.Process] = None
+        self._hear: Optional[wire.Hearing] = None
+        # the last lines of the builder of the last build
+        self.builder_said: Deque[bytes] = deque(maxlen=LAST_LINES)
         self._settings = b""
         self._asked = False
 
     @property
     def is_open(self) -> bool:
         return self._process is not None and self._process.returncode is None
+
+    @property
+    def progress(self) -> Progress:
+        """Whether the process moves anything, from now on."""
+        return Progress(lambda: self._process.pid if self._process is not None else None, lambda: self._heard_at)
+
+    @property
+    def _hearing(self) -> wire.Hearing:
+        assert self._hear is not None
+        return self._hear
+
+    @property
+    def _heard_at(self) -> float:
+        return self._hear.heard_at if self._hear is not None else 0.0
 
     async def open(self) -> None:
         """Starts the process and greets it; Failed where it doesn't answer, or can't open its store."""
@@ -83,7 +109,7 @@ class Daemon:
 
     async def _greet(self) -> None:
         self._send(wire.number(wire.MAGIC_OF_CLIENT))
-        magic, _version = await self._hear.hear(lambda hear: (hear.number(), hear.number()))
+        magic, _version = await self._hearing.hear(lambda hear: (hear.number(), hear.number()))
         if magic != wire.MAGIC_OF_SERVER:
             raise wire.NotSpoken("another magic number")
         # the version, and no processor and no reserved space
@@ -129,6 +155,7 @@ class Daemon:
         words: bytes,
         answer: Optional[Callable[[wire.Hearing], _T]] = None,
         told: Optional[IO[bytes]] = None,
+        patience: Optional[float] = None,
     ) -> Optional[_T]:
         """Asks, hears what is said up to the answer, and the answer. Failed where there is none.
 
@@ -142,11 +169,11 @@ class Daemon:
         try:
             self._send(wire.number(operation) + words)
             await self._answered(told)
-            answered = await self._hear.hear(answer) if answer is not None else None
+            answered = await self._hearing.hear(answer, patience) if answer is not None else None
         except Failed:
             self._asked = False
             raise
-        except (EOFError, OSError, wire.NotSpoken) as error:
+        except (EOFError, OSError, wire.NotSpoken, asyncio.TimeoutError) as error:
             raise await self._gone() from error
         self._asked = False
         return answered
@@ -154,13 +181,26 @@ class Daemon:
     async def _answered(self, told: Optional[IO[bytes]]) -> None:
         """Hears what is said before an answer, and tells what a builder and Nix say of a build."""
         while True:
-            kind, words, status = await self._hear.hear(_message)
+            kind, words, status = await self._hearing.hear(_message)
             if kind == Message.LAST:
                 return
             if kind == Message.ERROR:
                 raise Failed(status or 1, _plain(words))
             if told is not None and words:
                 told.write(_plain(words))
+                if kind == Message.RESULT:
+                    self.builder_said.append(_plain(words))
+
+    async def is_trusted(self) -> bool:
+        """Whether the store trusts this user; Failed where it can't be asked. It is asked to repair nothing, which it
+        refuses to others, as it leaves out their settings without a word."""
+        try:
+            await self._call(Operation.BUILD_PATHS, wire.strings([]) + wire.number(_REPAIR), wire.Hearing.number)
+        except Failed as failed:
+            if b"trusted-users" in failed.said:
+                return False
+            raise
+        return True
 
     async def set_options(self, settings: "Settings") -> None:
         """What the builds that follow go by."""
@@ -171,6 +211,7 @@ class Daemon:
 
     async def build(self, drv: str, told: IO[bytes]) -> int:
         """Builds a derivation; what is said goes to `told`. The status is that of `nix-store --realise`."""
+        self.builder_said.clear()
         try:
             await self._call(Operation.BUILD_PATHS, wire.strings([drv]) + wire.number(0), wire.Hearing.number, told)
         except Failed as failed:
@@ -188,9 +229,13 @@ class Daemon:
         return await self._call(Operation.QUERY_PATH_INFO, wire.words(path), lambda hear: _path_info(hear, path))
 
     async def nar(self, info: PathInfo) -> bytes:
-        """The NAR of a path, all of it."""
-        found = await self._call(Operation.NAR_FROM_PATH, wire.words(info.path), lambda hear: hear.bytes(info.size))
-        return found or b""
+        """The NAR of a path, all of it; Failed where it isn't the one that was registered."""
+        asked = wire.words(info.path)
+        found = await self._call(Operation.NAR_FROM_PATH, asked, lambda hear: hear.bytes(info.size), patience=_PATIENCE)
+        if found is None or hashlib.sha256(found).hexdigest() != info.digest:
+            await self.close()
+            raise Failed(1, f"error: path '{info.path}' isn't as it was registered\n".encode())
+        return found
 
     async def add(self, info: PathInfo, nar: bytes) -> None:
         """Adds a path by its NAR, without a look at signatures."""
@@ -215,6 +260,11 @@ class Daemon:
             part = [wire.words(link) for link in links[at : at + 128]]
             asked = wire.number(Operation.ADD_INDIRECT_ROOT).join(part)
             await self._call(Operation.ADD_INDIRECT_ROOT, asked, _answers_to(len(part)))
+
+
+    async def find_roots(self) -> None:
+        """Has the store look for its roots; it takes away what it keeps of links that are gone."""
+        await self._call(Operation.FIND_ROOTS, b"", lambda hear: [hear.words() for _ in range(2 * hear.number())])
 
 
 def _answers_to(count: int) -> Callable[[wire.Hearing], None]:

@@ -1,9 +1,11 @@
 """What agents note, in their logs and in `events`.
 
-A note is a line with the time in milliseconds since 1970 before it: `copy N` and `copied STATUS`, `begin DRV` and
-`end DRV STATUS`, `valid DRV`, `failed DRV C WHO CAUSE`, `lost DRV WHO CAUSE` and `no WHO CAUSE` of a machine. In a log stand
-also Nix's messages; in `events` the machine and the slot come before each note, and a line `round K SIZE` begins a round,
-or `again K SIZE BUILT FAILED` one that is gone on with.
+A note is a line with the time in milliseconds since 1970 before it: `copy N DRV` of so many paths for a derivation and
+`copied STATUS`, `begin DRV` and `end DRV STATUS`, `valid DRV`, `failed DRV C WHO CAUSE`, `lost DRV WHO CAUSE` and
+`no WHO CAUSE` of a machine; `cut DRV CAUSE` where a lease was cut short and `resumed DRV` where it goes on, with `-` where
+it isn't known for what it was; `waits` where all shared slots of a machine are taken. In a log stand also Nix's messages; in
+`events` the machine and the slot come before each note, and a line `round K SIZE` begins a round, or
+`again K SIZE BUILT FAILED` one that is gone on with; `list K` says that the machines are others from that round on.
 """
 
 import os
@@ -24,11 +26,14 @@ class Note(NamedTuple):
     @property
     def cause(self) -> str:
         """Why a build failed or was lost, or a machine is down."""
-        return " ".join(self.words[{"failed": 4, "lost": 3, "no": 2}.get(self.words[0], len(self.words)) :])
+        return " ".join(self.words[{"failed": 4, "lost": 3, "no": 2, "cut": 2}.get(self.words[0], len(self.words)) :])
 
 
 # The fewest words of each kind of note; what a full disk has left of a line has fewer.
-_FEWEST = {"begin": 2, "valid": 2, "end": 3, "failed": 5, "lost": 4, "no": 3, "round": 3, "again": 5, "copy": 2, "copied": 2}
+_FEWEST = {
+    **{"begin": 2, "valid": 2, "end": 3, "failed": 5, "lost": 4, "no": 3, "cut": 3, "resumed": 2},
+    **{"round": 3, "again": 5, "list": 2, "copy": 2, "copied": 2},
+}
 
 
 def read_note(line: str) -> Optional[Note]:

@@ -17,7 +17,7 @@ from .errors import GivenUp
 # What a run makes in its folder, besides `gcroots` and `logs`.
 _MADE = re.compile(
     r"\.unfinished|bundle|info|park|journal|history|verdict|events|result|\d.*\.\d.*\.log|result-\d.*"
-    r"|(bundle|info|left|journal|history|verdict)\.\d.*",
+    r"|(bundle|info|left|journal|history|verdict|park)\.\d.*",
     re.DOTALL,
 )
 # What each command makes anew, also where it goes on with a run.
@@ -74,7 +74,29 @@ def _lock(file: int) -> bool:
     return False
 
 
-class Folder:
+def goes_on_in(folder: str) -> bool:
+    """Whether a run has the lock of a folder."""
+    try:
+        with open(f"{folder}/.lock", "rb") as lock:
+            fcntl.flock(lock, fcntl.LOCK_SH | fcntl.LOCK_NB)
+    except BlockingIOError:
+        return True
+    except OSError:
+        return False
+    return False
+
+
+class Seen:
+    """The folder of a run, as it is looked at."""
+
+    def __init__(self, out: str) -> None:
+        self.out = out
+
+    def at(self, name: str) -> str:
+        return f"{self.out}/{name}"
+
+
+class Folder(Seen):
     """The folder of a run, which is the only one that runs there, and the one of its agents below /tmp."""
 
     def __init__(self, out: str, shared: str) -> None:
@@ -88,7 +110,7 @@ class Folder:
             os.makedirs(out, exist_ok=True)
         except OSError as error:
             raise GivenUp(5, f"the folder {out} can't be made") from error
-        self.out = os.path.abspath(out)
+        super().__init__(os.path.abspath(out))
         write_error(self.out + "\n")
         self.is_known = os.path.lexists(self.at(".lock"))
         try:
@@ -97,9 +119,6 @@ class Folder:
             raise GivenUp(5, f"the folder {self.out} can't be written to") from error
         if not _lock(self._lock):
             raise GivenUp(5, f"another build goes on in {self.out}")
-
-    def at(self, name: str) -> str:
-        return f"{self.out}/{name}"
 
     def in_shared(self, name: str) -> str:
         return f"{self.shared}/{name}"

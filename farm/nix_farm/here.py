@@ -1,11 +1,21 @@
 """This machine's store, as all slots of a run ask it: by one process that is spoken with."""
 
 import asyncio
+import hashlib
 import os
 from typing import Dict, Iterable, List, Optional, Sequence
 
 from .daemon import Daemon, Failed, PathInfo
 from .process import Processes
+
+
+_LETTERS = "0123456789abcdfghijklmnpqrsvwxyz"
+
+
+def _name_of_root(link: str) -> str:
+    """The name under which a store keeps a link among its automatic roots: its SHA-1 in Nix's base 32."""
+    digest = int.from_bytes(hashlib.sha1(link.encode(errors="surrogateescape")).digest(), "little")
+    return "".join(_LETTERS[digest >> (5 * at) & 31] for at in reversed(range(32)))
 
 
 class Here:
@@ -75,6 +85,22 @@ class Here:
                 os.symlink(path, new)
                 os.replace(new, link)
             await self._daemon.keep_links(list(links))
+
+    async def forget(self, links: Sequence[str]) -> None:
+        """Has the store keep nothing of links that are gone: here where this user may, else by the daemon, which takes away
+        all that it keeps of links that are gone; Failed where it can't."""
+        if not links:
+            return
+        state = f"{self._root}/nix/var/nix" if self._root else os.environ.get("NIX_STATE_DIR", "/nix/var/nix")
+        folder = f"{state}/gcroots/auto"
+        if not os.access(folder, os.W_OK):
+            async with self._lock:
+                await self._daemon.find_roots()
+            return
+        for link in links:
+            kept = f"{folder}/{_name_of_root(link)}"
+            if os.path.islink(kept) and os.readlink(kept) == link and not os.path.lexists(link):
+                os.unlink(kept)
 
     async def close(self) -> None:
         await self._daemon.close()

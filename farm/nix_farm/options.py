@@ -30,6 +30,9 @@ class Options:
     substitute: bool = False
     # seconds
     connect_timeout: int = 10
+    copy_timeout: int = 300
+    reconnect: int = 300
+    shared_slots: bool = False
     timeout: str = ""
     silent: str = ""
     cores: str = ""
@@ -88,6 +91,8 @@ _WITH_VALUE: Dict[str, Callable[[Options, str], None]] = {
     "--max-jobs": _number("jobs"),
     "--retries": _number("retries"),
     "--connect-timeout": _number("connect_timeout"),
+    "--copy-timeout": _number("copy_timeout"),
+    "--reconnect": _number("reconnect"),
     "--timeout": _number("timeout"),
     "--max-silent-time": _number("silent"),
     "--cores": _number("cores"),
@@ -101,6 +106,7 @@ _ALONE: Dict[str, Callable[[Options], None]] = {
     "--keep-failed": _flag("keep_failed"),
     "-K": _flag("keep_failed"),
     "--substitute": _flag("substitute"),
+    "--shared-slots": _flag("shared_slots"),
     "--no-link": _flag("link", False),
     "--no-out-link": _flag("link", False),
 }
@@ -146,7 +152,8 @@ def parse(words: Sequence[str]) -> Options:
         elif word.startswith("-"):
             raise Usage
         else:
-            options.roots.append(_root(word))
+            root = _root(word)
+            options.roots += [] if root in options.roots else [root]
     if not options.roots:
         raise Usage
     return options

@@ -17,13 +17,17 @@ class Place:
 
 @dataclass
 class Machine:
-    """A machine: its URI as the builders list has it, `local` for this one, and its keys, which may be empty."""
+    """A machine: its URI as the builders list has it, `local` for this one, and its keys, which may be empty.
+
+    is_left_to_daemon  whether Nix's daemon alone may read its key, and so copies to it
+    """
 
     number: int
     uri: str
     key: str
     host_key: str
     slots: List[int] = field(default_factory=list)
+    is_left_to_daemon: bool = False
 
     @property
     def is_local(self) -> bool:
@@ -48,7 +52,7 @@ class Machine:
     @property
     def keyed(self) -> str:
         """The store as Nix's commands are told it, with its keys."""
-        words = [f"ssh-key={self.key}"] if self.key else []
+        words = [f"ssh-key={self.key}"] if self.key and not self.is_left_to_daemon else []
         words += [f"base64-ssh-public-host-key={self.host_key}"] if self.host_key else []
         keyed = self.store
         for word in words:

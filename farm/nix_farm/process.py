@@ -9,7 +9,7 @@ import os
 import signal
 import sys
 import tempfile
-from typing import IO, Dict, List, Mapping, NamedTuple, Optional, Sequence, Set
+from typing import IO, Callable, Dict, List, Mapping, NamedTuple, Optional, Sequence, Set
 
 from . import blame
 from .guard import Guard
@@ -101,9 +101,13 @@ class Processes:
             self._guard.drop(process.pid)
 
     async def run(
-        self, words: Sequence[str], env: Optional[Mapping[str, str]] = None, bound: Optional[float] = None
+        self,
+        words: Sequence[str],
+        env: Optional[Mapping[str, str]] = None,
+        bound: Optional[float] = None,
+        started: Callable[[int], None] = lambda process: None,
     ) -> Ended:
-        """Runs a command to its end, which is that of its group.
+        """Runs a command to its end, which is that of its group; `started` is told the number of its process.
 
         What takes longer than `bound` seconds has the status 124. Where it can't be started the status is 127.
         """
@@ -113,6 +117,7 @@ class Processes:
             except OSError as error:
                 return Ended(127, b"", f"error: {words[0]}: {error.strerror}".encode())
             self._commands.add(process.pid)
+            started(process.pid)
             late = False
             try:
                 await asyncio.wait_for(process.wait(), bound)

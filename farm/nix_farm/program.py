@@ -40,6 +40,10 @@ class Program:
         self._processes = processes
         self._words = list(words)
 
+    def with_words(self, words: Sequence[str]) -> "Program":
+        """The program with other words of a park."""
+        return Program(self._path, self._processes, words)
+
     async def _run(self, command: str, *words: str) -> Ended:
         return await self._processes.run([self._path, command, *words, *self._words])
 

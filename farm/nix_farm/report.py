@@ -22,10 +22,12 @@ class RoundText(NamedTuple):
 
 @dataclass
 class Standing:
-    """How a derivation stands: `how` is how it failed, and `copied` the paths that were copied for its last lease."""
+    """How a derivation stands: `how` is how it failed, `below` what failed where it is cancelled for that, and `copied` the
+    paths that were copied for its last lease."""
 
     status: str = "waiting"
     how: str = ""
+    below: str = ""
     place: Optional[Place] = None
     copied: List[str] = field(default_factory=list)
     round: int = 0
@@ -86,7 +88,7 @@ class Report:
             now.take(entry)
         self.down = now.down
         for path in text.left:
-            self.standing.setdefault(path, Standing("cancelled", "cancelled"))
+            self.standing.setdefault(path, Standing("cancelled"))
         stay = {*paths, *text.left}
         for path, one in self.standing.items():
             # what is needed no longer has become valid meanwhile
@@ -99,13 +101,14 @@ class Report:
 
     def _cancel(self, drvs: Sequence[Tuple[str, Sequence[str]]], now: "_RoundState") -> None:
         """What waits when another failed, or depends on one that did, is cancelled."""
-        barred: Set[str] = set()
+        first = next((path for (path, _), one in zip(drvs, now.states) if one.status == "failed"), "")
+        barred: Dict[str, str] = {}
         for (path, inputs), one in zip(drvs, now.states):
-            if one.status == "waiting":
-                if (now.any_failed and not self._keep_going) or not barred.isdisjoint(inputs):
-                    one.status = "cancelled"
-            if one.status in ("failed", "cancelled"):
-                barred.add(path)
+            below = next((barred[before] for before in inputs if barred.get(before)), "")
+            if one.status == "waiting" and (below or (now.any_failed and not self._keep_going)):
+                one.status, one.below, one.how = "cancelled", below or first, "depends" if below else "waited"
+            if one.status == "failed" or below:
+                barred[path] = below or path
 
     def counts(self) -> Dict[str, int]:
         found = Counter(one.status for one in self.standing.values())

@@ -4,6 +4,7 @@ import json
 import os
 from typing import Dict, Mapping, Optional, Sequence
 
+from .park import Machine
 from .report import Report, Standing, Times, Told
 
 
@@ -16,6 +17,8 @@ class Sources:
         self.sizes = sizes
         self.nobuilder = nobuilder
         self.out = out
+        # the machines of each round by their numbers
+        self.parks: Sequence[Mapping[int, Machine]] = ()
 
     def why(self, path: str, one: Standing) -> Optional[str]:
         """Why a derivation isn't built."""
@@ -26,7 +29,9 @@ class Sources:
         if one.how == "memory":
             return "the dispatcher had no memory for the lease"
         if one.status == "cancelled":
-            return "it waited when another failed, or depends on one that did"
+            if one.how == "depends":
+                return f"it depends on {one.below}, which failed"
+            return f"it waited when {one.below} failed" if one.below else "it depends on one that failed"
         if one.status != "failed":
             return None
         cause = self._times(path).cause
@@ -49,7 +54,14 @@ class Sources:
                 return kept
         return None if one.place is None else f"{self.out}/{one.place}.log"
 
-    def derivation(self, path: str, one: Standing, uris: Mapping[int, str]) -> Dict[str, object]:
+    def _uri(self, one: Standing) -> Optional[str]:
+        """The URI of the machine of its last lease."""
+        if one.place is None:
+            return None
+        machine = self.parks[one.round - 1].get(one.place.machine) if 0 < one.round <= len(self.parks) else None
+        return "" if machine is None else machine.uri
+
+    def derivation(self, path: str, one: Standing) -> Dict[str, object]:
         """The object of a derivation."""
         is_timed = one.place is not None and one.status in ("built", "failed", "leased")
         times = self._times(path) if is_timed else Times()
@@ -57,7 +69,7 @@ class Sources:
             "derivation": path,
             "status": "nobuilder" if one.how == "nobuilder" else one.status,
             "round": one.round,
-            "machine": None if one.place is None else uris.get(one.place.machine, ""),
+            "machine": self._uri(one),
             "slot": None if one.place is None else one.place.slot,
             "begin": times.begun,
             "end": times.ended,
@@ -69,7 +81,6 @@ class Sources:
 
 def report_json(report: Report, sources: Sources, status: int, interrupted: str, rounds: int) -> str:
     """The text of report.json."""
-    uris = {number: machine.uri for number, machine in report.machines.items()}
     head = {"status": status, "interrupted": interrupted or None, "rounds": rounds, "counts": report.counts()}
-    lines = [json.dumps(sources.derivation(path, one, uris)) for path, one in report.standing.items()]
+    lines = [json.dumps(sources.derivation(path, one)) for path, one in report.standing.items()]
     return json.dumps(head)[:-1] + ',\n "derivations": [' + ",".join(f"\n  {line}" for line in lines) + "\n ]}\n"

@@ -2,25 +2,29 @@
 
 import os
 from dataclasses import dataclass, field
-from typing import Dict, List, Optional
+from typing import Dict, List, Mapping, Optional
 
 from . import history
 from .derivation import Derivation, read_bundle
 from .errors import GivenUp
-from .folder import Folder, say
+from .folder import Folder, Seen, say
 from .gather import NotGathered, Store
+from .park import Machine, read_park
 from .program import Program
+from .settings import words_of_text
 
 
 @dataclass
 class Round:
-    """A round: its bundle, info text and history as they stand in files, and what waits in it for something that failed."""
+    """A round: its bundle, info text and history as they stand in files, what waits in it for something that failed, and its
+    machines."""
 
     bundle: bytes
     info: bytes
     left: List[str]
     history: bytes = b""
     drvs: List[Derivation] = field(default_factory=list)
+    machines: Mapping[int, Machine] = field(default_factory=dict)
 
     def __post_init__(self) -> None:
         if not self.drvs:
@@ -29,6 +33,20 @@ class Round:
     @property
     def left_text(self) -> bytes:
         return "".join(path + "\n" for path in self.left).encode()
+
+
+@dataclass
+class Before:
+    """A run that is gone on from: its rounds, and the program as it was run over the last one. With `is_other_park` the
+    machines are others now, so what is left of it is another round."""
+
+    rounds: List[Round]
+    program: Program
+    is_other_park: bool
+
+
+# The words of a run that may change on the way.
+_OF_PARK = {"builders", "system", "extra", "features", "jobs"}
 
 
 class Other(Exception):
@@ -44,7 +62,7 @@ def last_round(folder: Folder) -> int:
     return last
 
 
-def _read(folder: Folder, name: str) -> bytes:
+def _read(folder: Seen, name: str) -> bytes:
     try:
         with open(folder.at(name), "rb") as file:
             return file.read()
@@ -54,7 +72,16 @@ def _read(folder: Folder, name: str) -> bytes:
         raise GivenUp(5, f"{folder.at(name)} can't be copied") from error
 
 
-def _take_over(folder: Folder, last: int) -> List[Round]:
+def _machines(folder: Seen, number: int) -> Dict[int, Machine]:
+    """The machines of a round; none where that isn't known."""
+    try:
+        with open(folder.at(f"park.{number}"), encoding="utf-8", errors="surrogateescape") as text:
+            return read_park(text.read())
+    except OSError:
+        return {}
+
+
+def rounds_of(folder: Seen, last: int) -> List[Round]:
     """The rounds of the run; each has a journal once its run has begun."""
     found = []
     for at in range(1, last + 1):
@@ -64,7 +91,8 @@ def _take_over(folder: Folder, last: int) -> List[Round]:
             raise Other(f"a file of the run in {folder.out} is gone, so another one begins")
         try:
             told = history.read_whole(folder.at(f"journal.{at}"))
-            found.append(Round(bundle, info, left.decode(errors="surrogateescape").split("\n")[:-1], told))
+            waits = left.decode(errors="surrogateescape").split("\n")[:-1]
+            found.append(Round(bundle, info, waits, told, machines=_machines(folder, at)))
         except OSError as error:
             raise GivenUp(5, f"{folder.at(f'journal.{at}')} can't be copied") from error
         except ValueError as error:
@@ -72,12 +100,12 @@ def _take_over(folder: Folder, last: int) -> List[Round]:
     return found
 
 
-def _other_words(words: str, before: str) -> str:
+def _other_words(words: str, before: str) -> List[str]:
     """The first words of the lines that only one of two texts has."""
     lines: Dict[str, int] = {}
     for line in words.split("\n")[:-1] + before.split("\n")[:-1]:
         lines[line] = lines.get(line, 0) + 1
-    return " ".join(sorted({line.split(" ")[0] for line, times in lines.items() if times == 1}))
+    return sorted({line.split(" ")[0] for line, times in lines.items() if times == 1})
 
 
 async def _look_at(folder: Folder, program: Program, last: int) -> None:
@@ -106,21 +134,23 @@ async def _look_for_built(folder: Folder, store: Store, rounds: List[Round]) -> 
         raise Other(f"{why}: {lacking[0]}")
 
 
-async def _rounds(folder: Folder, program: Program, store: Store, words: str, last: int) -> List[Round]:
+async def _before(folder: Folder, program: Program, store: Store, words: str, last: int) -> Before:
     before = _read(folder, ".unfinished").decode(errors="surrogateescape")
-    if before != words:
-        others = _other_words(words, before)
-        raise Other(f"the run in {folder.out} was begun with other words ({others}), so another one begins")
-    rounds = _take_over(folder, last)
+    others = _other_words(words, before) if before != words else []
+    if before != words and not set(others) <= _OF_PARK:
+        raise Other(f"the run in {folder.out} was begun with other words ({' '.join(others)}), so another one begins")
+    rounds = rounds_of(folder, last)
     if history.has_stop(rounds[-1].history):
         raise Other(f"the run in {folder.out} was stopped by a fault, so another one begins")
-    await _look_at(folder, program, last)
-    await _look_for_built(folder, store, rounds)
-    return rounds
+    ran = program.with_words(words_of_text(before)) if before != words else program
+    await _look_at(folder, ran, last)
+    if before == words:
+        await _look_for_built(folder, store, rounds)
+    return Before(rounds, ran, before != words)
 
 
-async def goes_on(folder: Folder, program: Program, store: Store, words: str) -> Optional[List[Round]]:
-    """The rounds of the run that is gone on from; None where another one begins, and why is said.
+async def goes_on(folder: Folder, program: Program, store: Store, words: str) -> Optional[Before]:
+    """The run that is gone on from; None where another one begins, and why is said.
 
     GivenUp where that can't be looked at: then the folder stays as it is.
     """
@@ -128,7 +158,7 @@ async def goes_on(folder: Folder, program: Program, store: Store, words: str) ->
     if last == 0:
         return None
     try:
-        return await _rounds(folder, program, store, words, last)
+        return await _before(folder, program, store, words, last)
     except Other as why:
         say(str(why))
         return None

@@ -15,6 +15,8 @@ from .slot import Slot
 # The descriptors that a slot takes at most, and those that are open besides.
 _OF_SLOT = 6
 _OTHERS = 64
+# The seconds between two calls to end.
+_BEAT = 1.0
 
 
 def allow_descriptors(slots: int) -> None:
@@ -92,13 +94,19 @@ class Running:
 
 
 async def _call_off(tasks: Sequence["asyncio.Task[None]"]) -> None:
-    for task in tasks:
-        task.cancel()
+    """Calls tasks off until they have ended: `asyncio.wait_for` before Python 3.12 forgets it where what it waits for is done
+    in that moment."""
+    left = [task for task in tasks if not task.done()]
+    while left:
+        for task in left:
+            task.cancel()
+        await asyncio.wait(left, timeout=_BEAT)
+        left = [task for task in left if not task.done()]
     await asyncio.gather(*tasks, return_exceptions=True)
 
 
 def to_blame_twice(notes: Sequence[Note], before: int) -> Dict[int, str]:
-    """The machines that were to blame in two rounds before this one, and for what."""
+    """The machines that were to blame in two rounds before this one, and for what; of another park nothing counts."""
     times: Dict[str, int] = {}
     causes: Dict[str, List[str]] = {}
     once = set()
@@ -108,6 +116,9 @@ def to_blame_twice(notes: Sequence[Note], before: int) -> Dict[int, str]:
             if int(note.words[1]) >= before:
                 break
             once.clear()
+        if kind == "list":
+            times.clear()
+            causes.clear()
         who = {"no": 1, "lost": 2}.get(kind, 0)
         if who and note.words[who] == "machine" and note.machine not in once:
             once.add(note.machine)

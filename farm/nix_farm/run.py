@@ -1,13 +1,13 @@
 """A run from its words to its status."""
 
+import asyncio
 import signal
 import sys
 from typing import Dict, List, Mapping, Optional, Set
 
 from . import history, nobuilder, roots, settings
 from .account import Account
-from .builds import Builds
-from .copies import Copies
+from .chosen import Chosen
 from .cut import Cut
 from .derivation import Derivation
 from .display import Display
@@ -16,15 +16,14 @@ from .events import Events, read_events
 from .folder import Folder, say, write_error, write_out
 from .gather import NotGathered, Store
 from .here import Here
-from .machine import Connections
 from .options import Options
-from .park import Machine, Place, places, read_park
 from .process import Processes
 from .program import AUDIT_LIMIT, Program
-from .resume import Round, goes_on
-from .rounds import Running, allow_descriptors, to_blame_twice
-from .slot import Slot
+from .resume import Before, Round, goes_on
+from .rounds import Running
 from .substitutes import fetch
+from .summary import never_built
+from .workers import Workers
 
 _SIGNALS = {"HUP": 129, "INT": 130, "TERM": 143}
 
@@ -44,11 +43,14 @@ class Run:
         self._root = settings.store_folder()
         self._store = Store(processes, self._root)
         self._here = Here(processes, shared, self._root)
-        self._machines: Dict[int, Machine] = {}
-        self._connections: Dict[int, Connections] = {}
+        self._workers = Workers(options, processes, shared, self._root, self._here)
         self._rounds: List[Round] = []
-        # the round that runs now, or ran last
+        # the round that runs now, or ran last, and whether another one follows it at once
         self._number = 0
+        self._is_next = False
+        # the rounds from which on the machines were others
+        self._lists: List[int] = []
+        self._park = b""
         self._noted: Set[int] = set()
         self._graph: Optional[List[Derivation]] = None
         self._status = 0
@@ -57,6 +59,8 @@ class Run:
         self._is_rooted = False
         self._has_ended = True
         self._folder: Optional[Folder] = None
+        # those that were in the folder, and are perhaps gone
+        self._links: List[str] = []
         self._events: Optional[Events] = None
 
     def interrupt(self, name: str) -> None:
@@ -97,9 +101,10 @@ class Run:
             await self._gather_first()
         first = self._rounds[0].drvs if self._rounds else []
         never = nobuilder.reasons(first, nobuilder.abilities(self.options, self._builders))
-        self._account = Account(self.options, self.folder, self._machines, self._here, self._store, self._rounds, never)
-        await self._run_rounds()
-        self._display.end()
+        self._account = Account(self.options, self.folder, self._workers.machines, self._here, self._store, self._rounds, never)
+        write_error("".join(line + "\n" for line in never_built(never)))
+        if not self._is_next or await self._gather_next():
+            await self._run_rounds()
         return await self._end()
 
     async def _read_settings(self) -> None:
@@ -121,36 +126,46 @@ class Run:
         words = settings.run_words(self.options, self._builders)
         before = await goes_on(folder, self._program, self._store, words)
         self._look_for_signal()
+        self._links = roots.links_of(folder.out)
         folder.clean(before is not None)
         folder.look_for_room(self._root or "/nix/store")
         folder.link_agents()
-        uris = {str(number): machine.uri for number, machine in self._machines.items()}
-        self._display = Display(folder.out, lambda: uris, write_error, sys.stderr.isatty())
-        self._noted = {int(note.words[1]) for note in read_events(folder.at("events")) if note.words[0] == "round"}
+        self._display = Display(folder.out, lambda: self._workers.uris, write_error, sys.stderr.isatty())
+        notes = read_events(folder.at("events"))
+        self._noted = {int(note.words[1]) for note in notes if note.words[0] == "round"}
+        self._lists = [int(note.words[1]) for note in notes if note.words[0] == "list"]
         self._events = Events(folder.out, self._display.hear)
         await self._read_park(words)
-        uris.update({str(number): machine.uri for number, machine in self._machines.items()})
         if before is not None:
-            self._rounds = before
-            self._number = len(before) - 1
-            last = before[-1]
-            built = history.count(last.history, "built")
-            of = f"{built} of {len(last.drvs)} derivations were built in it"
-            say(f"round {len(before)} of the run in {folder.out} goes on: {of}")
-            self._shut_out(len(before))
+            await self._take_over(before)
+
+    async def _take_over(self, before: Before) -> None:
+        """The rounds of a run that is gone on from. With another park, or where the program has not yet begun with the last
+        one, that is another round."""
+        self._rounds, number, last = before.rounds, len(before.rounds), before.rounds[-1]
+        built = history.count(last.history, "built")
+        of = f"{built} of {len(last.drvs)} derivations were built in it"
+        self._number = number - 1
+        if before.is_other_park and last.history:
+            self._number, self._is_next = number, True
+            self._is_unfinished = self._is_rooted = True
+            say(f"the run in {self.folder.out} goes on with other machines, in round {number + 1}; round {number} ends: {of}")
+            self.events.note_round("list", number + 1)
+            self._lists.append(number + 1)
+            await self._put_history(last, before.program)
+        else:
+            say(f"round {number} of the run in {self.folder.out} goes on: {of}")
+        self._workers.shut_out(self.folder.at("events"), number)
 
     async def _read_park(self, words: str) -> None:
         listed = await self._program.park()
         write_error(listed.said.decode(errors="replace"))
         if listed.status != 0:
             raise GivenUp(listed.status, "the park is refused")
+        self._park = listed.out
         self.folder.put("park", listed.out)
         self.folder.put(".unfinished", words.encode(errors="surrogateescape"))
-        self._machines = read_park(listed.out.decode(errors="surrogateescape"))
-        bound = self.options.connect_timeout
-        for number, machine in self._machines.items():
-            self._connections[number] = Connections(machine, self.processes, self.shared, bound)
-        allow_descriptors(sum(machine.jobs for machine in self._machines.values()))
+        await self._workers.take(listed.out.decode(errors="surrogateescape"))
 
     async def _gather_first(self) -> None:
         """What is to be built; nothing where that was interrupted."""
@@ -207,11 +222,13 @@ class Run:
         for kind, text in (("left", one.left_text), ("info", one.info), ("bundle", one.bundle)):
             folder.put(f"{kind}.{number}", text)
             folder.keep(kind, text)
+        folder.put(f"park.{number}", self._park)
+        one.machines = self._workers.machines
         for kind in ("bundle", "info", "journal"):
             folder.newest(kind, number)
         paths = roots.rooted_paths(self.options.roots, one.drvs)
         await roots.root_all(self._here, folder.at("gcroots"), number, paths)
-        folder.make_durable([".unfinished", "park", *(f"{kind}.{number}" for kind in ("left", "info", "bundle"))])
+        folder.make_durable([".unfinished", "park", *(f"{kind}.{number}" for kind in ("left", "info", "park", "bundle"))])
 
     async def _run_round(self, one: Round) -> int:
         """Runs a round, or goes on with it: the status of the program."""
@@ -222,9 +239,9 @@ class Run:
         else:
             self.events.note_round("round", number, len(one.drvs))
             self._noted.add(number)
-        for connections in self._connections.values():
-            connections.begin_round()
-        for place in places(self._machines):
+        self._workers.begin_round()
+        places = self._workers.places
+        for place in places:
             try:
                 open(folder.at(f"{place}.log"), "ab").close()
             except OSError as error:
@@ -232,24 +249,17 @@ class Run:
         drvs = {drv.path: drv for drv in one.drvs}
         pipes = folder.in_shared("pipes")
         files = (folder.in_shared("bundle"), folder.in_shared("info"), folder.at(f"journal.{number}"))
+        showing = asyncio.ensure_future(self._display.keep_shown())
         self._running = Running(self.processes, pipes, lambda process: folder.keep("program", str(process).encode()))
         try:
             words = self._program.run_words(pipes, *files)
-            return await self._running.run(words, places(self._machines), lambda place: self._slot(place, drvs))
+            agent = self._workers.slot
+            given = folder, self.events, self._settings, drvs, Chosen(files[2], list(drvs))
+            return await self._running.run(words, places, lambda place: agent(place, *given))
         finally:
             self._running = None
-
-    def _slot(self, place: Place, drvs: Mapping[str, Derivation]) -> Slot:
-        machine = self._machines[place.machine]
-        connections = self._connections[place.machine]
-        connection, copies = None, None
-        if not machine.is_local:
-            connection = connections.of_slot(place.slot)
-            copies = Copies(self.processes, self._here, machine, connection)
-        logs = self.folder.at("logs")
-        options, shared = self.options, self.shared
-        builds = Builds(place, machine, connection, self.processes, shared, self._here, options, self._settings, logs)
-        return Slot(place, connections, copies, builds, self._here, self.events, drvs)
+            showing.cancel()
+            self._display.end()
 
     async def _look_at_history(self, one: Round) -> None:
         """What the journal holds, up to what an interruption has ended; and the audit of that."""
@@ -259,15 +269,19 @@ class Run:
             notes = read_events(folder.at("events"))
             one.history = history.before_interruption(one.history, [drv.path for drv in one.drvs], notes, number)
             folder.put(f"journal.{number}", one.history)
-        if not one.history:
-            return
+        if one.history:
+            await self._put_history(one, self._program)
+
+    async def _put_history(self, one: Round, program: Program) -> None:
+        """Puts a round's history into the folder, and what the audit says of it."""
+        folder, number = self.folder, self._number
         if len(one.history) > AUDIT_LIMIT:
             verdict = b"not audited: the history has more than 64 MiB\n"
             say(f"the history of round {number} has more than the 64 MiB that an audit reads, so it isn't audited")
         else:
             folder.keep("history", one.history)
-            files = (folder.in_shared(kind) for kind in ("bundle", "info", "history"))
-            audited = await self._program.audit(*files)
+            files = (folder.at(f"{kind}.{number}") for kind in ("bundle", "info"))
+            audited = await program.audit(*files, folder.in_shared("history"))
             verdict = audited.out
             if audited.status != 0:
                 self._verdict = 4
@@ -295,11 +309,16 @@ class Run:
 
     async def _next_round(self, one: Round) -> bool:
         """Whether there is something to be tried again; it is gathered then."""
-        self._shut_out(self._number + 1)
-        failed = self._account.failed_by_itself(self._number)
-        if self._number > self.options.retries or (failed and not self.options.keep_going):
+        self._workers.shut_out(self.folder.at("events"), self._number + 1)
+        begun = max(self._lists, default=1)
+        if self._number - begun + 1 > self.options.retries or not history.lost_something(one.history):
             return False
-        if not history.lost_something(one.history):
+        return await self._gather_next()
+
+    async def _gather_next(self) -> bool:
+        """Gathers what is left as another round, unless something has failed by itself that ends all; whether it has."""
+        failed = self._account.failed_by_itself(self._number)
+        if failed and not self.options.keep_going:
             return False
         try:
             found = await self._gather(failed)
@@ -313,21 +332,13 @@ class Run:
             say(f"round {self._number + 1}: {left}")
         return True
 
-    def _shut_out(self, before: int) -> None:
-        """Machines that were to blame in two rounds before this one get nothing more."""
-        for number, cause in to_blame_twice(read_events(self.folder.at("events")), before).items():
-            connections = self._connections.get(number)
-            if connections is not None and not connections.shut_out:
-                say(f"machine {number} gets nothing more, since it was to blame in two rounds: {cause}")
-                connections.shut_out = f"to blame in two rounds: {cause}"
-
     async def _end(self) -> int:
         """How it stands, and what was made: the status."""
         folder, account = self.folder, self._account
         status = await account.read(self.signal_status(self._verdict or self._status))
         account.put(status, self._number, self.interrupted)
-        account.tell(self._number, self.interrupted)
         await self._hand_over()
+        account.tell(self.interrupted)
         if self.interrupted and status == 0:
             # an interruption that came behind the report
             status = self.signal_status(status)
@@ -341,13 +352,13 @@ class Run:
 
     async def _hand_over(self) -> None:
         """Prints the paths that the roots have made, and links to them."""
-        made: List[str] = []
+        made: Dict[str, None] = {}
         for root in self.options.roots:
             try:
-                made += self._store.read(root).output_paths
+                made.update(dict.fromkeys(self._store.read(root).output_paths))
             except NotGathered:
                 continue
-        valid = await roots.valid_ones(self._here, made)
+        valid = await roots.valid_ones(self._here, list(made))
         for path in valid:
             write_out(path + "\n")
         if self.options.link:
@@ -355,10 +366,11 @@ class Run:
 
     async def close(self) -> None:
         """Ends what is kept open, and takes away what only a run that goes on needs."""
-        for connections in self._connections.values():
-            await connections.close()
-        await self._here.close()
+        await self._workers.close()
         if self._events is not None:
             self._events.close()
         if self._folder is not None:
+            self._links += roots.links_of(self._folder.out)
             self._folder.leave(self._is_rooted and not self._is_unfinished)
+            await roots.forget(self._here, self._links)
+        await self._here.close()

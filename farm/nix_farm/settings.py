@@ -2,7 +2,7 @@
 
 import os
 import re
-from typing import Dict, List, Mapping
+from typing import Dict, List, Mapping, Tuple
 
 from . import daemon
 from .errors import GivenUp
@@ -65,6 +65,25 @@ def of_program(options: Options) -> List[str]:
     return words + ["--features", options.features, "--jobs", options.jobs]
 
 
+def told_of_text(text: str) -> Dict[str, List[str]]:
+    """What a text of `.unfinished` says, by its lines' first words."""
+    told: Dict[str, List[str]] = {}
+    for line in text.split("\n")[:-1]:
+        name, _, value = line.partition(" ")
+        told.setdefault(name, []).append(value)
+    return told
+
+
+def words_of_text(text: str) -> List[str]:
+    """The words that nix-dispatch was given of the park and of the run with this text of `.unfinished`."""
+    told = told_of_text(text)
+    words = ["--keep-going"] if told.get("keep-going") == ["1"] else []
+    words += ["--builders", "\n".join(told.get("builders", []))]
+    for name in ("system", "extra", "features", "jobs"):
+        words += [f"--{name}", told.get(name, [""])[0]]
+    return words
+
+
 def run_words(options: Options, builders: str) -> str:
     """What is built and on what, as far as a history goes by it: the text of `.unfinished`."""
     lines = [
@@ -82,6 +101,13 @@ def run_words(options: Options, builders: str) -> str:
 
 def _count(value: str) -> int:
     return int(value) if value.isascii() and value.isdigit() else 0
+
+
+def bounds_of_builds(options: Options, settings: Mapping[str, str]) -> Tuple[int, int]:
+    """The seconds that Nix gives a build, and those that it may be silent; 0 for no bound."""
+    timeout = options.others.get("timeout", settings.get("timeout", ""))
+    silent = options.others.get("max-silent-time", settings.get("max-silent-time", ""))
+    return _count(options.timeout or timeout), _count(options.silent or silent)
 
 
 def of_builds(options: Options, settings: Mapping[str, str], jobs: int, builders: str) -> daemon.Settings:

@@ -8,11 +8,14 @@
 """
 
 import asyncio
-from typing import Awaitable, Mapping, Optional, Sequence
+from typing import Awaitable, List, Mapping, Optional, Sequence
 
+from .again import Again
 from .blame import Fault, printable
 from .builds import Builds
+from .chosen import Chosen
 from .copies import Copies
+from .damage import Damage
 from .daemon import Failed
 from .derivation import Derivation
 from .events import Events
@@ -20,6 +23,7 @@ from .here import Here
 from .machine import Connections
 from .park import Place
 from .pipe import Pipes
+from .shared import SharedSlot
 
 # The seconds for which the process of a slot is kept that has nothing to build.
 _IDLE = 10.0
@@ -32,20 +36,28 @@ class Slot:
         self,
         place: Place,
         connections: Connections,
+        shared: Optional[SharedSlot],
         copies: Optional[Copies],
         builds: Builds,
         here: Here,
+        damage: Damage,
         events: Events,
         drvs: Mapping[str, Derivation],
+        chosen: Chosen,
     ) -> None:
-        """`drvs` are the derivations of the round's bundle by their paths; there is nothing to copy by for this machine."""
+        """`drvs` are the derivations of the round's bundle by their paths; there is nothing to copy by for this machine, and
+        no slot that is shared with others unless that is asked for."""
         self.place = place
         self._connections = connections
+        self._shared = shared
         self._copies = copies
         self._builds = builds
         self._here = here
+        self._damage = damage
+        self._chosen = chosen
         self._events = events
         self._drvs = drvs
+        self._again = Again(connections, place.slot, connections.reconnect)
         # what a copy found this store to lack: the build behind it is lost for that
         self._owed: Optional[Fault] = None
 
@@ -64,12 +76,30 @@ class Slot:
     async def _answer(self, call: str, words: Sequence[str]) -> str:
         """The answer to a call. ValueError where it is none."""
         if call == "connect":
-            return self._yes_or_no(await self._or_fault(self._connections.connect(self.place.slot, self._log)))
+            self._again = Again(self._connections, self.place.slot, self._connections.reconnect)
+            return self._yes_or_no(await self._or_fault(self._connect()))
         if call == "copy":
-            return self._yes_or_no(await self._or_fault(self._copy(words)))
+            fault = await self._or_fault(self._copy(words))
+            if fault is not None:
+                await self._give_back()
+            return self._yes_or_no(fault)
         if call == "build":
-            return await self._build(words)
+            answer = await self._build(words)
+            await self._give_back()
+            return answer
         raise ValueError(f"the call {call[:100]!r}")
+
+    async def _connect(self) -> Optional[Fault]:
+        fault = await self._connections.connect(self.place.slot, self._log)
+        return fault or await self._take()
+
+    async def _take(self) -> Optional[Fault]:
+        """Holds one of the slots that others share: None, or why none can be held."""
+        return None if self._shared is None else await self._shared.take(lambda: self._note("waits"))
+
+    async def _give_back(self) -> None:
+        if self._shared is not None:
+            await self._shared.give_back()
 
     @staticmethod
     async def _or_fault(doing: Awaitable[Optional[Fault]]) -> Optional[Fault]:
@@ -99,8 +129,13 @@ class Slot:
         self._owed = None
         if self._copies is None or not paths:
             return None
-        self._note("copy", len(paths))
-        fault = await self._copies.copy(paths, self._log, lambda status: self._note("copied", status))
+        drv = self._chosen.of(self.place)
+        self._note("copy", len(paths), drv)
+        statuses: List[int] = []
+        fault = await self._copies.copy(paths, self._log, statuses.append)
+        while fault is not None and await self._goes_on(drv, fault):
+            fault = await self._copies.copy(paths, self._log, statuses.append)
+        self._note("copied", statuses[-1])
         if fault is not None and fault.who == "here":
             self._owed = fault
             return None
@@ -131,11 +166,33 @@ class Slot:
                 return self._lose(drv, fault)
         else:
             self._note("begin", drv)
-            fault = await self._builds.build(self._drvs[drv], self._log, lambda status: self._note("end", drv, status))
+            statuses: List[int] = []
+            fault = await self._builds.build(self._drvs[drv], self._log, statuses.append)
+            while fault is not None and await self._goes_on(drv, fault):
+                fault = await self._builds.build(self._drvs[drv], self._log, statuses.append)
+            self._note("end", drv, statuses[-1])
             if fault is not None:
-                return self._unbuilt(drv, fault)
+                return self._unbuilt(drv, await self._blamed(drv, fault))
         references = await self._builds.references(outputs)
         return " ".join(["built", *(word for listed in references for word in ("o", *listed))])
+
+    async def _goes_on(self, drv: str, fault: Fault) -> bool:
+        """Whether a lease that was cut short goes on, since its machine answers again."""
+        if not await self._again.goes_on(fault, self._log, lambda: self._note("cut", drv, fault.cause)):
+            return False
+        if await self._take() is not None:
+            return False
+        self._note("resumed", drv)
+        return True
+
+    async def _blamed(self, drv: str, fault: Fault) -> Fault:
+        """Whose fault it is, once this store was looked at: Nix's hook copies what a machine has lost meanwhile."""
+        if fault.answer != "lost" or fault.who != "machine":
+            return fault
+        one = self._drvs[drv]
+        made = [path for before, _ in one.inputs if before in self._drvs for path in self._drvs[before].output_paths]
+        cause = await self._damage.of_build([*one.sources, *made], fault.cause)
+        return Fault("lost", "here", cause) if cause else fault
 
     def _unbuilt(self, drv: str, fault: Fault) -> str:
         if fault.answer == "lost":
@@ -151,4 +208,5 @@ class Slot:
         return "lost"
 
     async def close(self) -> None:
+        await self._give_back()
         await self._builds.close()

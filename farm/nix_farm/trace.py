@@ -1,7 +1,8 @@
 """The copies and builds of a run over time, in the Trace Event Format: a process for each machine, a thread for each slot."""
 
 import json
-from typing import Dict, List, Mapping, Optional, Sequence, Tuple
+from collections import Counter
+from typing import Dict, List, Mapping, Optional, Sequence, Set, Tuple
 
 from .derivation import name_of
 from .events import Note
@@ -47,17 +48,45 @@ class _Lane:
         return found
 
 
-def trace(machines: Mapping[int, Machine], notes: Sequence[Note]) -> str:
-    """The text of trace.json."""
+class _Parks:
+    """The machines of all rounds: one that comes again, also under another number, keeps the one that it had first."""
+
+    def __init__(self, parks: Sequence[Mapping[int, Machine]]) -> None:
+        self.uris: Dict[int, str] = {}
+        self.slots: Dict[int, Set[int]] = {}
+        self._number: Dict[Tuple[int, int], int] = {}
+        known: Dict[Tuple[str, int], int] = {}
+        for at, machines in enumerate(parks, 1):
+            before: "Counter[str]" = Counter()
+            for number, machine in sorted(machines.items()):
+                one = (machine.uri, before[machine.uri])
+                before[machine.uri] += 1
+                if one not in known:
+                    known[one] = number if number not in self.uris else max(self.uris) + 1
+                place = self._number[at, number] = known[one]
+                self.uris[place] = machine.uri
+                self.slots.setdefault(place, set()).update(machine.slots)
+
+    def number(self, at: int, number: int) -> int:
+        """The number that a machine of a round has over all rounds."""
+        return self._number.get((at, number), number)
+
+
+def trace(parks: Sequence[Mapping[int, Machine]], notes: Sequence[Note]) -> str:
+    """The text of trace.json; `parks` are the machines of each round."""
     events: List[Dict[str, object]] = []
-    for number, machine in sorted(machines.items()):
-        names = {"name": f"machine {number}: {machine.uri}"}
+    named = _Parks(parks)
+    for number, uri in sorted(named.uris.items()):
+        names = {"name": f"machine {number}: {uri}"}
         events.append({"ph": "M", "name": "process_name", "pid": number, "args": names})
-        for slot in sorted(machine.slots):
+        for slot in sorted(named.slots[number]):
             events.append({"ph": "M", "name": "thread_name", "pid": number, "tid": slot, "args": {"name": f"slot {slot}"}})
-    lanes: Dict[Tuple[str, str], _Lane] = {}
+    lanes: Dict[Tuple[int, str], _Lane] = {}
+    at = 1
     for note in notes:
+        if note.words[0] == "round" and note.words[1].isdigit():
+            at = int(note.words[1])
         if note.machine.isdigit() and note.slot.isdigit():
-            lane = lanes.setdefault((note.machine, note.slot), _Lane(int(note.machine), int(note.slot)))
-            events += lane.take(note)
+            machine = named.number(at, int(note.machine))
+            events += lanes.setdefault((machine, note.slot), _Lane(machine, int(note.slot))).take(note)
     return "[" + ",".join("\n" + json.dumps(event) for event in events) + "\n]\n"

@@ -1,6 +1,5 @@
 """`farm/watch`: how far the run in a folder is, from elsewhere."""
 
-import fcntl
 import os
 import sys
 import time
@@ -8,23 +7,11 @@ from typing import Dict, Sequence
 
 from .display import Display
 from .events import read_note
-from .folder import write_error
+from .folder import goes_on_in, write_error
 from .park import read_park
 
 # The seconds between two looks.
 _BEAT = 0.2
-
-
-def _goes_on(folder: str) -> bool:
-    """Whether a run has the lock of a folder."""
-    try:
-        with open(f"{folder}/.lock", "rb") as lock:
-            fcntl.flock(lock, fcntl.LOCK_SH | fcntl.LOCK_NB)
-    except BlockingIOError:
-        return True
-    except OSError:
-        return False
-    return False
 
 
 def _uris(folder: str) -> Dict[str, str]:
@@ -40,7 +27,7 @@ def _watch(folder: str) -> None:
     begun = ""
     with open(f"{folder}/events", encoding="utf-8", errors="replace") as events:
         while True:
-            is_last = not _goes_on(folder)
+            is_last = not goes_on_in(folder)
             for part in events:
                 begun += part
                 if begun.endswith("\n"):
@@ -50,6 +37,7 @@ def _watch(folder: str) -> None:
             if is_last:
                 display.end()
                 return
+            display.show()
             time.sleep(_BEAT)
 
 

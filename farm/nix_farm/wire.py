@@ -5,8 +5,9 @@ list of strings is their number and each of them.
 """
 
 import asyncio
+import time
 from enum import IntEnum
-from typing import Callable, Iterable, List, TypeVar
+from typing import Callable, Iterable, List, Optional, TypeVar
 
 _T = TypeVar("_T")
 
@@ -21,6 +22,7 @@ class Operation(IntEnum):
 
     BUILD_PATHS = 9
     ADD_INDIRECT_ROOT = 12
+    FIND_ROOTS = 14
     SET_OPTIONS = 19
     QUERY_PATH_INFO = 26
     QUERY_VALID_PATHS = 31
@@ -91,17 +93,21 @@ class Hearing:
         self._stream = stream
         self._held = b""
         self._at = 0
+        # when something came, by the monotonic clock
+        self.heard_at = 0.0
 
-    async def hear(self, read: "Callable[[Hearing], _T]") -> _T:
-        """What the function reads; EOFError where the stream ends before."""
+    async def hear(self, read: "Callable[[Hearing], _T]", patience: Optional[float] = None) -> _T:
+        """What the function reads; EOFError where the stream ends before, and asyncio.TimeoutError where nothing comes for so
+        many seconds."""
         begin = self._at
         while True:
             try:
                 return read(self)
             except _Short:
-                part = await self._stream.read(1 << 16)
+                part = await asyncio.wait_for(self._stream.read(1 << 16), patience)
                 if not part:
                     raise EOFError from None
+                self.heard_at = time.monotonic()
                 self._held = self._held[begin:] + part
                 begin = self._at = 0
 

@@ -182,13 +182,13 @@ class Graphs(FarmCase):
         self.assertEqual(
             world.events(),
             [
-                ["-", "-", "round", "1", "1"], ["1", "0", "copy", "1"], ["1", "0", "copied", "0"],
+                ["-", "-", "round", "1", "1"], ["1", "0", "copy", "1", first], ["1", "0", "copied", "0"],
                 ["1", "0", "begin", first], ["1", "0", "end", first, "0"],
             ],
         )
         log = world.bytes("out/1.0.log").decode()
         self.assertRegex(
-            log, rf"(?ms)^\d+ copy 1\n.*^\d+ copied 0\n\d+ begin {first}\n.*a line of the log\n.*\d+ end {first} 0\n$"
+            log, rf"(?ms)^\d+ copy 1 {first}\n.*^\d+ copied 0\n\d+ begin {first}\n.*a line of the log\n.*\d+ end {first} 0\n$"
         )
 
     def test_report_json(self) -> None:

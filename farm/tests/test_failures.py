@@ -3,7 +3,7 @@
 import os
 import unittest
 
-from tests.world import FarmCase
+from tests.world import FarmCase, World
 
 LOST = {"says": "error: unexpected end-of-file\n", "status": 1}
 DENIED = {"says": "nobody@one: Permission denied (publickey).\r\nerror: cannot connect to 'one'\n", "status": 1}
@@ -32,8 +32,13 @@ class Builders(FarmCase):
         self.says(
             ran,
             r"(?m)^failed with status 3: root on this machine \(slot 0\.0\): builder for .* failed with exit code 3$",
-            rf"the last lines of {world.at('out/logs')}/\S*-root\.drv\.log:", r"(?m)^    line 30$",
+            rf"the last lines of its builder, of {world.at('out/logs')}/\S*-root\.drv\.log:", r"(?m)^    line 30$",
         )
+        # said once, without what Nix says around them, and named at the end
+        self.assertEqual(ran.err.count("line 30"), 1)
+        self.assertNotRegex(ran.err, r"(?m)^    error: ")
+        self.assertRegex(ran.err, r"(?m)^0 built, 1 failed of 1\nfailed with status 3: \S*-root\.drv on this machine: .*\(log \S*\)\n\Z")
+        self.assertEqual(ran.out, "")
         self.assertNotRegex(ran.err, r"(?m)^    line [1-5]$")
         self.assertEqual(world.history(), ["chosen 0 0 0", "started 0", "failed 0 status 3"])
         one = world.report()["by_name"]["root"]
@@ -49,9 +54,9 @@ class Builders(FarmCase):
         self.ended(world.build(above, other), 1)
         self.assertEqual(world.counts()["failed"], 1)
         self.assertEqual(world.report()["by_name"]["above"]["status"], "cancelled")
-        self.assertEqual(
-            world.report()["by_name"]["above"]["cause"], "it waited when another failed, or depends on one that did"
-        )
+        by_name = world.report()["by_name"]
+        self.assertEqual(by_name["above"]["cause"], f"it depends on {bad}, which failed")
+        self.assertEqual(by_name["other"]["cause"], f"it waited when {bad} failed")
 
     def test_keep_going(self) -> None:
         world = self.world
@@ -299,6 +304,39 @@ class Machines(FarmCase):
         self.assertFalse([line for line in world.history() if line.startswith("down")])
         self.assertIn("source", world.report()["by_name"]["root"]["cause"])
         self.says(ran, "lost: root on ssh://one.*source")
+
+    def test_a_damaged_path_of_this_store(self) -> None:
+        """What needs it is lost, no machine is down, and what is beside it is built."""
+        for how, why in (("gone", "its files are gone"), ("other", "it isn't as it was registered")):
+            for size in (120, 5 << 20):
+                with self.subTest(how=how, size=size):
+                    self.world.end()
+                    world = self.world = World(self)
+                    source = world.source("source")
+                    world.sizes[source] = size
+                    root, beside = world.drv("root", sources=[source]), world.drv("beside", sources=[world.source("other")])
+                    for name in ("one", "two"):
+                        world.machine(name, ssh=True)
+                    world.damage(source, how)
+                    ran = world.build("-k", "--retries", "1", root, beside, jobs=0)
+                    self.ended(ran, 1)
+                    self.assertEqual(world.report()["by_name"]["beside"]["status"], "built")
+                    self.says(ran, f"lost: root on ssh://.*path '{source}' is damaged in this store: {why}")
+                    told = world.history(1) + world.history(2)
+                    self.assertFalse([line for line in told if line.startswith("down")])
+
+    def test_a_damaged_path_that_nix_s_hook_copies(self) -> None:
+        """Also then the machine isn't to blame."""
+        world = self.world
+        source = world.source("source")
+        root = world.drv("root", sources=[source])
+        uri = world.machine("one", ssh=True)
+        words = f"error: hash mismatch importing path '{source}'\n"
+        world.happens("builds", f"root on {uri}", {"says": words, "status": 1, "modifies": [source]})
+        ran = world.build("--retries", "0", root, jobs=0)
+        self.ended(ran, 1)
+        self.assertIn("lost", [words[2] for words in world.events() if "here" in words])
+        self.says(ran, "lost: root on ssh://one.*is damaged in this store: it isn't as it was registered")
 
     def test_an_output_that_is_gone(self) -> None:
         world = self.world

@@ -1,6 +1,7 @@
 """Runs that are killed, and the same command behind that; folders that are in use, or of another run."""
 
 import fcntl
+import json
 import os
 import signal
 import threading
@@ -105,6 +106,88 @@ class Killed(Stopped):
         self.assertEqual(self.world.settings_of("root")["timeout"], "200")
 
 
+class Lists(Stopped):
+    """Another builders list with the same folder: what is left is a next round."""
+
+    def goes_on_elsewhere(self, ran: Ran) -> None:
+        """That what the first round had built stays told, with its machine."""
+        world = self.world
+        self.ended(ran, 0)
+        self.says(ran, r"goes on with other machines, in round 2; round 1 ends: 1 of 3 derivations were built in it")
+        self.assertEqual([world.built().count(name) for name in ("first", "root")], [1, 1])
+        self.assertEqual(
+            world.counts(), {"total": 3, "waiting": 0, "leased": 0, "built": 3, "failed": 0, "cancelled": 0}
+        )
+        self.assertEqual(world.report()["rounds"], 2)
+        self.assertEqual(world.bundle(2), ["second", "root"])
+        self.assertIn("built 0 o", world.history(1))
+        self.assertEqual([world.lines(f"out/verdict.{number}")[0].split()[0] for number in (1, 2)], ["legal", "legal"])
+        self.is_over()
+
+    def test_the_machines_are_others(self) -> None:
+        world = self.world
+        world.kill(self.begin())
+        one = self.uri
+        world.builders.clear()
+        two = world.machine("two")
+        self.goes_on_elsewhere(self.again())
+        by_name = world.report()["by_name"]
+        self.assertEqual([by_name[name]["machine"] for name in ("first", "second", "root")], [one, two, two])
+        names = {
+            event["pid"]: event["args"]["name"]
+            for event in json.loads(world.bytes("out/trace.json")) if event["name"] == "process_name"
+        }
+        self.assertEqual(names, {1: f"machine 1: {one}", 2: f"machine 2: {two}"})
+        lanes = {event["name"]: event["pid"] for event in json.loads(world.bytes("out/trace.json")) if event["ph"] == "X"}
+        self.assertEqual([lanes[name] for name in ("first", "second", "root")], [1, 2, 2])
+
+    def test_this_machine_s_jobs_are_others(self) -> None:
+        self.world.kill(self.begin())
+        self.goes_on_elsewhere(self.again(jobs=1))
+
+    def test_one_that_is_interrupted(self) -> None:
+        world = self.world
+        begun = self.begin()
+        os.kill(begun.pid, signal.SIGINT)
+        self.ended(world.wait(begun), 130)
+        world.machine("two")
+        self.goes_on_elsewhere(self.again())
+
+    def test_a_list_with_a_machine_that_is_not_there_yet(self) -> None:
+        world = self.world
+        world.kill(self.begin())
+        later = world.machine("later", ssh=True, speed=9)
+        away = {"says": "ssh: connect to host later port 22: No route to host\nerror: cannot connect\n", "status": 1}
+        world.happens("pings", later, away)
+        ran = self.again()
+        self.goes_on_elsewhere(ran)
+        self.says(ran, "down: ssh://later")
+
+    def test_another_one_twice_and_it_is_killed_in_between(self) -> None:
+        world = self.world
+        world.kill(self.begin())
+        world.machine("two")
+        begun = self.begin()
+        world.kill(begun)
+        world.machine("three")
+        ran = self.again()
+        self.ended(ran, 0)
+        self.says(ran, "goes on with other machines, in round 3; round 2 ends: 0 of 2 derivations were built in it")
+        self.assertEqual((world.report()["rounds"], world.counts()["total"], world.counts()["built"]), (3, 3, 3))
+        self.assertEqual(world.built().count("first"), 1)
+
+    def test_rounds_for_what_was_lost_count_anew(self) -> None:
+        world = self.world
+        world.kill(self.begin())
+        two = world.machine("two", speed=9)
+        lost = {"says": "error: something else\n", "status": 1}
+        world.happens("builds", f"root on {two}", lost)
+        world.happens("builds", f"root on {self.uri}", lost, lost, {})
+        ran = self.again("--retries", "1")
+        self.ended(ran, 1)
+        self.assertEqual(world.report()["rounds"], 3)
+
+
 class Anew(Stopped):
     """What isn't gone on from."""
 
@@ -118,7 +201,7 @@ class Anew(Stopped):
     def test_other_words(self) -> None:
         self.world.kill(self.begin())
         self.anew(
-            self.again(jobs=1), r"build: the run in .* was begun with other words \(jobs\), so another one begins"
+            self.again("-k"), r"build: the run in .* was begun with other words \(keep-going\), so another one begins"
         )
 
     def test_other_machines(self) -> None:
@@ -216,7 +299,8 @@ class Folders(Stopped):
             "builds", "root", {"says": f"error: builder for '{root}' failed with exit code 3\n", "status": 100}
         )
         self.ended(world.build(root), 1)
-        self.assertEqual(len(os.listdir(world.at("out/logs"))), 1)
+        # the log, and the last lines of the builder
+        self.assertEqual(len(os.listdir(world.at("out/logs"))), 2)
         world.lose(root)
         other = world.drv("other")
         self.ended(world.build(other), 0)

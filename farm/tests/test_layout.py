@@ -9,7 +9,7 @@ from typing import Iterator, Tuple
 from tests.world import FARM
 
 MODULES = sorted(glob.glob(os.path.join(FARM, "nix_farm", "*.py")))
-COMMANDS = [os.path.join(FARM, name) for name in ("build", "gather", "watch")]
+COMMANDS = [os.path.join(FARM, name) for name in ("build", "gather", "watch", "status")]
 
 
 def parsed(file: str) -> ast.Module:

@@ -55,7 +55,7 @@ class Asked(unittest.TestCase):
 
         async def ask() -> List[List[Optional[Fault]]]:
             commands: Any = Commands(*ends)
-            connections = Connections(Machine(1, "/one", "", "", list(range(9))), commands, self.folder, 10)
+            connections = Connections(Machine(1, "/one", "", "", list(range(9))), commands, self.folder, 10, 0, 8)
             connections.shut_out = shut_out
             heard = []
             for slots in rounds:

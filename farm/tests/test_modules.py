@@ -4,14 +4,15 @@ import json
 import os
 import tempfile
 import unittest
-from typing import Dict, List, Sequence
+from typing import Dict, List, Sequence, Tuple
 
+from nix_farm.chosen import Chosen
 from nix_farm.cut import NotInGraph, cut
 from nix_farm.derivation import Derivation, name_of, read_bundle, read_line
-from nix_farm.display import Display, last_lines
+from nix_farm.display import Display, last_lines, lasted
 from nix_farm.events import Note, read_events, read_note
 from nix_farm.history import before_interruption, built_outputs, entries, has_stop, lost_something, whole_lines
-from nix_farm.park import Machine, places, read_park
+from nix_farm.park import Machine, Place, places, read_park
 from nix_farm.report import Report, RoundText
 from nix_farm.rounds import to_blame_twice
 from nix_farm.trace import trace
@@ -146,6 +147,8 @@ class Events(unittest.TestCase):
         )
         self.assertEqual(to_blame_twice(told, 3), {1: "second"})
         self.assertEqual(to_blame_twice(told, 2), {})
+        other = notes("3 - - list 3", "3 - - round 3 3", "3 1 0 lost /x machine third", "4 - - round 4 3")
+        self.assertEqual(to_blame_twice([*told[:-1], *other], 4), {})
 
 
 class Parks(unittest.TestCase):
@@ -190,6 +193,23 @@ class Reports(unittest.TestCase):
         self.assertIn("cancelled 0\ninterrupted INT\nmachine 0 up 1/1 local\n", text)
 
 
+class Journals(unittest.TestCase):
+    def test_what_a_slot_was_chosen_for(self) -> None:
+        """By the whole lines of a journal that grows."""
+        with tempfile.TemporaryDirectory() as folder:
+            file = os.path.join(folder, "journal")
+            chosen = Chosen(file, ["/a.drv", "/b.drv"])
+            self.assertEqual(chosen.of(Place(1, 0)), "-")
+            for text, wanted in (
+                ("nix-dispatch-history 2\nchosen 1 1 0\ncho", "/b.drv"), ("sen 0 1 0", "/b.drv"),
+                ("\nchosen 1 1 1\nchosen 9 1 0\n", "/a.drv"),
+            ):
+                with open(file, "a", encoding="ascii") as journal:
+                    journal.write(text)
+                self.assertEqual(chosen.of(Place(1, 0)), wanted)
+            self.assertEqual(chosen.of(Place(1, 1)), "/b.drv")
+
+
 class Timelines(unittest.TestCase):
     def test_copies_and_builds(self) -> None:
         path = drv_path("a")
@@ -201,7 +221,7 @@ class Timelines(unittest.TestCase):
         lasted = [
             (
                 one["name"], one["ts"], one["dur"], one["args"]["status"]
-            ) for one in json.loads(trace(machines, told)) if one["ph"] == "X"
+            ) for one in json.loads(trace([machines], told)) if one["ph"] == "X"
         ]
         wanted = [
             ("copy for a", 100000, 50000, "0"), ("a", 160000, 40000, "0"), ("copy of 2 paths", 300000, 10000, "1")
@@ -211,12 +231,15 @@ class Timelines(unittest.TestCase):
 
 class Displays(unittest.TestCase):
     def heard(
-        self, terminal: bool, *lines: str, out: str = "/none", uris: Dict[str, str] = {"1": "ssh://one", "0": "local"}
+        self, terminal: bool, *lines: str, out: str = "/none", uris: Dict[str, str] = {"1": "ssh://one", "0": "local"},
+        size: Tuple[int, int] = (80, 24),
     ) -> str:
         said: List[str] = []
-        display = Display(out, lambda: uris, said.append, terminal)
+        display = Display(out, lambda: uris, said.append, terminal, lambda: size)
         for note in notes(*lines):
             display.hear(note)
+        if terminal:
+            display.end()
         return "".join(said)
 
     def test_a_further_round_begins_without_the_last_one(self) -> None:
@@ -225,7 +248,37 @@ class Displays(unittest.TestCase):
             True, "1 - - round 1 2", f"1 1 0 begin {path}", f"2 1 0 end {path} 1", f"2 1 0 lost {path} machine gone",
             "3 1 0 no machine off", "4 - - round 2 1", f"4 1 0 begin {path}",
         )
-        self.assertTrue(said.endswith("\r\x1b[Kbuilt 0, leased 1, failed 0, waiting 0  1.0 a"), said)
+        last = said.split("\n")[-3:]
+        self.assertEqual(last[0], "built 0, leased 1, failed 0, waiting 0 of 1")
+        self.assertRegex(last[1], r"^ *[0-9:]+  builds a on ssh://one \(slot 1\.0\)$")
+
+    def test_a_terminal_has_room_for_so_many_lines(self) -> None:
+        """The longest first, and none is wider than the terminal."""
+        begun = [f"{9000 - number} 1 {number} begin {drv_path(f'part{number}')}" for number in range(9)]
+        said = self.heard(True, "1 - - round 1 20", *begun, "9999 1 9 copy 12", size=(50, 6))
+        last = said.split("\x1b[J")[-1].split("\n")
+        self.assertEqual(len(last), 6, said)
+        self.assertEqual(last[0], "built 0, leased 10, failed 0, waiting 10 of 20")
+        self.assertEqual([line.split()[2] for line in last[1:4]], ["part8", "part7", "part6"])
+        self.assertRegex(last[4], "and 7 more")
+        self.assertLess(max(len(line) for line in last), 50)
+
+    def test_it_is_drawn_ten_times_a_second_at_most(self) -> None:
+        begun = [f"1 1 {number} begin {drv_path('a')}" for number in range(200)]
+        said = self.heard(True, "1 - - round 1 300", *begun)
+        self.assertLess(said.count("built 0"), 20)
+
+    def test_what_is_said_stands_before_the_block(self) -> None:
+        said = self.heard(True, "1 - - round 1 3", f"1 1 0 begin {drv_path('a')}", "1 2 0 no machine off")
+        self.assertIn("\x1b[Jdown: : off\n", said)
+
+    def test_a_copy_says_what_it_is_for(self) -> None:
+        said = self.heard(True, "1 - - round 1 3", f"1 1 0 copy 12 {drv_path('a')}")
+        self.assertRegex(said, r"copies for a \(12 paths\) on ssh://one \(slot 1\.0\)")
+
+    def test_times(self) -> None:
+        wanted = {0: "0:00", 61000: "1:01", 3600000: "1:00:00", 7384000: "2:03:04", -5: "0:00"}
+        self.assertEqual({time: lasted(time) for time in wanted}, wanted)
 
     def test_a_round_that_is_gone_on_with(self) -> None:
         said = self.heard(False, "1 - - again 1 5 2 1", f"2 0 0 valid {drv_path('a')}")

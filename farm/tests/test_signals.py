@@ -86,15 +86,16 @@ class Signals(Stopped):
         """It isn't status 0 then, though all is built."""
         world = self.world
         reading, writing = os.pipe()
-        fcntl.fcntl(writing, 1031, 4096)  # F_SETPIPE_SZ: so the report, which nobody reads yet, fills it
+        fcntl.fcntl(writing, 1031, 4096)  # F_SETPIPE_SZ: so what is printed, which nobody reads yet, has no room
         os.write(writing, bytes(4096))
-        begun = world.start(world.command([world.drv("root")]), writing, subprocess.DEVNULL)
+        root = world.drv("root")
+        begun = world.start(world.command([root]), writing, subprocess.DEVNULL)
         os.close(writing)
         world.soon(lambda: os.path.exists(world.at("out/report.json")))
         time.sleep(0.2)
         begun.send_signal(signal.SIGTERM)
         time.sleep(0.2)
-        self.assertIn(b"built 1\n", read_all(reading))
+        self.assertIn(world.output(root).encode() + b"\n", read_all(reading))
         self.assertEqual(begun.wait(300), 143)
         self.assertEqual((world.report()["status"], world.report()["counts"]["built"]), (143, 1))
 

@@ -134,6 +134,14 @@ class World:
     def is_valid(self, path: str) -> bool:
         return os.path.exists(self.at("state/valid/" + os.path.basename(path)))
 
+    def damage(self, path: str, how: str) -> None:
+        """Has the files of a valid path be gone, or be others than they were registered."""
+        if how == "gone":
+            os.unlink(self.root + path)
+            return
+        with open(self.at("state/modified"), "a", encoding="ascii") as file:
+            file.write(path + "\n")
+
     def lose(self, path: str) -> None:
         os.unlink(self.at("state/valid/" + os.path.basename(path)))
         os.unlink(self.root + path)
@@ -171,11 +179,12 @@ class World:
         return {**given, **({"NIX_DISPATCH": program} if program else {}), **self.environment}
 
     def command(self, words: Sequence[Any], out: Any = "out", jobs: Optional[int] = 1) -> List[Any]:
-        """`farm/build` into a folder, with the builders list of this world."""
+        """`farm/build` into a folder, with the builders list of this world. Words that aren't said otherwise: what is cut
+        short is lost at once."""
         self.save()
         own = [] if jobs is None else ["--jobs", str(jobs)]
         place = [] if out is None else ["-o", os.path.join(os.fsencode(self.folder), os.fsencode(out))]
-        return [os.path.join(FARM, "build"), *place, "--builders", "@" + self.at("builders"), *own, *words]
+        return [os.path.join(FARM, "build"), *place, "--builders", "@" + self.at("builders"), *own, "--reconnect", "0", *words]
 
     def build(self, *words: Any, **given: Any) -> Ran:
         return self.call(self.command(words, **given))

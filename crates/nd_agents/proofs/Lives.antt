@@ -11,7 +11,8 @@ use Rattle.nd_transports.specs.declared.kinds.Call.{Call}
 use Rattle.nd_transports.specs.declared.kinds.Call.TheVariants.{Connect, Copy, Build}
 use Rattle.nd_transports.specs.declared.kinds.Phase.{Phase}
 use Rattle.nd_transports.specs.declared.kinds.Phase.TheVariants.{Idle, Prepared, Connected as HasConnected, Copied as HasCopied}
-use Rattle.nd_transports.specs.Calls.{State}
+use Rattle.nd_transports.specs.Calls.{State, calls_of, deed_of}
+use Rattle.nd_transports.proofs.Calling.{called}
 use Rattle.nd_agents.specs.CallTexts.{line_with, connect_line, copy_line, build_line}
 use Rattle.nd_agents.specs.AnswerTexts.{word, IsAnswerFor}
 use Rattle.nd_agents.specs.Wires.{Wired, wired, Exchanges, BreaksOff, IsCutShort, IsAsked, IsBuildAsked}
@@ -161,15 +162,15 @@ module _ {R W : Type 0} (n : Naming) (remaining : R → Option (List ℕ)) (cont
 
   module _ (answers : R) (calls : W) where
     -- the agent after one more call, of which the calls and the wire are known
-    lives_more : (a b : Agency R W) (c : Call) → Lives n remaining contents answers calls a → Speaks a.wire b.wire c → b.state.calls ≡ a.state.calls ++ c ∷ []
+    lives_more : (a b : Agency R W) (c : Call) → Lives n remaining contents answers calls a → Speaks a.wire b.wire c → calls_of b.state.deeds ≡ calls_of a.state.deeds ++ c ∷ []
         → ((b.state.phase ≡ Idle → ⊥) → IsNamed n b) → Lives n remaining contents answers calls b
     lives_more a b c lives speaks more named = record {
       spoken = subst (λ (cs : List Call). IsSpoken n remaining contents (wired answers calls) b.wire cs) (sym more)
-          (spoken_more (wired answers calls) a.wire b.wire a.state.calls c lives.spoken speaks);
+          (spoken_more (wired answers calls) a.wire b.wire (calls_of a.state.deeds) c lives.spoken speaks);
       named = named;
     }
 
-    named_after : (a b : Agency R W) → IsNamed n a → b.state.drv ≡ a.state.drv → b.build_call ≡ a.build_call → b.outputs ≡ a.outputs → IsNamed n b
+    named_after : (a b : Agency R W) → IsNamed n a → b.state.job.ticket.drv ≡ a.state.job.ticket.drv → b.build_call ≡ a.build_call → b.outputs ≡ a.outputs → IsNamed n b
     named_after a b named drv call outputs = record {
       call = call ∙ named.call ∙ ap (λ (d : ℕ). build_line (n.path d) (n.outputs d)) (sym drv);
       outputs = outputs ∙ named.outputs ∙ ap (λ (d : ℕ). length (n.outputs d)) (sym drv);
@@ -188,38 +189,41 @@ new_lives remaining contents n answers calls = record {
 }
 
 pub prepare_lives : {R W : Type 0} (remaining : R → Option (List ℕ)) (contents : W → Option (List ℕ)) → PrepareLives remaining contents
-prepare_lives remaining contents n answers calls a drv paths lives = record { spoken = lives.spoken; named = λ _. record { call = refl; outputs = refl } }
+prepare_lives remaining contents n answers calls a job lives called = record {
+  spoken = lives.spoken;
+  named = λ _. record { call = (λ i. build_line (called.path i) (called.outputs i)); outputs = ap length called.outputs };
+}
 
 pub refused_lives : {R W : Type 0} (remaining : R → Option (List ℕ)) (contents : W → Option (List ℕ)) → RefusedLives remaining contents
 refused_lives {R} {W} remaining contents n answers calls a b lives idle wire =
-    let Spoken : Wired R W → Type 0 = λ w. IsSpoken n remaining contents (wired answers calls) w b.state.calls in
+    let Spoken : Wired R W → Type 0 = λ w. IsSpoken n remaining contents (wired answers calls) w (calls_of b.state.deeds) in
     record {
-      spoken = subst Spoken (sym wire) (subst (λ (cs : List Call). IsSpoken n remaining contents (wired answers calls) a.wire cs) (sym idle.calls) lives.spoken);
+      spoken = subst Spoken (sym wire) (subst (λ (cs : List Call). IsSpoken n remaining contents (wired answers calls) a.wire cs) (sym (ap calls_of idle.deeds)) lives.spoken);
       named = λ busy. absurd (busy idle.phase);
     }
 
 pub connect_lives : {R W : Type 0} (remaining : R → Option (List ℕ)) (contents : W → Option (List ℕ)) → ConnectLives remaining contents
-connect_lives remaining contents n answers calls a b answered lives phase after asked call outputs =
+connect_lives remaining contents n answers calls a b by answered lives phase after asked call outputs =
     let named = lives.named (busy a.state.phase Prepared phase (λ e. cc)) in
     lives_more n remaining contents answers calls a b (Connect answered) lives
     (asked_speaks n remaining contents a.wire b.wire (Connect answered) connect_line answered refl refl (λ no. no) asked)
-    (ap (λ (s : State). s.calls) after)
-    (λ _. named_after n remaining contents answers calls a b named (ap (λ (s : State). s.drv) after) call outputs)
+    (called a.state.deeds b.state.deeds (deed_of a.state by (Connect answered)) (ap (λ (s : State). s.deeds) after))
+    (λ _. named_after n remaining contents answers calls a b named (ap (λ (s : State). s.job.ticket.drv) after) call outputs)
 
 pub copy_lives : {R W : Type 0} (remaining : R → Option (List ℕ)) (contents : W → Option (List ℕ)) → CopyLives remaining contents
-copy_lives remaining contents n answers calls a b done lives phase after asked call outputs =
+copy_lives remaining contents n answers calls a b by done lives phase after asked call outputs =
     let named = lives.named (busy a.state.phase HasConnected phase (λ e. cc)) in
     lives_more n remaining contents answers calls a b (Copy a.state.paths done) lives
     (asked_speaks n remaining contents a.wire b.wire (Copy a.state.paths done) (copy_line a.state.paths) done refl refl (λ no. no) asked)
-    (ap (λ (s : State). s.calls) after)
-    (λ _. named_after n remaining contents answers calls a b named (ap (λ (s : State). s.drv) after) call outputs)
+    (called a.state.deeds b.state.deeds (deed_of a.state by (Copy a.state.paths done)) (ap (λ (s : State). s.deeds) after))
+    (λ _. named_after n remaining contents answers calls a b named (ap (λ (s : State). s.job.ticket.drv) after) call outputs)
 
 pub build_lives : {R W : Type 0} (remaining : R → Option (List ℕ)) (contents : W → Option (List ℕ)) → BuildLives remaining contents
-build_lives remaining contents n answers calls a b ended lives phase builds =
+build_lives remaining contents n answers calls a b by ended lives phase builds =
     let named = lives.named (busy a.state.phase HasCopied phase (λ e. cc)) in
-    lives_more n remaining contents answers calls a b (Build a.state.drv builds.answer) lives
-    (build_speaks n remaining contents a.wire b.wire a.state.drv a.outputs a.build_call builds.answer named.call named.outputs builds.asked)
-    (ap (λ (s : State). s.calls) builds.after)
+    lives_more n remaining contents answers calls a b (Build a.state.job.ticket.drv builds.answer) lives
+    (build_speaks n remaining contents a.wire b.wire a.state.job.ticket.drv a.outputs a.build_call builds.answer named.call named.outputs builds.asked)
+    (called a.state.deeds b.state.deeds (deed_of a.state by (Build a.state.job.ticket.drv builds.answer)) (ap (λ (s : State). s.deeds) builds.after))
     (λ busy. absurd (busy (ap (λ (s : State). s.phase) builds.after)))
 
 -- ---- what was written, as one text
@@ -244,5 +248,5 @@ life_is_written remaining contents n answers calls a lives = elim (there_or_gone
       }
   | inr there ↦
       let are = lives.spoken.here there in
-      record { part = call_text n a.state.calls; rest = []; whole = sym (append-nil (call_text n a.state.calls)); written = are.written }
+      record { part = call_text n (calls_of a.state.deeds); rest = []; whole = sym (append-nil (call_text n (calls_of a.state.deeds))); written = are.written }
 ]

@@ -3,6 +3,7 @@ use Rattle.std.proofs.Common.{◌≡◌, ◌≢◌, ℕ, suc, ◌≤◌, ◌<◌
 use Rattle.std.specs.Io.KnownBytes.{Consumes}
 use Rattle.std.specs.List.{All, AllZip}
 use Rattle.std.proofs.lemmas.List.Elements.{All-nil, All-cons, All-head, All-tail}
+use Rattle.nd_transports.specs.Calls.{calls_of}
 use Rattle.nd_transports.specs.declared.kinds.Answer.{Answer}
 use Rattle.nd_transports.specs.declared.kinds.Call.{Call}
 use Rattle.nd_transports.specs.declared.kinds.Call.TheVariants.{Connect, Copy, Build}
@@ -227,6 +228,6 @@ pub lines_answer_in_turn : {R W : Type 0} (remaining : R → Option (List ℕ)) 
 lines_answer_in_turn remaining contents n answers calls a lines more lives here number plain is =
     let are = lives.spoken.here here in
     let took = left_known (remaining answers) (remaining a.wire.answers.device) (answer_text are.lines) (answer_text lines ++ more) is are.read in
-    let same = same_lines lines are.lines more took.0 (number ∙ zip_length (IsAnswered n) a.state.calls are.lines are.each) plain
-    (answers_plain n a.state.calls are.lines are.each) took.2 in
-    (subst (λ (ls : List (List ℕ)). AllZip (IsAnswered n) a.state.calls ls) (sym same.0) are.each, took.1 ∙ ap Some (sym same.1))
+    let same = same_lines lines are.lines more took.0 (number ∙ zip_length (IsAnswered n) (calls_of a.state.deeds) are.lines are.each) plain
+    (answers_plain n (calls_of a.state.deeds) are.lines are.each) took.2 in
+    (subst (λ (ls : List (List ℕ)). AllZip (IsAnswered n) (calls_of a.state.deeds) ls) (sym same.0) are.each, took.1 ∙ ap Some (sym same.1))

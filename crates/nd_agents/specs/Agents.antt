@@ -1,5 +1,7 @@
 -- What an agent is seen as, and what its calls do to it. The clauses of `Agent` cite these definitions. This project's own choice.
 use Rattle.std.specs.Prelude.{◌≡◌, ℕ, Bool, true, false, List, [], length, Option}
+use Rattle.nd_keeping.specs.Listing.{Listed}
+use Rattle.nd_ledger.specs.declared.job.Job.{Job}
 use Rattle.nd_transports.specs.declared.kinds.Answer.{Answer}
 use Rattle.nd_transports.specs.declared.kinds.Ended.{Ended}
 use Rattle.nd_transports.specs.declared.kinds.Phase.{Phase}
@@ -23,16 +25,16 @@ pub record Agency (R W : Type 0) : Type 0 where
 abbrev pub fresh : {R W : Type 0} → R → W → Agency R W
 fresh answers calls = record { state = unused; build_call = []; outputs = 0; wire = wired answers calls }
 
--- a job of the derivation with this path was prepared, whose outputs have these paths, and nothing was written or read
-abbrev pub readied : {R W : Type 0} → Agency R W → ℕ → List ℕ → List (List ℕ) → List (List ℕ) → Agency R W
-readied a drv path outputs paths = record { state = prepared a.state drv paths; build_call = build_line path outputs; outputs = length outputs; wire = a.wire }
+-- a job was prepared, and nothing was written or read
+abbrev pub readied : {R W : Type 0} → Agency R W → Job → Agency R W
+readied a job = record { state = prepared a.state job; build_call = build_line job.path job.output_paths; outputs = length job.output_paths; wire = a.wire }
 
 -- a build with that answer
-pub record AgentBuilds {R W : Type 0} (remaining : R → Option (List ℕ)) (contents : W → Option (List ℕ)) (a : Agency R W) (ended : Ended) (b : Agency R W) : Type 0 where
+pub record AgentBuilds {R W : Type 0} (remaining : R → Option (List ℕ)) (contents : W → Option (List ℕ)) (a : Agency R W) (by : Listed) (ended : Ended) (b : Agency R W) : Type 0 where
   pub answer : Answer
   pub told : ended ≡ ended_of answer
   pub asked : IsBuildAsked remaining contents a.outputs a.wire b.wire a.build_call answer
-  pub after : b.state ≡ built a.state answer
+  pub after : b.state ≡ built a.state by answer
 
 -- ---- how an agent is stored: its view and its invariant, for proofs alone
 

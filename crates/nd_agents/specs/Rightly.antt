@@ -3,6 +3,7 @@
 -- Laws cite this.
 use Rattle.std.specs.Prelude.{◌≡◌, ◌≤◌, ◌⊎◌, ℕ, Bool, true, false, List, [], ◌++◌, length, Option, Some}
 use Rattle.std.specs.List.{All, AllZip}
+use Rattle.nd_transports.specs.Calls.{calls_of}
 use Rattle.nd_transports.specs.declared.kinds.Answer.{Answer}
 use Rattle.nd_transports.specs.declared.kinds.Answer.TheVariants.{Lost, Memory}
 use Rattle.nd_agents.specs.CallTexts.{line_with}
@@ -84,5 +85,5 @@ EndIsLost {R} {W} remaining contents = (old new : Wired R W) (outputs : ℕ) (ca
 -- at its place, and what stood behind them is left
 abbrev pub LinesAnswerInTurn : {R W : Type 0} → (R → Option (List ℕ)) → (W → Option (List ℕ)) → Type 0
 LinesAnswerInTurn {R} {W} remaining contents = (n : Naming) (answers : R) (calls : W) (a : Agency R W) (lines : List (List ℕ)) (more : List ℕ)
-    → Lives n remaining contents answers calls a → a.wire.is_gone ≡ false → length lines ≡ length a.state.calls → All IsPlain lines
-    → remaining answers ≡ Some (answer_text lines ++ more) → AllZip (IsAnswered n) a.state.calls lines × (remaining a.wire.answers.device ≡ Some more)
+    → Lives n remaining contents answers calls a → a.wire.is_gone ≡ false → length lines ≡ length (calls_of a.state.deeds) → All IsPlain lines
+    → remaining answers ≡ Some (answer_text lines ++ more) → AllZip (IsAnswered n) (calls_of a.state.deeds) lines × (remaining a.wire.answers.device ≡ Some more)

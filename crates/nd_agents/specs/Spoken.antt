@@ -4,13 +4,15 @@ use Rattle.std.specs.Prelude.{◌≡◌, ◌⊎◌, ℕ, Bool, true, false, List
 use Rattle.std.specs.Io.KnownBytes.{Appends, Consumes}
 use Rattle.std.specs.List.{All, AllZip, flat_map}
 use Rattle.nd_devices.specs.Written.{WritesPart}
+use Rattle.nd_keeping.specs.Listing.{Listed}
+use Rattle.nd_ledger.specs.declared.job.Job.{Job}
 use Rattle.nd_transports.specs.declared.kinds.Answer.{Answer}
 use Rattle.nd_transports.specs.declared.kinds.Answer.TheVariants.{Lost, Memory}
 use Rattle.nd_transports.specs.declared.kinds.Call.{Call}
 use Rattle.nd_transports.specs.declared.kinds.Call.TheVariants.{Connect, Copy, Build}
 use Rattle.nd_transports.specs.declared.kinds.Ended.{Ended}
 use Rattle.nd_transports.specs.declared.kinds.Phase.TheVariants.{Idle, Prepared, Connected as HasConnected, Copied as HasCopied}
-use Rattle.nd_transports.specs.Calls.{IsIdleAgain, connected, copied}
+use Rattle.nd_transports.specs.Calls.{calls_of, IsIdleAgain, connected, copied}
 use Rattle.nd_agents.specs.CallTexts.{line_with, connect_line, copy_line, build_line}
 use Rattle.nd_agents.specs.AnswerTexts.{word, IsAnswerFor, IsListing}
 use Rattle.nd_agents.specs.Heard.{IsPlain}
@@ -93,14 +95,19 @@ pub record IsSpoken {R W : Type 0} (n : Naming) (remaining : R → Option (List 
   pub here : now.is_gone ≡ false → AreExchanged n remaining contents start now calls
   pub gone : now.is_gone ≡ true → AreBrokenOff n remaining contents start now calls
 
+-- a job has the path and the outputs that its derivation is called by
+pub record IsCalled (n : Naming) (job : Job) : Type 0 where
+  pub path : job.path ≡ n.path job.ticket.drv
+  pub outputs : job.output_paths ≡ n.outputs job.ticket.drv
+
 -- the line of a build is that of the derivation of the prepared job, and the number that of its outputs
 pub record IsNamed {R W : Type 0} (n : Naming) (a : Agency R W) : Type 0 where
-  pub call : a.build_call ≡ build_line (n.path a.state.drv) (n.outputs a.state.drv)
-  pub outputs : a.outputs ≡ length (n.outputs a.state.drv)
+  pub call : a.build_call ≡ build_line (n.path a.state.job.ticket.drv) (n.outputs a.state.job.ticket.drv)
+  pub outputs : a.outputs ≡ length (n.outputs a.state.job.ticket.drv)
 
 -- an agent that was made of two devices, where each prepared job was of a derivation that is called so
 pub record Lives {R W : Type 0} (n : Naming) (remaining : R → Option (List ℕ)) (contents : W → Option (List ℕ)) (answers : R) (calls : W) (a : Agency R W) : Type 0 where
-  pub spoken : IsSpoken n remaining contents (wired answers calls) a.wire a.state.calls
+  pub spoken : IsSpoken n remaining contents (wired answers calls) a.wire (calls_of a.state.deeds)
   pub named : (a.state.phase ≡ Idle → ⊥) → IsNamed n a
 
 -- ---- the laws
@@ -111,8 +118,8 @@ NewLives {R} {W} remaining contents = (n : Naming) (answers : R) (calls : W) →
 
 -- .. and it goes on so where a job is prepared
 abbrev pub PrepareLives : {R W : Type 0} → (R → Option (List ℕ)) → (W → Option (List ℕ)) → Type 0
-PrepareLives {R} {W} remaining contents = (n : Naming) (answers : R) (calls : W) (a : Agency R W) (drv : ℕ) (paths : List (List ℕ)) → Lives n remaining contents answers calls a
-    → Lives n remaining contents answers calls (readied a drv (n.path drv) (n.outputs drv) paths)
+PrepareLives {R} {W} remaining contents = (n : Naming) (answers : R) (calls : W) (a : Agency R W) (job : Job) → Lives n remaining contents answers calls a → IsCalled n job
+    → Lives n remaining contents answers calls (readied a job)
 
 -- .. where none could be
 abbrev pub RefusedLives : {R W : Type 0} → (R → Option (List ℕ)) → (W → Option (List ℕ)) → Type 0
@@ -121,22 +128,22 @@ RefusedLives {R} {W} remaining contents = (n : Naming) (answers : R) (calls : W)
 
 -- .. with a connect
 abbrev pub ConnectLives : {R W : Type 0} → (R → Option (List ℕ)) → (W → Option (List ℕ)) → Type 0
-ConnectLives {R} {W} remaining contents = (n : Naming) (answers : R) (calls : W) (a b : Agency R W) (answered : Bool) → Lives n remaining contents answers calls a
-    → a.state.phase ≡ Prepared → b.state ≡ connected a.state answered → IsAsked remaining contents a.wire b.wire connect_line answered
+ConnectLives {R} {W} remaining contents = (n : Naming) (answers : R) (calls : W) (a b : Agency R W) (by : Listed) (answered : Bool) → Lives n remaining contents answers calls a
+    → a.state.phase ≡ Prepared → b.state ≡ connected a.state by answered → IsAsked remaining contents a.wire b.wire connect_line answered
     → b.build_call ≡ a.build_call → b.outputs ≡ a.outputs → Lives n remaining contents answers calls b
 
 -- .. with a copy
 abbrev pub CopyLives : {R W : Type 0} → (R → Option (List ℕ)) → (W → Option (List ℕ)) → Type 0
-CopyLives {R} {W} remaining contents = (n : Naming) (answers : R) (calls : W) (a b : Agency R W) (done : Bool) → Lives n remaining contents answers calls a
-    → a.state.phase ≡ HasConnected → b.state ≡ copied a.state done → IsAsked remaining contents a.wire b.wire (copy_line a.state.paths) done
+CopyLives {R} {W} remaining contents = (n : Naming) (answers : R) (calls : W) (a b : Agency R W) (by : Listed) (done : Bool) → Lives n remaining contents answers calls a
+    → a.state.phase ≡ HasConnected → b.state ≡ copied a.state by done → IsAsked remaining contents a.wire b.wire (copy_line a.state.paths) done
     → b.build_call ≡ a.build_call → b.outputs ≡ a.outputs → Lives n remaining contents answers calls b
 
 -- .. and with a build
 abbrev pub BuildLives : {R W : Type 0} → (R → Option (List ℕ)) → (W → Option (List ℕ)) → Type 0
-BuildLives {R} {W} remaining contents = (n : Naming) (answers : R) (calls : W) (a b : Agency R W) (ended : Ended) → Lives n remaining contents answers calls a
-    → a.state.phase ≡ HasCopied → AgentBuilds remaining contents a ended b → Lives n remaining contents answers calls b
+BuildLives {R} {W} remaining contents = (n : Naming) (answers : R) (calls : W) (a b : Agency R W) (by : Listed) (ended : Ended) → Lives n remaining contents answers calls a
+    → a.state.phase ≡ HasCopied → AgentBuilds remaining contents a by ended b → Lives n remaining contents answers calls b
 
 -- what was written over an agent's life is the text of its calls, from the beginning
 abbrev pub LifeIsWritten : {R W : Type 0} → (R → Option (List ℕ)) → (W → Option (List ℕ)) → Type 0
 LifeIsWritten {R} {W} remaining contents = (n : Naming) (answers : R) (calls : W) (a : Agency R W) → Lives n remaining contents answers calls a
-    → WritesPart (contents calls) (contents a.wire.calls.device) (call_text n a.state.calls)
+    → WritesPart (contents calls) (contents a.wire.calls.device) (call_text n (calls_of a.state.deeds))

@@ -1,7 +1,7 @@
 //! An agent as a transport.
 
 ghost use Rattle.std.specs.Prelude.{◌≡◌, ℕ, List, IfOk, OnOk, OnErr};
-ghost use Rattle.nd_transports.specs.Calls.{prepared, IsIdleAgain, connected, copied, Reports};
+ghost use Rattle.nd_transports.specs.Calls.{prepared, calls_of, IsIdleAgain, connected, copied, Reports};
 ghost use Rattle.nd_agents.specs.CallTexts.{connect_line, copy_line};
 ghost use Rattle.nd_agents.specs.Wires.{IsAsked};
 ghost use Rattle.nd_agents.specs.Agents.{fresh, readied, AgentBuilds};
@@ -9,6 +9,7 @@ ghost use Rattle.nd_agents.specs.Agents.{fresh, readied, AgentBuilds};
 use crate::call_text::{CONNECT_LINE, build_line, copy_line};
 use crate::wire::Wire;
 use nd_closure::Refs;
+use nd_keeping::Kept;
 use nd_ledger::Job;
 use nd_transports::{Call, CallLog, Ended, Phase, Transport};
 use std::alloc::{AllocError, Global};
@@ -77,7 +78,7 @@ impl<R, W> Agent<R, W> {
 
     /// The calls so far, oldest first, with their answers.
     pub fn calls(&self) -> &[Call]
-        ensures { result.now ≡ self.now.state.calls }
+        ensures { result.now ≡ calls_of self.now.state.deeds }
     {
         self.log.calls()
     }
@@ -94,7 +95,7 @@ impl<R: Read + Send + Drop, W: Write + Send + Drop> Transport for Agent<R, W> {
     ghost state = { λ a. a.state };
 
     fn prepare(&mut self, job: &Job) -> Result<(), AllocError>
-        ensures ok { OnOk result (self.new ≡ readied self.old job.now.ticket.drv job.now.path job.now.output_paths job.now.paths) }
+        ensures ok { OnOk result (self.new ≡ readied self.old job.now) }
         ensures err { OnErr result (IsIdleAgain self.old.state self.new.state) }
         ensures kept { OnErr result (self.new.wire ≡ self.old.wire) }
     {
@@ -109,39 +110,39 @@ impl<R: Read + Send + Drop, W: Write + Send + Drop> Transport for Agent<R, W> {
         Ok(())
     }
 
-    fn connect(&mut self) -> bool
+    fn connect(&mut self, by: &Kept) -> bool
         requires { self.old.state.phase ≡ Phase.Prepared }
-        ensures after { self.new.state ≡ connected self.old.state result }
+        ensures after { self.new.state ≡ connected self.old.state by.now result }
         ensures asked { IsAsked R.remaining W.contents self.old.wire self.new.wire connect_line result }
         ensures kept { self.new.build_call ≡ self.old.build_call }
         ensures outputs { self.new.outputs ≡ self.old.outputs }
     {
         let answered = self.wire.ask(CONNECT_LINE);
-        self.log.connected(answered);
+        self.log.connected(answered, by);
         answered
     }
 
-    fn copy(&mut self) -> bool
+    fn copy(&mut self, by: &Kept) -> bool
         requires { self.old.state.phase ≡ Phase.Connected }
-        ensures after { self.new.state ≡ copied self.old.state result }
+        ensures after { self.new.state ≡ copied self.old.state by.now result }
         ensures asked { IsAsked R.remaining W.contents self.old.wire self.new.wire (copy_line self.old.state.paths) result }
         ensures kept { self.new.build_call ≡ self.old.build_call }
         ensures outputs { self.new.outputs ≡ self.old.outputs }
     {
         let done = self.wire.ask(self.copy_call.as_slice());
-        self.log.copied(self.alloc, done);
+        self.log.copied(self.alloc, done, by);
         done
     }
 
-    fn build(&mut self) -> Ended
+    fn build(&mut self, by: &Kept) -> Ended
         requires { self.old.state.phase ≡ Phase.Copied }
-        ensures { AgentBuilds R.remaining W.contents self.old result self.new }
+        ensures { AgentBuilds R.remaining W.contents self.old by.now result self.new }
     {
         let answer = self
             .wire
             .ask_build(self.alloc, self.build_call.as_slice(), self.outputs);
         let ended = answer.ended();
-        self.log.built(answer);
+        self.log.built(answer, by);
         ended
     }
 

@@ -1,5 +1,4 @@
 pub mod ListLemmas
-pub mod OrderLemmas
 pub mod PrefixLemmas
 pub mod RefusalLemmas
 pub mod SectionLemmas

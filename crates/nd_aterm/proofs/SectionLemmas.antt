@@ -1,12 +1,11 @@
 -- Lemmas on the two sections of a derivation text.
 use Rattle.std.proofs.Common.{◌≡◌, ℕ, List, ◌++◌, refl, sym, ap, ◌∙◌, codes}
 use Rattle.nd_aterm.specs.declared.records.Parts.{Parts}
-use Rattle.nd_aterm.specs.declared.texts.Paths.{Paths}
-use Rattle.nd_aterm.specs.declared.texts.Command.{Command}
+use Rattle.nd_aterm.specs.declared.selecting.Paths.{Paths}
 use Rattle.nd_aterm.specs.SpellingOnce.{IsOnce, tail_is}
 use Rattle.nd_aterm.specs.Derivations.{derivation}
 use Rattle.nd_aterm.specs.DerivationsOnce.{strings_once, outputs_once, input_drvs_once}
-use Rattle.nd_aterm.specs.Sections.{paths, command, joined}
+use Rattle.nd_aterm.specs.Sections.{Command, paths, command, joined}
 
 -- a derivation text is the word and its two sections
 pub of_sections : (p : Paths) (c : Command) (rest : List ℕ) → derivation (joined p c) rest ≡ codes "Derive(" ++ paths p (command c rest)

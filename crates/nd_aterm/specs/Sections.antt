@@ -1,11 +1,18 @@
 -- The two sections of a derivation text behind its first word, each as a reader takes it.
 -- No public clause cites this: it serves private clauses alone.
 use Rattle.std.specs.Prelude.{ℕ, List, ◌∷◌}
+use Rattle.nd_aterm.specs.declared.records.EnvEntry.{EnvEntry}
 use Rattle.nd_aterm.specs.declared.records.Parts.{Parts}
-use Rattle.nd_aterm.specs.declared.texts.Paths.{Paths}
-use Rattle.nd_aterm.specs.declared.texts.Command.{Command}
+use Rattle.nd_aterm.specs.declared.selecting.Paths.{Paths}
 use Rattle.nd_aterm.specs.Spelling.{comma, right_parenthesis, string, list}
 use Rattle.nd_aterm.specs.Derivations.{output, input_drv, env_entry}
+
+-- how a derivation is built
+pub record Command : Type 0 where
+  pub platform : List ℕ
+  pub builder : List ℕ
+  pub args : List (List ℕ)
+  pub env : List EnvEntry
 
 -- `[outputs],[inputDrvs],[inputSrcs],`
 unfoldable pub paths : Paths → List ℕ → List ℕ

@@ -15,6 +15,10 @@ variables selects env = filter (λ (v : EnvEntry). selects v.key) env
 abbrev pub selected : (List ℕ → Bool) → Parts → SelectedParts
 selected selects p = record { outputs = p.outputs; input_drvs = p.input_drvs; input_srcs = p.input_srcs; platform = p.platform; builder = p.builder; env = variables selects p.env }
 
+-- the parts of which this is selected, where all variables are, and these arguments
+abbrev pub with_args : SelectedParts → List (List ℕ) → Parts
+with_args p args = record { outputs = p.outputs; input_drvs = p.input_drvs; input_srcs = p.input_srcs; platform = p.platform; builder = p.builder; args = args; env = p.env }
+
 -- the bytes are a derivation's text, and this is what is selected of the derivation
 pub record IsSelected (selects : List ℕ → Bool) (bytes : List ℕ) (found : SelectedParts) : Type 0 where
   pub parts : Parts

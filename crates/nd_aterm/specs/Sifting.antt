@@ -5,19 +5,29 @@ use Rattle.std.specs.List.{list_all}
 use Rattle.nd_aterm.specs.declared.records.EnvEntry.{EnvEntry}
 use Rattle.nd_aterm.specs.declared.records.Parts.{Parts}
 use Rattle.nd_aterm.specs.declared.records.SelectedParts.{SelectedParts}
-use Rattle.nd_aterm.specs.declared.selecting.SelectedCommand.{SelectedCommand}
-use Rattle.nd_aterm.specs.declared.texts.Command.{Command}
-use Rattle.nd_aterm.specs.declared.texts.Paths.{Paths}
+use Rattle.nd_aterm.specs.declared.selecting.KeptCommand.{KeptCommand}
+use Rattle.nd_aterm.specs.declared.selecting.KeptParts.{KeptParts}
+use Rattle.nd_aterm.specs.declared.selecting.Paths.{Paths}
 use Rattle.nd_aterm.specs.declared.sifting.Sifted.{Sifted}
 use Rattle.nd_aterm.specs.Spelling.{comma, right_bracket, right_parenthesis, string, listed, list}
-use Rattle.nd_aterm.specs.Derivations.{env_entry, derivation, rises, is_below}
+use Rattle.nd_aterm.specs.Derivations.{env_entry, derivation, rises, is_below, Text}
 use Rattle.nd_aterm.specs.Selected.{variables, selected}
-use Rattle.nd_aterm.specs.Sections.{command}
+use Rattle.nd_aterm.specs.Sections.{Command, command}
 
 -- the bytes begin with the text of something, and the rest stands behind it
 pub record Begins {X : Type 0} (text : X → List ℕ → List ℕ) (bytes rest : List ℕ) : Type 0 where
   pub whole : X
   pub spelled : bytes ≡ text whole rest
+
+-- these are the things of a list that is kept or not
+abbrev pub things_kept : {X : Type 0} → Bool → List X → List X
+things_kept keeps xs = if keeps then xs else []
+
+-- the bytes begin with a list of strings, which is kept or not
+pub record AreStrings (keeps : Bool) (bytes : List ℕ) (kept : List (List ℕ)) (rest : List ℕ) : Type 0 where
+  pub whole : List (List ℕ)
+  pub spelled : bytes ≡ list string whole rest
+  pub kept_is : kept ≡ things_kept keeps whole
 
 -- no list with an item goes from here on to its closing bracket
 abbrev pub NoneListed : {X : Type 0} → (X → List ℕ → List ℕ) → List ℕ → Type 0
@@ -93,10 +103,11 @@ unfoldable pub settings : List (List ℕ) → List EnvEntry → List ℕ → Lis
 settings args env rest = list string args (comma ∷ list env_entry env (right_parenthesis ∷ rest))
 
 -- the bytes begin with the arguments and an environment, of which this is kept
-pub record HasSettings (selects : List ℕ → Bool) (bytes rest : List ℕ) (sifted : Sifted) : Type 0 where
+pub record HasSettings (selects : List ℕ → Bool) (keeps_args : Bool) (bytes rest : List ℕ) (kept : List (List ℕ)) (sifted : Sifted) : Type 0 where
   pub args : List (List ℕ)
   pub env : List EnvEntry
   pub spelled : bytes ≡ settings args env rest
+  pub kept_is : kept ≡ things_kept keeps_args args
   pub is : IsSifted selects env sifted
 
 -- no arguments and environment stand here
@@ -104,19 +115,31 @@ abbrev pub NoSettings : List ℕ → Type 0
 NoSettings bytes = (args : List (List ℕ)) (env : List EnvEntry) (rest : List ℕ) → bytes ≡ settings args env rest → ⊥
 
 -- the bytes begin with how a derivation is built, of which this is kept
-pub record HasCommand (selects : List ℕ → Bool) (bytes rest : List ℕ) (found : SelectedCommand) : Type 0 where
+pub record HasCommand (selects : List ℕ → Bool) (keeps_args : Bool) (bytes rest : List ℕ) (found : KeptCommand) : Type 0 where
   pub whole : Command
   pub spelled : bytes ≡ command whole rest
   pub platform : found.platform ≡ whole.platform
   pub builder : found.builder ≡ whole.builder
+  pub args : found.args ≡ things_kept keeps_args whole.args
   pub env : IsSifted selects whole.env found.env
 
--- the bytes begin with a derivation's text, this is what is selected of it, and whether its environment rises
-pub record HasSelected (selects : List ℕ → Bool) (bytes rest : List ℕ) (found : SelectedParts) (rising : Bool) : Type 0 where
+-- this is kept of these parts
+pub record IsKept (selects : List ℕ → Bool) (keeps_args : Bool) (parts : Parts) (found : KeptParts) : Type 0 where
+  pub view : found.view ≡ selected selects parts
+  pub args : found.args ≡ things_kept keeps_args parts.args
+  pub rising : found.rising ≡ rises (λ v. v.key) parts.env
+
+-- the bytes begin with a derivation's text, and this is kept of the derivation
+pub record HasParts (selects : List ℕ → Bool) (keeps_args : Bool) (bytes rest : List ℕ) (found : KeptParts) : Type 0 where
   pub parts : Parts
   pub spelled : bytes ≡ derivation parts rest
-  pub found_is : found ≡ selected selects parts
-  pub rising_is : rising ≡ rises (λ v. v.key) parts.env
+  pub is : IsKept selects keeps_args parts found
+
+-- the bytes are a derivation's text, and this is kept of the derivation
+pub record IsText (selects : List ℕ → Bool) (keeps_args : Bool) (bytes : List ℕ) (found : KeptParts) : Type 0 where
+  pub parts : Parts
+  pub text : Text parts bytes
+  pub is : IsKept selects keeps_args parts found
 
 -- the lists of what is selected rise, and so does the environment
 abbrev pub is_in_order : SelectedParts → Bool → Bool
@@ -127,7 +150,8 @@ is_in_order p rising =
     && rises (λ src. src) p.input_srcs
     && rising
 
--- the sections with their lists, and whether the environment rises
-pub record IsJoined (paths : Paths) (command : SelectedCommand) (found : SelectedParts) (rising : Bool) : Type 0 where
-  pub found_is : found ≡ (record { outputs = paths.outputs; input_drvs = paths.input_drvs; input_srcs = paths.input_srcs; platform = command.platform; builder = command.builder; env = command.env.kept.items })
-  pub rising_is : rising ≡ command.env.rising
+-- what is kept of two sections
+pub record IsJoined (paths : Paths) (command : KeptCommand) (found : KeptParts) : Type 0 where
+  pub view : found.view ≡ (record { outputs = paths.outputs; input_drvs = paths.input_drvs; input_srcs = paths.input_srcs; platform = command.platform; builder = command.builder; env = command.env.kept.items })
+  pub args : found.args ≡ command.args
+  pub rising : found.rising ≡ command.env.rising

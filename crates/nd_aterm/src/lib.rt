@@ -1,9 +1,9 @@
 //! The texts of store derivations.
 //!
 //! A derivation text is the ATerm form in which Nix stores a derivation (Nix Reference Manual,
-//! Derivation "ATerm" file format). [`parse`] reads exactly these texts, [`parse_view`] too,
-//! without copying them, [`parse_selected`] with less of them, [`write`] gives the one text of a derivation, and
-//! [`laws`] says that no text begins another.
+//! Derivation "ATerm" file format). [`parse`] reads exactly these texts, [`parse_selected`] with less of
+//! them and without copying them, [`write`] gives the one text of a derivation, and [`laws`] says that no text
+//! begins another.
 #![tactic(auto)]
 
 mod derivations;
@@ -30,5 +30,5 @@ pub use names::Names;
 pub use records::{EnvEntry, InputDrv, Output, Parts, SelectedParts};
 pub use selecting::parse_selected;
 pub use sifting::Selection;
-pub use texts::{parse, parse_view, write};
-pub use views::{EnvEntryView, InputDrvView, NeededDrvView, OutputView, PartsView, SelectedView};
+pub use texts::{parse, write};
+pub use views::{EnvEntryView, NeededDrvView, OutputView, SelectedView};

@@ -7,9 +7,7 @@ ghost use Rattle.nd_aterm.specs.Sifting.{is_in_order};
 
 use crate::leaf::Leaf;
 use crate::records::{EnvEntry, InputDrv, Output, Parts};
-use crate::views::{
-    EnvEntryView, InputDrvView, NeededDrvView, OutputView, PartsView, SelectedView,
-};
+use crate::views::{NeededDrvView, OutputView, SelectedView};
 use nd_bytes::ByteString;
 
 /// What stands in a list in the order of its key.
@@ -61,14 +59,6 @@ impl Keyed for InputDrv {
     }
 }
 
-impl<'t> Keyed for InputDrvView<'t> {
-    ghost key = { λ d. d.path };
-
-    fn key(&self) -> &[u8] {
-        self.path.as_slice()
-    }
-}
-
 impl<'t> Keyed for NeededDrvView<'t> {
     ghost key = { λ d. d.path };
 
@@ -78,14 +68,6 @@ impl<'t> Keyed for NeededDrvView<'t> {
 }
 
 impl Keyed for EnvEntry {
-    ghost key = { λ v. v.key };
-
-    fn key(&self) -> &[u8] {
-        self.key.as_slice()
-    }
-}
-
-impl<'t> Keyed for EnvEntryView<'t> {
     ghost key = { λ v. v.key };
 
     fn key(&self) -> &[u8] {
@@ -121,14 +103,6 @@ trait Named: Keyed {
 }
 
 impl Named for InputDrv {
-    ghost names = { λ d. d.outputs };
-
-    fn has_rising_names(&self) -> bool {
-        is_rising(self.outputs.as_slice())
-    }
-}
-
-impl<'t> Named for InputDrvView<'t> {
     ghost names = { λ d. d.outputs };
 
     fn has_rising_names(&self) -> bool {
@@ -172,44 +146,19 @@ fn are_paths_in_order<O: Keyed, D: Named, S: Keyed>(
     is_rising(input_srcs)
 }
 
-/// Whether all five kinds of list strictly rise.
-fn are_in_order<O: Keyed, D: Named, S: Keyed, E: Keyed>(
-    outputs: &[O],
-    input_drvs: &[D],
-    input_srcs: &[S],
-    env: &[E],
-) -> bool
-    ensures { result ≡ (rises O.key outputs.now && rises D.key input_drvs.now && list_all (λ d. rises (λ name. name) (D.names d)) input_drvs.now
-        && rises S.key input_srcs.now && rises E.key env.now) }
-{
-    if !are_paths_in_order(outputs, input_drvs, input_srcs) {
-        return false;
-    }
-    is_rising(env)
-}
-
 /// Whether all five kinds of list of these parts strictly rise.
 pub(crate) fn is_in_order(parts: &Parts) -> bool
     ensures { result ≡ in_order parts.now }
 {
-    are_in_order(
+    let paths_rise = are_paths_in_order(
         parts.outputs.as_slice(),
         parts.input_drvs.as_slice(),
         parts.input_srcs.as_slice(),
-        parts.env.as_slice(),
-    )
-}
-
-/// The same of borrowed parts.
-pub(crate) fn is_view_in_order(parts: &PartsView<'_>) -> bool
-    ensures { result ≡ in_order parts.now }
-{
-    are_in_order(
-        parts.outputs.as_slice(),
-        parts.input_drvs.as_slice(),
-        parts.input_srcs.as_slice(),
-        parts.env.as_slice(),
-    )
+    );
+    if !paths_rise {
+        return false;
+    }
+    is_rising(parts.env.as_slice())
 }
 
 /// The same of parts of which not all variables are kept, where `rising` says whether the environment

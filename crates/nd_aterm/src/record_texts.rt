@@ -7,7 +7,7 @@ ghost use Rattle.nd_aterm.specs.DerivationsOnce.{output_once, output_opens, inpu
 use crate::fault::AtermError;
 use crate::part::{Part, Written, expect, put_field, two_fields};
 use crate::records::{EnvEntry, InputDrv, Output};
-use crate::views::{EnvEntryView, InputDrvView, NeededDrvView, OutputView};
+use crate::views::{EnvEntryView, NeededDrvView, OutputView};
 use std::alloc::{AllocError, Global};
 
 impl<'t> Part<'t> for OutputView<'t> {
@@ -47,23 +47,6 @@ impl Written for Output {
         put_field(&self.hash, b')', out)?;
         Ok(())
     }
-}
-
-impl<'t> Part<'t> for InputDrvView<'t> {
-    ghost text = { input_drv };
-
-    const ROOM: usize = 8;
-
-    #[tactic(auto, unfolding(crate::specs::Derivations::input_drv))]
-    fn read(alloc: Global, bytes: &'t [u8]) -> Result<(Self, &'t [u8]), AtermError> {
-        let rest = expect(bytes, b'(')?;
-        let (path, outputs, rest) = two_fields(alloc, rest, b')')?;
-        Ok((InputDrvView { path, outputs }, rest))
-    }
-
-    ghost once = { input_drv_once };
-
-    ghost opens = { input_drv_opens };
 }
 
 impl<'t> Part<'t> for NeededDrvView<'t> {

@@ -1,59 +1,76 @@
-//! Reading of derivation texts of which not all is kept.
+//! The one reader of derivation texts, which keeps what is asked for.
 
-ghost use Rattle.std.specs.Prelude.{◌≡◌, ℕ, ◌≤◌, ◌<◌, List, length, IfOk, IfErr};
+ghost use Rattle.std.specs.Prelude.{◌≡◌, ℕ, ◌≤◌, ◌<◌, List, ◌++◌, codes, length, IfOk, IfErr, MatchOption};
 ghost use Rattle.nd_aterm.specs.declared.records.Parts.{Parts};
-ghost use Rattle.nd_aterm.specs.declared.texts.Command.{Command};
-ghost use Rattle.nd_aterm.specs.declared.texts.Paths.{Paths};
 ghost use Rattle.nd_aterm.specs.Derivations.{derivation, Text};
 ghost use Rattle.nd_aterm.specs.Refusals.{Refuses};
-ghost use Rattle.nd_aterm.specs.Sections.{paths, command};
+ghost use Rattle.nd_aterm.specs.Sections.{Command, paths, command};
 ghost use Rattle.nd_aterm.specs.Selected.{selected, IsSelected};
-ghost use Rattle.nd_aterm.specs.Sifting.{HasSettings, NoSettings, HasCommand, HasSelected, IsJoined};
+ghost use Rattle.nd_aterm.specs.Sifting.{HasSettings, NoSettings, HasCommand, HasParts, IsKept, IsText, IsJoined};
 ghost use Rattle.nd_aterm.specs.Texts.{text_limit, IsRefused, OkUnlessMemory};
 
 use crate::fault::AtermError;
 use crate::leaf::Leaf;
 use crate::orders::is_selected_in_order;
 use crate::part::{expect, field, two_fields};
-use crate::sifting::{Selection, Sifted, behind_strings, env_at};
-use crate::texts::{TEXT_LIMIT, behind_word};
+use crate::sifting::{Selection, Sifted, env_at, strings_at};
 use crate::views::{NeededDrvView, OutputView, SelectedView};
 use nd_bytes::Items;
 use std::alloc::Global;
-use std::marker::Model;
+
+/// The most bytes that a derivation text may have.
+pub(crate) const TEXT_LIMIT: usize = 16_777_216;
+
+/// What stands behind the word that each derivation text begins with.
+pub(crate) fn behind_word(bytes: &[u8]) -> Option<&[u8]>
+    ensures { MatchOption result
+        ((rest : List ℕ) → bytes.now ≡ codes "Derive(" ++ rest → ⊥)
+        (λ rest. bytes.now ≡ codes "Derive(" ++ rest.now) }
+{
+    match bytes {
+        [b'D', b'e', b'r', b'i', b'v', b'e', b'(', rest @ ..] => Some(rest),
+        _ => None,
+    }
+}
 
 /// What a derivation makes, and the store paths that it needs.
 #[derive(Drop)]
-struct SelectedPaths<'t> {
+struct Paths<'t> {
     outputs: Items<OutputView<'t>>,
     input_drvs: Items<NeededDrvView<'t>>,
     input_srcs: Items<Leaf<'t>>,
 }
 
-impl<'t> Model for SelectedPaths<'t> {
-    ghost Value = { Paths };
-
-    ghost view = { λ p. record { outputs = p.outputs; input_drvs = p.input_drvs; input_srcs = p.input_srcs } };
-}
-
 /// What is kept of how a derivation is built.
 #[derive(Drop)]
-struct SelectedCommand<'t> {
+struct KeptCommand<'t> {
     platform: Leaf<'t>,
     builder: Leaf<'t>,
+    args: Items<Leaf<'t>>,
     env: Sifted<'t>,
+}
+
+/// What is kept of a derivation.
+#[derive(Drop)]
+pub(crate) struct KeptParts<'t> {
+    /// All but the arguments, with the variables that are asked for.
+    pub(crate) view: SelectedView<'t>,
+    /// The arguments, where they are asked for.
+    pub(crate) args: Items<Leaf<'t>>,
+    /// Whether each name of the environment is below the next.
+    rising: bool,
 }
 
 /// Reads the first section of a derivation text, up to the sources and their comma.
 #[tactic(auto, using(crate::specs::DerivationsOnce::outputs_once, crate::specs::DerivationsOnce::input_drvs_once), unfolding(crate::specs::Sections::paths))]
-fn selected_paths_at(alloc: Global, bytes: &[u8]) -> Result<(SelectedPaths<'_>, &[u8]), AtermError>
+fn paths_at(alloc: Global, bytes: &[u8]) -> Result<(Paths<'_>, &[u8]), AtermError>
     ensures found { IfOk result (λ x. bytes.now ≡ paths x.0 x.1.now) }
     ensures none { IfErr result (λ e. Refuses e
         ((p : Paths) (rest : List ℕ) → bytes.now ≡ paths p rest → ⊥)) }
 {
     let (outputs, input_drvs, rest) = two_fields(alloc, bytes, b',')?;
     let (input_srcs, rest) = field(alloc, rest, b',')?;
-    let paths = SelectedPaths {
+    let paths = Paths {
         outputs,
         input_drvs,
         input_srcs,
@@ -61,53 +78,57 @@ fn selected_paths_at(alloc: Global, bytes: &[u8]) -> Result<(SelectedPaths<'_>, 
     Ok((paths, rest))
 }
 
-/// Reads the arguments, of which nothing is kept, and the environment.
+/// Reads the arguments, kept where they are asked for, and the environment.
 #[tactic(auto, unfolding(crate::specs::Sifting::settings))]
-fn settings_at<S: Selection>(alloc: Global, bytes: &[u8]) -> Result<(Sifted<'_>, &[u8]), AtermError>
-    ensures found { IfOk result (λ x. HasSettings S.selects bytes.now x.1.now x.0) }
+fn settings_at<S: Selection>(
+    alloc: Global,
+    keeps_args: bool,
+    bytes: &[u8],
+) -> Result<(Items<Leaf<'_>>, Sifted<'_>, &[u8]), AtermError>
+    ensures found { IfOk result (λ x. HasSettings S.selects keeps_args bytes.now x.2.now x.0 x.1) }
     ensures none { IfErr result (λ e. Refuses e (NoSettings bytes.now)) }
 {
-    let rest = behind_strings(bytes)?;
+    let (args, rest) = strings_at(alloc, keeps_args, bytes)?;
     let rest = expect(rest, b',')?;
     let (env, rest) = env_at::<S>(alloc, rest)?;
     let rest = expect(rest, b')')?;
-    Ok((env, rest))
+    Ok((args, env, rest))
 }
 
 /// Reads the second section of a derivation text, from the platform on.
-fn selected_command_at<S: Selection>(
+fn command_at<S: Selection>(
     alloc: Global,
+    keeps_args: bool,
     bytes: &[u8],
-) -> Result<(SelectedCommand<'_>, &[u8]), AtermError>
-    ensures found { IfOk result (λ x. HasCommand S.selects bytes.now x.1.now x.0) }
+) -> Result<(KeptCommand<'_>, &[u8]), AtermError>
+    ensures found { IfOk result (λ x. HasCommand S.selects keeps_args bytes.now x.1.now x.0) }
     ensures none { IfErr result (λ e. Refuses e
         ((c : Command) (rest : List ℕ) → bytes.now ≡ command c rest → ⊥)) }
 {
     let (platform, builder, rest) = two_fields(alloc, bytes, b',')?;
-    let (env, rest) = settings_at::<S>(alloc, rest)?;
-    let command = SelectedCommand {
+    let (args, env, rest) = settings_at::<S>(alloc, keeps_args, rest)?;
+    let command = KeptCommand {
         platform,
         builder,
+        args,
         env,
     };
     Ok((command, rest))
 }
 
-/// What is selected of a derivation with these two sections, and whether its environment strictly rises.
-fn join_selected<'t>(
-    paths: SelectedPaths<'t>,
-    command: SelectedCommand<'t>,
-) -> (SelectedView<'t>, bool)
-    ensures { IsJoined paths.entry command.entry result.0 result.1 }
+/// What is kept of a derivation with these two sections.
+fn join<'t>(paths: Paths<'t>, command: KeptCommand<'t>) -> KeptParts<'t>
+    ensures { IsJoined paths.entry command.entry result }
 {
-    let SelectedPaths {
+    let Paths {
         outputs,
         input_drvs,
         input_srcs,
     } = paths;
-    let SelectedCommand {
+    let KeptCommand {
         platform,
         builder,
+        args,
         env,
     } = command;
     let Sifted { kept, rising, .. } = env;
@@ -119,28 +140,26 @@ fn join_selected<'t>(
         builder,
         env: Items::new(kept),
     };
-    (view, rising)
+    KeptParts { view, args, rising }
 }
 
-/// Reads the parts of a derivation, its lists in any order, and gives what is selected of them, whether
-/// the environment strictly rises, and what stands behind the text.
-fn selected_at<S: Selection>(
+/// Reads the parts of a derivation, its lists in any order, and gives what is kept of them with what
+/// stands behind the text.
+fn parts_at<S: Selection>(
     alloc: Global,
+    keeps_args: bool,
     bytes: &[u8],
-) -> Result<(SelectedView<'_>, bool, &[u8]), AtermError>
-    ensures found { IfOk result (λ x. HasSelected S.selects bytes.now x.2.now x.0 x.1) }
+) -> Result<(KeptParts<'_>, &[u8]), AtermError>
+    ensures found { IfOk result (λ x. HasParts S.selects keeps_args bytes.now x.1.now x.0) }
     ensures none { IfErr result (λ e. Refuses e
         ((p : Parts) (rest : List ℕ) → bytes.now ≡ derivation p rest → ⊥)) }
 {
     let Some(rest) = behind_word(bytes) else {
         return Err(AtermError::NotDerivation);
     };
-    let (paths, rest) = selected_paths_at(alloc, rest)?;
-    match selected_command_at::<S>(alloc, rest) {
-        Ok((command, rest)) => {
-            let (view, rising) = join_selected(paths, command);
-            Ok((view, rising, rest))
-        }
+    let (paths, rest) = paths_at(alloc, rest)?;
+    match command_at::<S>(alloc, keeps_args, rest) {
+        Ok((command, rest)) => Ok((join(paths, command), rest)),
         Err(fault) => {
             drop(paths);
             Err(fault)
@@ -148,9 +167,36 @@ fn selected_at<S: Selection>(
     }
 }
 
-/// Reads a derivation text as [`parse_view`](crate::parse_view) does, and keeps less: no arguments, and of
+/// Reads a whole derivation text as [`parse`](crate::parse) does, and keeps the variables that are asked
+/// for, and the arguments where they are asked for.
+pub(crate) fn kept_parts<S: Selection>(
+    alloc: Global,
+    keeps_args: bool,
+    bytes: &[u8],
+) -> Result<KeptParts<'_>, AtermError>
+    ensures found { IfOk result (λ x. (length bytes.now ≤ text_limit) × IsText S.selects keeps_args bytes.now x) }
+    ensures exactly { (p : Parts) → length bytes.now ≤ text_limit → Text p bytes.now
+        → OkUnlessMemory result (λ x. IsKept S.selects keeps_args p x) }
+    ensures refused { IfErr result (IsRefused bytes.now) }
+    ensures too_long { text_limit < length bytes.now → result ≡ Err AtermError.TooLong }
+{
+    if bytes.len() > TEXT_LIMIT {
+        return Err(AtermError::TooLong);
+    }
+    let (parts, rest) = parts_at::<S>(alloc, keeps_args, bytes)?;
+    if !rest.is_empty() {
+        return Err(AtermError::NotDerivation);
+    }
+    if !is_selected_in_order(&parts.view, parts.rising) {
+        return Err(AtermError::Order);
+    }
+    Ok(parts)
+}
+
+/// Reads a derivation text as [`parse`](crate::parse) does, and keeps less: no arguments, and of
 /// the environment the variables alone whose names are asked for, each of these also where there are
 /// several of one name. No value that isn't kept takes memory. Each refusal comes where it comes there.
+#[tactic(auto, using(crate::proofs::SelectingLemmas::is_selected))]
 pub fn parse_selected<S: Selection>(
     alloc: Global,
     bytes: &[u8],
@@ -164,15 +210,7 @@ pub fn parse_selected<S: Selection>(
     ensures refused { IfErr result (IsRefused bytes.now) }
     ensures too_long { text_limit < length bytes.now → result ≡ Err AtermError.TooLong }
 {
-    if bytes.len() > TEXT_LIMIT {
-        return Err(AtermError::TooLong);
-    }
-    let (view, rising, rest) = selected_at::<S>(alloc, bytes)?;
-    if !rest.is_empty() {
-        return Err(AtermError::NotDerivation);
-    }
-    if !is_selected_in_order(&view, rising) {
-        return Err(AtermError::Order);
-    }
+    let KeptParts { view, args, .. } = kept_parts::<S>(alloc, false, bytes)?;
+    drop(args);
     Ok(view)
 }

@@ -5,13 +5,14 @@ ghost use Rattle.nd_aterm.specs.declared.records.EnvEntry.{EnvEntry};
 ghost use Rattle.nd_aterm.specs.Refusals.{Refuses};
 ghost use Rattle.nd_aterm.specs.Spelling.{right_bracket, string, list};
 ghost use Rattle.nd_aterm.specs.Derivations.{env_entry};
-ghost use Rattle.nd_aterm.specs.Sifting.{Begins, BeginsListed, NoneListed, IsValue, IsVariable, IsSifted, IsTaken, IsSiftedMore, BeginsEnv, HasEnv, follows};
+ghost use Rattle.nd_aterm.specs.Sifting.{Begins, AreStrings, BeginsListed, NoneListed, IsValue, IsVariable, IsSifted, IsTaken, IsSiftedMore, BeginsEnv, HasEnv, follows};
 
 use crate::fault::AtermError;
 use crate::leaf::Leaf;
 use crate::part::{Part, expect, field, strip};
 use crate::strings::behind_string;
 use crate::views::EnvEntryView;
+use nd_bytes::Items;
 use std::alloc::{AllocError, Global};
 
 /// Which variables of an environment are asked for, by their names.
@@ -37,7 +38,7 @@ fn behind_listed(bytes: &[u8]) -> Result<&[u8], AtermError>
 
 /// What stands behind a list of strings, of which nothing is kept: it takes no memory.
 #[tactic(auto, unfolding(crate::specs::Spelling::list))]
-pub(crate) fn behind_strings(bytes: &[u8]) -> Result<&[u8], AtermError>
+fn behind_strings(bytes: &[u8]) -> Result<&[u8], AtermError>
     ensures found { IfOk result (λ rest. Begins (list string) bytes.now rest.now) }
     ensures none { IfErr result (λ e. Refuses e
         ((xs : List (List ℕ)) (rest : List ℕ) → bytes.now ≡ list string xs rest → ⊥)) }
@@ -47,6 +48,23 @@ pub(crate) fn behind_strings(bytes: &[u8]) -> Result<&[u8], AtermError>
         return Ok(rest);
     }
     behind_listed(bytes)
+}
+
+/// Reads a list of strings, of which none is kept unless they are asked for.
+pub(crate) fn strings_at(
+    alloc: Global,
+    keeps: bool,
+    bytes: &[u8],
+) -> Result<(Items<Leaf<'_>>, &[u8]), AtermError>
+    ensures found { IfOk result (λ x. AreStrings keeps bytes.now x.0 x.1.now) }
+    ensures none { IfErr result (λ e. Refuses e
+        ((xs : List (List ℕ)) (rest : List ℕ) → bytes.now ≡ list string xs rest → ⊥)) }
+{
+    if !keeps {
+        let rest = behind_strings(bytes)?;
+        return Ok((Items::new(Vec::new(alloc)), rest));
+    }
+    Items::read(alloc, bytes)
 }
 
 /// Reads a string, which is given only where it is to be kept.

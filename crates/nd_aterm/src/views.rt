@@ -30,23 +30,6 @@ impl<'t> Model for OutputView<'t> {
     ghost view = { λ o. record { name = o.name; path = o.path; hash_algo = o.hash_algo; hash = o.hash } };
 }
 
-/// A derivation that another one needs, its strings borrowed. Contracts see the [`InputDrv`].
-#[derive(Debug, Drop)]
-pub struct InputDrvView<'t> {
-    /// The store path of the other derivation.
-    pub path: Leaf<'t>,
-    /// The names of the outputs that are needed.
-    pub outputs: Items<Leaf<'t>>,
-}
-
-impl<'t> Model for InputDrvView<'t> {
-    ghost use Rattle.nd_aterm.specs.declared.records.InputDrv.{InputDrv};
-
-    ghost Value = { InputDrv };
-
-    ghost view = { λ d. record { path = d.path; outputs = d.outputs } };
-}
-
 /// A derivation that another one needs, its strings borrowed, with no list where one output of it is needed.
 /// Contracts see the [`InputDrv`].
 #[derive(Debug, Drop)]
@@ -82,33 +65,6 @@ impl<'t> Model for EnvEntryView<'t> {
     ghost view = { λ v. record { key = v.key; value = v.value } };
 }
 
-/// What a derivation is made of, its strings borrowed from the text. Contracts see the [`Parts`].
-#[derive(Debug, Drop)]
-pub struct PartsView<'t> {
-    /// What the build makes.
-    pub outputs: Items<OutputView<'t>>,
-    /// The derivations that must be built first.
-    pub input_drvs: Items<InputDrvView<'t>>,
-    /// The store paths that are sources.
-    pub input_srcs: Items<Leaf<'t>>,
-    /// The system to build on, as `x86_64-linux`.
-    pub platform: Leaf<'t>,
-    /// The program that builds.
-    pub builder: Leaf<'t>,
-    /// The program's arguments.
-    pub args: Items<Leaf<'t>>,
-    /// The builder's environment.
-    pub env: Items<EnvEntryView<'t>>,
-}
-
-impl<'t> Model for PartsView<'t> {
-    ghost use Rattle.nd_aterm.specs.declared.records.Parts.{Parts};
-
-    ghost Value = { Parts };
-
-    ghost view = { λ p. record { outputs = p.outputs; input_drvs = p.input_drvs; input_srcs = p.input_srcs; platform = p.platform; builder = p.builder; args = p.args; env = p.env } };
-}
-
 /// What is selected of the parts of a derivation, its strings borrowed from the text. Contracts see the
 /// [`SelectedParts`].
 #[derive(Debug, Drop)]
@@ -135,15 +91,34 @@ impl<'t> Model for SelectedView<'t> {
     ghost view = { λ p. record { outputs = p.outputs; input_drvs = p.input_drvs; input_srcs = p.input_srcs; platform = p.platform; builder = p.builder; env = p.env } };
 }
 
-/// What is borrowed from a text and can be had on its own.
-trait Borrowed: Drop {
+impl<'t> SelectedView<'t> {
+    ghost use Rattle.nd_aterm.specs.Selected.{with_args};
+
+    /// A copy of the parts, where all variables were selected, with these arguments.
+    pub(crate) fn copied(&self, alloc: Global, args: &[Leaf<'t>]) -> Result<Parts, AllocError>
+        ensures { IfOk result (λ parts. parts ≡ with_args self.now args.now) }
+    {
+        Ok(Parts {
+            outputs: copies(alloc, self.outputs.as_slice())?,
+            input_drvs: copies(alloc, self.input_drvs.as_slice())?,
+            input_srcs: copies(alloc, self.input_srcs.as_slice())?,
+            platform: self.platform.copied(alloc)?,
+            builder: self.builder.copied(alloc)?,
+            args: copies(alloc, args)?,
+            env: copies(alloc, self.env.as_slice())?,
+        })
+    }
+}
+
+/// What is borrowed from a text and can be copied.
+trait Borrowed {
     type Owned: Drop;
 
     ghost owned: { Self → Self.Owned };
 
-    /// The same on its own.
-    fn into_owned(self, alloc: Global) -> Result<Self::Owned, AllocError>
-        ensures { IfOk result (λ x. x ≡ owned self) };
+    /// A copy on its own.
+    fn copied(&self, alloc: Global) -> Result<Self::Owned, AllocError>
+        ensures { IfOk result (λ x. x ≡ owned self.now) };
 }
 
 impl<'t> Borrowed for Leaf<'t> {
@@ -151,8 +126,8 @@ impl<'t> Borrowed for Leaf<'t> {
 
     ghost owned = { λ s. s };
 
-    fn into_owned(self, alloc: Global) -> Result<ByteString, AllocError> {
-        self.into_byte_string(alloc)
+    fn copied(&self, alloc: Global) -> Result<ByteString, AllocError> {
+        ByteString::from_slice(alloc, self.as_slice())
     }
 }
 
@@ -161,32 +136,25 @@ impl<'t> Borrowed for OutputView<'t> {
 
     ghost owned = { λ o. o };
 
-    fn into_owned(self, alloc: Global) -> Result<Output, AllocError> {
-        let OutputView {
-            name,
-            path,
-            hash_algo,
-            hash,
-        } = self;
+    fn copied(&self, alloc: Global) -> Result<Output, AllocError> {
         Ok(Output {
-            name: name.into_byte_string(alloc)?,
-            path: path.into_byte_string(alloc)?,
-            hash_algo: hash_algo.into_byte_string(alloc)?,
-            hash: hash.into_byte_string(alloc)?,
+            name: self.name.copied(alloc)?,
+            path: self.path.copied(alloc)?,
+            hash_algo: self.hash_algo.copied(alloc)?,
+            hash: self.hash.copied(alloc)?,
         })
     }
 }
 
-impl<'t> Borrowed for InputDrvView<'t> {
+impl<'t> Borrowed for NeededDrvView<'t> {
     type Owned = InputDrv;
 
     ghost owned = { λ d. d };
 
-    fn into_owned(self, alloc: Global) -> Result<InputDrv, AllocError> {
-        let InputDrvView { path, outputs } = self;
+    fn copied(&self, alloc: Global) -> Result<InputDrv, AllocError> {
         Ok(InputDrv {
-            path: path.into_byte_string(alloc)?,
-            outputs: owned_items(alloc, outputs)?,
+            path: self.path.copied(alloc)?,
+            outputs: copies(alloc, self.outputs.as_slice())?,
         })
     }
 }
@@ -196,48 +164,21 @@ impl<'t> Borrowed for EnvEntryView<'t> {
 
     ghost owned = { λ v. v };
 
-    fn into_owned(self, alloc: Global) -> Result<EnvEntry, AllocError> {
-        let EnvEntryView { key, value } = self;
+    fn copied(&self, alloc: Global) -> Result<EnvEntry, AllocError> {
         Ok(EnvEntry {
-            key: key.into_byte_string(alloc)?,
-            value: value.into_byte_string(alloc)?,
+            key: self.key.copied(alloc)?,
+            value: self.value.copied(alloc)?,
         })
     }
 }
 
-/// The items on their own.
-fn owned_items<T: Borrowed>(alloc: Global, items: Items<T>) -> Result<Items<T::Owned>, AllocError>
-    ensures { IfOk result (λ copies. copies ≡ map T.owned items) }
+/// Copies of the items.
+fn copies<T: Borrowed>(alloc: Global, items: &[T]) -> Result<Items<T::Owned>, AllocError>
+    ensures { IfOk result (λ copies. copies ≡ map T.owned items.now) }
 {
     let mut copies = Vec::with_capacity(alloc, items.len())?;
-    for item in items.into_vec() {
-        copies.push(item.into_owned(alloc)?)?;
+    for item in items {
+        copies.push(item.copied(alloc)?)?;
     }
     Ok(Items::new(copies))
-}
-
-impl<'t> PartsView<'t> {
-    /// The parts on their own: what is a piece of the text is copied.
-    pub fn into_parts(self, alloc: Global) -> Result<Parts, AllocError>
-        ensures { IfOk result (λ parts. parts ≡ self.entry) }
-    {
-        let PartsView {
-            outputs,
-            input_drvs,
-            input_srcs,
-            platform,
-            builder,
-            args,
-            env,
-        } = self;
-        Ok(Parts {
-            outputs: owned_items(alloc, outputs)?,
-            input_drvs: owned_items(alloc, input_drvs)?,
-            input_srcs: owned_items(alloc, input_srcs)?,
-            platform: platform.into_byte_string(alloc)?,
-            builder: builder.into_byte_string(alloc)?,
-            args: owned_items(alloc, args)?,
-            env: owned_items(alloc, env)?,
-        })
-    }
 }

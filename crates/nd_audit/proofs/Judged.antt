@@ -6,17 +6,18 @@ use Rattle.nd_history.specs.declared.entry.Entry.TheVariants.{Started as Startin
 use Rattle.nd_history.specs.declared.entry.Why.{Why}
 use Rattle.nd_history.specs.declared.inputs.Inputs.{Inputs}
 use Rattle.nd_history.specs.declared.rule.Rule.{Rule}
-use Rattle.nd_history.specs.declared.rule.Rule.TheVariants.{Live, Started as StartedRule, Stopped}
+use Rattle.nd_history.specs.declared.rule.Rule.TheVariants.{Live, Started as StartedRule, References, Stopped}
 use Rattle.nd_history.specs.Premises.{Premises, premises_of}
 use Rattle.std.specs.List.{find, list_any}
 use Rattle.nd_leases.specs.declared.ticket.Ticket.{Ticket}
 use Rattle.nd_history.specs.History.{live, lease_of, is_leased, is_started, has_stop}
 use Rattle.nd_history.specs.Standing.{drvs_in}
 use Rattle.nd_history.specs.Choices.{machines_in}
+use Rattle.nd_history.specs.References.{outputs_of}
 use Rattle.nd_history.specs.Legal.{IsAllowed, IsLegal}
 use Rattle.nd_history.specs.Audit.{IsFirstRule, IsJudged}
 use Rattle.nd_history.proofs.Following.{newest_first}
-use Rattle.nd_history.proofs.Rules.{started_unleased, started_twice, down_unleased, down_late, built_unleased, built_early, failed_unleased, stopped_twice}
+use Rattle.nd_history.proofs.Rules.{started_unleased, started_twice, down_unleased, down_late, built_unleased, built_early, built_wrongly, failed_unleased, stopped_twice}
 use Rattle.nd_ledger.specs.declared.state.State.{State}
 use Rattle.nd_ledger.specs.Followed.{IsFollowed}
 use Rattle.nd_ledger.specs.States.{IsAppended, IsFresh}
@@ -87,7 +88,7 @@ pub back_late : (i : Premises) (past : List Entry) (d : ℕ) → d < drvs_in i �
 back_late i past d ranged leased on = down_late i past d ranged leased (isnt_not (is_started d past) on)
 
 pub back_free : (i : Premises) (past : List Entry) (d : ℕ) → d < drvs_in i → is_leased d past ≡ true → is_started d past ≡ false → PassesFreely i past (Down d)
-back_free i past d ranged leased fresh = freely i past (Down d) ranged tt tt tt tt leased fresh tt
+back_free i past d ranged leased fresh = freely i past (Down d) ranged tt tt tt tt leased fresh tt tt
 
 pub end_unleased : (i : Premises) (past : List Entry) (d : ℕ) (refs : List (List (List ℕ))) → d < drvs_in i → is_leased d past ≡ false → IsFirstRule i past (Built d refs) Live
 end_unleased i past d refs ranged off = built_unleased i past d refs ranged (isnt (is_leased d past) off)
@@ -95,23 +96,26 @@ end_unleased i past d refs ranged off = built_unleased i past d refs ranged (isn
 pub end_early : (i : Premises) (past : List Entry) (d : ℕ) (refs : List (List (List ℕ))) → d < drvs_in i → is_leased d past ≡ true → is_started d past ≡ false → IsFirstRule i past (Built d refs) StartedRule
 end_early i past d refs ranged leased off = built_early i past d refs ranged leased (isnt (is_started d past) off)
 
+pub end_unlisted : (i : Premises) (past : List Entry) (d : ℕ) (refs : List (List (List ℕ))) → d < drvs_in i → is_leased d past ≡ true → is_started d past ≡ true → (length refs ≡ length (outputs_of i d) → ⊥) → IsFirstRule i past (Built d refs) References
+end_unlisted i past d refs ranged leased started wrong = built_wrongly i past d refs ranged leased started (λ right. wrong right.sized)
+
 pub failure_unleased : (i : Premises) (past : List Entry) (d : ℕ) (why : Why) → d < drvs_in i → is_leased d past ≡ false → IsFirstRule i past (Failed d why) Live
 failure_unleased i past d why ranged off = failed_unleased i past d why ranged (isnt (is_leased d past) off)
 
 pub failure_free : (i : Premises) (past : List Entry) (d : ℕ) (why : Why) → d < drvs_in i → is_leased d past ≡ true → PassesFreely i past (Failed d why)
-failure_free i past d why ranged leased = freely i past (Failed d why) ranged tt tt tt tt leased tt tt
+failure_free i past d why ranged leased = freely i past (Failed d why) ranged tt tt tt tt leased tt tt tt
 
 pub stop_again : (i : Premises) (past : List Entry) → has_stop past ≡ true → IsFirstRule i past Stop Stopped
 stop_again i past on = stopped_twice i past (isnt_not (has_stop past) on)
 
 pub stop_free : (i : Premises) (past : List Entry) → has_stop past ≡ false → PassesFreely i past Stop
-stop_free i past off = freely i past Stop tt tt tt tt tt tt tt off
+stop_free i past off = freely i past Stop tt tt tt tt tt tt tt off tt
 
 pub drain_free : (i : Premises) (past : List Entry) (m : ℕ) → m < machines_in i → PassesFreely i past (Drain m)
-drain_free i past m ranged = freely i past (Drain m) ranged tt tt tt tt tt tt tt
+drain_free i past m ranged = freely i past (Drain m) ranged tt tt tt tt tt tt tt tt
 
 pub enable_free : (i : Premises) (past : List Entry) (m : ℕ) → m < machines_in i → PassesFreely i past (Enable m)
-enable_free i past m ranged = freely i past (Enable m) ranged tt tt tt tt tt tt tt
+enable_free i past m ranged = freely i past (Enable m) ranged tt tt tt tt tt tt tt tt
 
 pub ruleset followed = (followed_fit, followed_marked, followed_turns, followed_searched, judged_freely)
 

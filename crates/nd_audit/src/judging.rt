@@ -200,8 +200,8 @@ fn judge_down(inputs: &Inputs, book: &Book, drv: u32) -> Result<(), Rule>
     Ok(())
 }
 
-/// Tests the end of a build, but for its references.
-#[tactic(auto, using(crate::proofs::Judged::end_unleased, crate::proofs::Judged::end_early, nd_ledger::proofs::Admitting::free_end))]
+/// Tests the end of a build, but of its references only how many lists of them there are.
+#[tactic(auto, using(crate::proofs::Judged::end_unleased, crate::proofs::Judged::end_early, crate::proofs::Judged::end_unlisted, nd_ledger::proofs::Admitting::free_end))]
 fn judge_end(inputs: &Inputs, book: &Book, drv: u32, refs: &Refs) -> Result<(), Rule>
     requires fit { FitTogether (premises_of inputs.now) book.now }
     requires ranged { drv < drvs_in (premises_of inputs.now) }
@@ -212,6 +212,9 @@ fn judge_end(inputs: &Inputs, book: &Book, drv: u32, refs: &Refs) -> Result<(), 
     }
     if !book.is_started(drv as usize) {
         return Err(Rule::Started);
+    }
+    if refs.lists().len() != inputs.graph.outputs(drv as usize).len() {
+        return Err(Rule::References);
     }
     Ok(())
 }

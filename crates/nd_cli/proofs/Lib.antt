@@ -3,6 +3,7 @@ pub mod ClassReplying
 pub mod Fed
 pub mod Filled
 pub mod LocalTest
+pub mod NoBundle
 pub mod PlacedReplying
 pub mod Refused
 pub mod Replying

@@ -1,5 +1,5 @@
 -- What the options and the bundle describe: the graph, the park with its local machine and its builders, and the references
--- of paths. The clauses of `read_park` and of each engine cite this.
+-- of paths. The clauses of `take_park` and of each engine cite this.
 use Rattle.std.specs.Prelude.{◌≡◌, ◌≢◌, ◌⊎◌, ℕ, ◌<◌, ◌≤◌, List, length, Result, Ok, Err}
 use Rattle.nd_machines.specs.Builders.{Builder}
 use Rattle.nd_machines.specs.BuildersList.{builders}

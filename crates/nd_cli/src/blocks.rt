@@ -22,13 +22,13 @@ use std::mem;
 use std::thread::{Threads, join_mut};
 
 /// How many bytes the first block of an input has: few, since nothing else is done while it is read.
-const FIRST: usize = 262_144;
+const FIRST: usize = 1_048_576;
 
 /// How many times as large as the block before the next one is, up to [`BLOCK`].
 const GROW: usize = 4;
 
 /// How many bytes a block has at most. Threads start and end for each.
-const BLOCK: usize = 4_194_304;
+const BLOCK: usize = 8_388_608;
 
 /// The graph of the bundle on the input, which is read to its end, or to one byte past [`LIMIT`].
 ///

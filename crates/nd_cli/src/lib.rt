@@ -23,5 +23,5 @@ pub use fault::{CliFault, DerivationError, HistoryTextError, Place};
 pub use input::{LIMIT, read_input};
 pub use listing::park_engine;
 pub use options::ParkOptions;
-pub use park::{Park, read_park, take_park};
+pub use park::{Park, take_park};
 pub use path::path_engine;

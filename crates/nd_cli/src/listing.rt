@@ -8,12 +8,11 @@ ghost use Rattle.nd_cli.specs.Listed.{IsParkText, IsUnlisted, ListsPark, IsListF
 
 use crate::fault::CliFault;
 use crate::options::ParkOptions;
-use crate::park::read_park;
+use crate::park::read_setting;
 use crate::slot_lines::park_text;
 use nd_devices::{Fault, Told};
 use std::alloc::Global;
 use std::io::Write;
-use std::thread::Threads;
 
 /// Writes a line `M S URI KEY HOSTKEY` for each slot S of each machine M of the park, in their order, with
 /// the key and the host key as they stand in the builders list, and `-` for what isn't given; the local
@@ -25,7 +24,6 @@ use std::thread::Threads;
 /// slots. `Memory` may come at any point before the lines are written. `Write` leaves a part of them, from
 /// their beginning. The writer is marked exactly at `Write`.
 pub fn park_engine<W: Write>(
-    rt: &(impl Threads + Sync),
     alloc: Global,
     options: &ParkOptions,
     output: &mut Told<W>,
@@ -36,7 +34,7 @@ pub fn park_engine<W: Write>(
     ensures fault { IfErr result (IsListFault options.now W.contents output.old output.new) }
     ensures mark { output.new.is_marked ≡ is_write_failure result }
 {
-    let text = text_of_park(rt, alloc, options)?;
+    let text = text_of_park(alloc, options)?;
     let written = write_text(text.as_slice(), output);
     drop(text);
     match written {
@@ -46,17 +44,13 @@ pub fn park_engine<W: Write>(
 }
 
 /// The lines of the park that the options describe.
-fn text_of_park(
-    rt: &(impl Threads + Sync),
-    alloc: Global,
-    options: &ParkOptions,
-) -> Result<Vec<u8>, CliFault>
+fn text_of_park(alloc: Global, options: &ParkOptions) -> Result<Vec<u8>, CliFault>
     ensures read { IfOk result (λ text. IsParkText options.now text.items) }
     ensures refused { IfErr result (IsUnlisted options.now) }
 {
-    let park = read_park(rt, alloc, options, b"")?;
-    let text = park_text(alloc, &park.local, park.machines.as_slice());
-    drop(park);
+    let setting = read_setting(alloc, options)?;
+    let text = park_text(alloc, &setting.local, &setting.machines);
+    drop(setting);
     text
 }
 
@@ -69,8 +63,6 @@ fn write_text<W: Write>(text: &[u8], output: &mut Told<W>) -> Result<(), Fault>
     ensures partly { OnErr result (WritesPart (W.contents output.old.device) (W.contents output.new.device) text.now) }
     ensures mark { output.new.is_marked ≡ (output.old.is_marked || is_err result) }
 {
-    match output.put_all(text) {
-        Ok(()) => output.flush(),
-        Err(fault) => Err(fault),
-    }
+    output.put_all(text)?;
+    output.flush()
 }

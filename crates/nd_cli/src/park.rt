@@ -14,7 +14,7 @@ use crate::blocks::take_graph;
 use crate::fault::{CliFault, Place};
 use crate::input::LIMIT;
 use crate::options::ParkOptions;
-use nd_bundle::{GraphError, read_bundle};
+use nd_bundle::GraphError;
 use nd_closure::{InfoError, RefTable, parse_info};
 use nd_devices::Told;
 use nd_eligible::Local;
@@ -48,28 +48,7 @@ pub(crate) struct Setting {
     pub(crate) info: RefTable,
 }
 
-/// What this text, a bundle, and the options describe. There are at most 1,024 builders.
-///
-/// The first refusal in this order is answered: `TooLarge` or `Drvs` for the bundle, `TooLarge` or
-/// `Builders` for the builders list, `TooLarge` or `Info` for the info text. `Memory` may come at any
-/// point, and is all that may come where each of them is accepted.
-pub fn read_park(
-    rt: &(impl Threads + Sync),
-    alloc: Global,
-    options: &ParkOptions,
-    text: &[u8],
-) -> Result<Park, CliFault>
-    ensures read { IfOk result (λ park. HasPark options.now text.now park.graph park.machines.items park.info.entries) }
-    ensures local { IfOk result (λ park. park.local ≡ local_of options.now) }
-    ensures few { IfOk result (λ park. length park.machines.items ≤ 1024) }
-    ensures refused { IfErr result (IsParkFault options.now text.now) }
-    ensures exactly { AnswersAcceptedPark options.now text.now result }
-{
-    let graph = read_graph(rt, alloc, options, text)?;
-    park_over(alloc, options, graph)
-}
-
-/// What the bundle on the input and the options describe, as [`read_park`] of its text. The input is read to its
+/// What the bundle on the input and the options describe. There are at most 1,024 builders. The input is read to its
 /// end, or to one byte past [`LIMIT`], in blocks: its text is never in memory whole.
 ///
 /// The first refusal in this order is answered: `Read`; `TooLarge` or `Drvs` for the bundle; `TooLarge` or
@@ -151,28 +130,6 @@ pub(crate) fn read_setting(alloc: Global, options: &ParkOptions) -> Result<Setti
             drop(machines);
             Err(CliFault::Memory)
         }
-    }
-}
-
-/// The graph of the bundle with this text.
-///
-/// `TooLarge`: it has more than [`LIMIT`] bytes. `Drvs`: it is refused. `Memory`.
-fn read_graph(
-    rt: &(impl Threads + Sync),
-    alloc: Global,
-    options: &ParkOptions,
-    text: &[u8],
-) -> Result<Graph, CliFault>
-    ensures read { IfOk result (HasGraph options.now text.now) }
-    ensures refused { IfErr result (IsBundleFault options.now text.now) }
-    ensures exactly { (graph : Nodes) → HasGraph options.now text.now graph → OkUnlessMemory result (λ read. read ≡ graph) }
-{
-    if text.len() > LIMIT {
-        return Err(CliFault::TooLarge(Place::Drvs));
-    }
-    match read_bundle(rt, alloc, text, options.check_paths) {
-        Ok(graph) => Ok(graph),
-        Err(refusal) => Err(bundle_fault(refusal)),
     }
 }
 

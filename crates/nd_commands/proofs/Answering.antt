@@ -17,7 +17,7 @@ use Rattle.nd_report.specs.Audits.{IsFirstIllegal}
 use Rattle.nd_script.specs.declared.command.Command.{Command}
 use Rattle.nd_cli.specs.Asked.{IsAskFault, ReadsPark}
 use Rattle.nd_cli.specs.Inputs.{is_read_fault, is_read_failure, is_write_fault, is_write_failure}
-use Rattle.nd_cli.specs.Parks.{AreSameParts, HasPark, local_of}
+use Rattle.nd_cli.specs.Parks.{AreSameParts, local_of}
 use Rattle.nd_cli.specs.Statuses.{exit_status}
 use Rattle.nd_cli.proofs.Refused.{by_park}
 use Rattle.nd_cli.specs.declared.options.ParkOptions.{ParkOptions}
@@ -27,7 +27,7 @@ use Rattle.nd_history.specs.Standing.{drvs_in}
 use Rattle.nd_sim.specs.declared.fault.SimFault.{SimFault}
 use Rattle.nd_sim.specs.RunParts.{IsSimulationPart}
 use Rattle.nd_sim.specs.Written.{WritesSimulation, WritesSimulationPart}
-use Rattle.nd_commands.specs.Opened.{inputs_of, HasInputs, IsOpened, ReadsInputs}
+use Rattle.nd_commands.specs.Opened.{inputs_of, HasInputs, ReadsInputs}
 use Rattle.nd_commands.specs.Simulated.{IsSimGiven, AnswersSim, AnswersSimInPart, IsSimFault}
 use Rattle.nd_commands.specs.Audited.{HasHistory, IsHistoryFault, legal_line, illegal_line, WritesVerdict, WritesVerdictPart, LeavesVerdict, AnswersAudit, AnswersAuditInPart, IsAuditFault, IsVerdictFault}
 
@@ -103,13 +103,6 @@ unflushed_mark old between marked same = same ∙ or_true between ∙ sym (or_tr
 pub ruleset writes = (part_of_first, part_after, written_after)
 
 -- ---- what was read
-
-pub opened : (options : ParkOptions) (text : List ℕ) (graph : Nodes) (machines : List Builder) (local : Settings) (info : List (List ℕ × List (List ℕ))) (dispatch : World)
-    → HasPark options text graph machines info → local ≡ local_of options → dispatch.inputs ≡ inputs_of options graph machines local info → dispatch.history ≡ [] → IsOpened options text dispatch
-opened options text graph machines local info dispatch has is_local made empty = record {
-  inputs = subst (HasInputs options text) (sym made) (record { park = has; local = is_local; keep_going = refl });
-  empty = empty;
-}
 
 pub park_read : (options : ParkOptions) (unread left : Option (List ℕ)) (graph : Nodes) (machines : List Builder) (local : Settings) (info : List (List ℕ × List (List ℕ))) → ReadsPark options unread left graph machines info
     → local ≡ local_of options → ReadsInputs options unread left (inputs_of options graph machines local info)

@@ -1,5 +1,5 @@
--- The dispatch over what a command was given. The engines' clauses cite this, but for `IsOpened`, which those of `open_dispatch` cite,
--- `AnswersKnownInputs`, which those of `take_dispatch` cite, and `IsMadeOf`, which serves a private one.
+-- The dispatch over what a command was given. The engines' clauses cite this, but for `AnswersKnownInputs`, which those of
+-- `take_dispatch` cite, and `IsMadeOf`, which serves a private one.
 use Rattle.std.specs.Prelude.{◌≡◌, ◌||◌, ℕ, ◌≤◌, Bool, false, List, [], length, Option, Some, Result, MatchResult, IfOk, IfErr}
 use Rattle.nd_machines.specs.Builders.{Builder}
 use Rattle.nd_eligible.specs.Settings.{Settings}
@@ -29,11 +29,6 @@ pub record HasInputs (options : ParkOptions) (text : List ℕ) (i : Premises) : 
   pub park : HasPark options text i.graph i.machines i.info
   pub local : i.local ≡ local_of options
   pub keep_going : i.keep_going ≡ options.keep_going
-
--- a dispatch over them with the empty history
-pub record IsOpened (options : ParkOptions) (text : List ℕ) (dispatch : World) : Type 0 where
-  pub inputs : HasInputs options text dispatch.inputs
-  pub empty : dispatch.history ≡ []
 
 -- a dispatch over this park with the empty history
 pub record IsMadeOf (options : ParkOptions) (park : Park) (dispatch : World) : Type 0 where

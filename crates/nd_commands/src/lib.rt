@@ -12,5 +12,5 @@ mod simulation;
 mod verdict;
 
 pub use audit::{audit_engine, say_illegal, say_legal};
-pub use opening::{close_dispatch, open_dispatch, take_dispatch};
+pub use opening::{close_dispatch, take_dispatch};
 pub use sim::sim_engine;

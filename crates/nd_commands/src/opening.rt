@@ -1,14 +1,12 @@
 //! The dispatch over what a command was given, from its making to its end.
 
 ghost use Rattle.std.specs.Prelude.{◌≡◌, ◌≤◌, ◌||◌, [], false, length, IfOk, IfErr};
-ghost use Rattle.nd_history.specs.Premises.{Premises};
 ghost use Rattle.nd_cli.specs.Asked.{IsAskFault};
-ghost use Rattle.nd_cli.specs.Inputs.{OkUnlessMemory, is_read_failure};
-ghost use Rattle.nd_cli.specs.Parks.{IsParkFault};
+ghost use Rattle.nd_cli.specs.Inputs.{is_read_failure};
 ghost use Rattle.nd_cli.specs.declared.fault.CliFault.TheVariants.{Memory};
-ghost use Rattle.nd_commands.specs.Opened.{AnswersKnownInputs, HasInputs, IsMadeOf, IsOpened, ReadsInputs};
+ghost use Rattle.nd_commands.specs.Opened.{AnswersKnownInputs, IsMadeOf, ReadsInputs};
 
-use nd_cli::{CliFault, Park, ParkOptions, read_park, take_park};
+use nd_cli::{CliFault, Park, ParkOptions, take_park};
 use nd_devices::Told;
 use nd_ledger::Dispatch;
 use std::alloc::Global;
@@ -16,27 +14,8 @@ use std::io::Read;
 use std::mem;
 use std::thread::Threads;
 
-/// A dispatch over this bundle and the park of the options, with the empty history.
-///
-/// The first refusal in this order is answered: `TooLarge` or `Drvs` for the bundle, `TooLarge` or
-/// `Builders` for the builders list, `TooLarge` or `Info` for the info text. `Memory` may come at any
-/// point.
-pub fn open_dispatch(
-    rt: &(impl Threads + Sync),
-    alloc: Global,
-    options: &ParkOptions,
-    text: &[u8],
-) -> Result<Dispatch, CliFault>
-    ensures opened { IfOk result (IsOpened options.now text.now) }
-    ensures refused { IfErr result (IsParkFault options.now text.now) }
-    ensures exactly { (inputs : Premises) → HasInputs options.now text.now inputs → OkUnlessMemory result (λ dispatch. dispatch.inputs ≡ inputs) }
-{
-    let park = read_park(rt, alloc, options, text)?;
-    dispatch_over(rt, alloc, options, park)
-}
-
-/// A dispatch over the bundle on the input and the park of the options, with the empty history, as
-/// [`open_dispatch`] of its text. The input is read in blocks: its text is never in memory whole.
+/// A dispatch over the bundle on the input and the park of the options, with the empty history. The input is
+/// read in blocks: its text is never in memory whole.
 ///
 /// The first refusal in this order is answered: `Read`; `TooLarge` or `Drvs` for the bundle; `TooLarge` or
 /// `Builders` for the builders list; `TooLarge` or `Info` for the info text. `Memory` may come at any

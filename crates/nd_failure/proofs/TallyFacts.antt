@@ -262,7 +262,7 @@ count_from_failure marks cancelled failure =
     (within_if_marked marks failure.node (λ free. let both : mark.Failed ≡ mark.Free = sym failure.failed ∙ free in cc))
     (ap (λ (m : Mark). status_by m (get_or cancelled failure.node false)) failure.failed) refl
 
--- the statuses once nothing more is begun
+-- the statuses once no further lease is made
 abbrev pub stopped_statuses : List Mark → List Status
 stopped_statuses marks = map (λ m. status_by m true) marks
 

@@ -33,7 +33,7 @@ pub record HasFailure (marks : List Mark) : Type 0 where
   pub node : ℕ
   pub failed : mark_of marks node ≡ Failed
 
--- nothing more is begun: a stop was asked for, or a node has failed and the others don't go on
+-- no further lease is made: a stop was asked for, or a node has failed and the others don't go on
 abbrev pub IsStopped : Progress → Type 0
 IsStopped p = (p.stop ≡ true) ⊎ ((p.keep_going ≡ false) × HasFailure p.marks)
 

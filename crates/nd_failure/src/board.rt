@@ -205,7 +205,7 @@ impl Board {
         self.counts.cancelled += cancelled;
     }
 
-    /// Nothing more is begun.
+    /// No further lease is made.
     pub fn stop(&mut self)
         ensures { self.new ≡ record self.old { stop = true } }
     {
@@ -226,7 +226,7 @@ impl Board {
         self.counts.failed > 0
     }
 
-    /// Whether nothing more is begun: a stop was asked for, or a node has failed and the others don't go on.
+    /// Whether no further lease is made: a stop was asked for, or a node has failed and the others don't go on.
     fn is_stopped(&self) -> bool
         ensures { MatchBool result (IsStopped self.now) (IsStopped self.now → ⊥) }
     {

@@ -149,7 +149,7 @@ impl PlainBoard {
         );
     }
 
-    /// Nothing more is begun.
+    /// No further lease is made.
     pub fn stop(&mut self)
         ensures { self.new ≡ record self.old { stop = true } }
     {
@@ -169,7 +169,7 @@ impl PlainBoard {
         false
     }
 
-    /// Whether nothing more is begun: a stop was asked for, or a node has failed and the others don't go on.
+    /// Whether no further lease is made: a stop was asked for, or a node has failed and the others don't go on.
     fn is_stopped(&self) -> bool
         ensures { MatchBool result (IsStopped self.now) (IsStopped self.now → ⊥) }
     {

@@ -45,7 +45,7 @@ built_ranged i (Stop ∷ past) legal d h = built_ranged i past legal.1 d h
 built_ranged i (Drain m ∷ past) legal d h = built_ranged i past legal.1 d h
 built_ranged i (Enable m ∷ past) legal d h = built_ranged i past legal.1 d h
 
-failed_ranged : (i : Premises) (past : List Entry) → IsLegal i past → (d : ℕ) → is_failed d past ≡ true → d < drvs_in i
+pub failed_ranged : (i : Premises) (past : List Entry) → IsLegal i past → (d : ℕ) → is_failed d past ≡ true → d < drvs_in i
 failed_ranged i [] legal d h = cc
 failed_ranged i (Failed e why ∷ past) legal d h = newest_or i d e (is_failed d past) legal.0.ranged h (failed_ranged i past legal.1 d)
 failed_ranged i (NoBuilder e ∷ past) legal d h = newest_or i d e (is_failed d past) legal.0.ranged h (failed_ranged i past legal.1 d)

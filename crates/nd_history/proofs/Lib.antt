@@ -1,6 +1,7 @@
 pub mod Alike
 pub mod Boards
 pub mod Closing
+pub mod Doomed
 pub mod Following
 pub mod Headline
 pub mod IdleReplies

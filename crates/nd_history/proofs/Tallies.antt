@@ -1,8 +1,9 @@
 -- Each derivation has one status, and the numbers of derivations with each status sum to all.
-use Rattle.std.proofs.Common.{◌≡◌, ◌↔◌, IsTrue, ◌==◌, ℕ, ◌<◌, true, false, List, length, get_or, Contains, refl, sym, ◌∙◌, subst, arith, inl, inr, eq-eqb}
-use Rattle.std.proofs.lemmas.Bool.{cases_lt, eqb-true}
-use Rattle.std.proofs.lemmas.List.{get_or_default}
-use Rattle.nd_failure.specs.Statuses.{same_status, count_of}
+use Rattle.std.proofs.Common.{◌≡◌, ◌↔◌, IsTrue, ◌==◌, ℕ, zero, suc, ◌<◌, true, false, List, [], ◌∷◌, ◌++◌, length, get_or, Contains, refl, sym, ◌∙◌, ap, subst, arith, inl, inr, eq-eqb, length-append}
+use Rattle.std.proofs.lemmas.Bool.{cases_Bool, cases_lt, eqb-true}
+use Rattle.std.proofs.Math.Seq.{get_or-append_seam}
+use Rattle.std.proofs.lemmas.List.{get_or_default, get_or_append_left}
+use Rattle.nd_failure.specs.Statuses.{same_status, count_of, IsTally}
 use Rattle.nd_failure.specs.declared.status.Counts.{Counts}
 use Rattle.nd_failure.specs.declared.status.Status.{Status}
 use Rattle.nd_failure.specs.declared.status.Status.TheVariants.{Waiting, Leased, Built, Failed, Cancelled}
@@ -10,10 +11,12 @@ use Rattle.nd_failure.proofs.CountFacts.{count-from_Contains}
 use Rattle.nd_failure.proofs.TallyFacts.{total_of-tally, same_itself, passes_somewhere}
 use Rattle.nd_history.specs.declared.entry.Entry.{Entry}
 use Rattle.nd_history.specs.Premises.{Premises}
-use Rattle.nd_history.specs.Headline.{CountsSum}
+use Rattle.nd_history.specs.Headline.{HasOneStatus, CountsSum}
 use Rattle.nd_history.specs.Legal.{IsLegal}
-use Rattle.nd_history.specs.Standing.{drvs_in}
+use Rattle.nd_history.specs.History.{is_built, is_failed, is_leased}
+use Rattle.nd_history.specs.Standing.{drvs_in, IsOpen}
 use Rattle.nd_history.specs.Statuses.{HasStatusIn, AreCountsIn, IsFinished}
+use Rattle.nd_history.proofs.Doomed.{doomed_or}
 use Rattle.nd_history.proofs.Legality.{leased_fresh, built_settled}
 
 -- no derivation has two statuses
@@ -44,11 +47,75 @@ status_once i past legal d Waiting Leased h k = let fine = h.free.unleased in cc
 status_once i past legal d Waiting Cancelled h k = absurd (h.spared k.1)
 status_once i past legal d Waiting Waiting h k = refl
 
-pub counts_sum : (i : Premises) (past : List Entry) → IsLegal i past → CountsSum i past
-counts_sum i past legal = record {
-  once = status_once i past legal;
-  sum = λ counts are. total_of-tally are.statuses counts are.tally ∙ are.of_drvs.one_each;
+-- and each has one
+has_status : (i : Premises) (past : List Entry) → IsLegal i past → (d : ℕ) → (s : Status) × HasStatusIn i past d s
+has_status i past legal d = elim (cases_Bool (is_built d past)) [
+  | inl built ↦ (Built, built)
+  | inr unbuilt ↦ (elim (cases_Bool (is_failed d past)) [
+    | inl failed ↦ (Failed, failed)
+    | inr unfailed ↦ (elim (cases_Bool (is_leased d past)) [
+      | inl leased ↦ (Leased, leased)
+      | inr unleased ↦
+          let free : IsOpen past d = record { unbuilt = unbuilt; unfailed = unfailed; unleased = unleased } in
+          elim (doomed_or i past legal d) [
+            | inl doomed ↦ (Cancelled, (free, doomed))
+            | inr spared ↦ (Waiting, record { free = free; spared = spared })
+          ]
+    ])
+  ])
+]
+
+pub one_status : (i : Premises) (past : List Entry) → IsLegal i past → (d : ℕ) → HasOneStatus i past d
+one_status i past legal d = let some = has_status i past legal d in record {
+  status = some.0;
+  has = some.1;
+  only = λ other h. status_once i past legal d other some.0 h some.1;
 }
+
+-- the statuses of the first n derivations
+abbrev first_statuses : (ℕ → Status) → ℕ → List Status
+first_statuses of zero = []
+first_statuses of (suc n) = first_statuses of n ++ of n ∷ []
+
+as_many : (of : ℕ → Status) (n : ℕ) → length (first_statuses of n) ≡ n
+as_many of zero = refl
+as_many of (suc n) = length-append (first_statuses of n) (of n ∷ []) ∙ (let before = as_many of n in omega arith)
+
+each_status : (of : ℕ → Status) (n d : ℕ) → d < n → get_or (first_statuses of n) d Waiting ≡ of d
+each_status of zero d lt = absurd (omega arith)
+each_status of (suc n) d lt = elim (cases_lt d n) [
+  | inl before ↦ get_or_append_left (first_statuses of n) (of n ∷ []) Waiting d (let long = as_many of n in omega arith) ∙ each_status of n d before
+  | inr last ↦
+      let same : d ≡ length (first_statuses of n) = (let long = as_many of n in omega arith) in
+      let here : d ≡ n = omega arith in
+      ap (λ (k : ℕ). get_or (first_statuses of n ++ of n ∷ []) k Waiting) same ∙ get_or-append_seam (first_statuses of n) (of n) [] Waiting ∙ ap of (sym here)
+]
+
+pub counts_sum : (i : Premises) (past : List Entry) → IsLegal i past → CountsSum i past
+counts_sum i past legal =
+    let of : ℕ → Status = λ d. (one_status i past legal d).status in
+    let statuses : List Status = first_statuses of (drvs_in i) in
+    let counts : Counts = record {
+      waiting = count_of Waiting statuses;
+      leased = count_of Leased statuses;
+      built = count_of Built statuses;
+      failed = count_of Failed statuses;
+      cancelled = count_of Cancelled statuses;
+    } in
+    let tally : IsTally statuses counts = record { waiting = refl; leased = refl; built = refl; failed = refl; cancelled = refl } in
+    record {
+      one = λ d _. one_status i past legal d;
+      counts = counts;
+      counted = record {
+        statuses = statuses;
+        of_drvs = record {
+          one_each = as_many of (drvs_in i);
+          right = λ d lt. subst (λ (s : Status). HasStatusIn i past d s) (sym (each_status of (drvs_in i) d lt)) (one_status i past legal d).has;
+        };
+        tally = tally;
+      };
+      sum = total_of-tally statuses counts tally ∙ as_many of (drvs_in i);
+    }
 
 -- ---- what the numbers say
 

@@ -67,10 +67,19 @@ starts d _ = false
 pub record StartsAreOnce (past : List Entry) : Type 0 where
   pub once : (d : ℕ) → count_by (starts d) past ≤ 1
 
--- counts sum: no derivation has two statuses, and the numbers of derivations with each status sum to the number of derivations
+-- a derivation has a status, and no other
+pub record HasOneStatus (i : Premises) (past : List Entry) (d : ℕ) : Type 0 where
+  pub status : Status
+  pub has : HasStatusIn i past d status
+  pub only : (other : Status) → HasStatusIn i past d other → other ≡ status
+
+-- counts sum: each derivation of the graph has a status and no other, and the numbers of derivations with each status sum to the
+-- number of derivations
 pub record CountsSum (i : Premises) (past : List Entry) : Type 0 where
-  pub once : (d : ℕ) (s t : Status) → HasStatusIn i past d s → HasStatusIn i past d t → s ≡ t
-  pub sum : (counts : Counts) → AreCountsIn i past counts → total_of counts ≡ drvs_in i
+  pub one : (d : ℕ) → d < drvs_in i → HasOneStatus i past d
+  pub counts : Counts
+  pub counted : AreCountsIn i past counts
+  pub sum : total_of counts ≡ drvs_in i
 
 -- least-loaded choice: each choice of a builder was the best one at its place, and each choice of the local machine was the
 -- decision there, with a free local slot

@@ -117,7 +117,7 @@ is_failed d past = list_any (fails d) past
 abbrev pub has_stop : List Entry → Bool
 has_stop past = list_any is_stop past
 
--- nothing more is begun: a stop was asked for, or something failed and the rest doesn't go on
+-- no further lease is made: a stop was asked for, or something failed and the rest doesn't go on
 -- (Nix Reference Manual, the option `--keep-going`)
 abbrev pub is_stopped : Bool → List Entry → Bool
 is_stopped keep_going past = has_stop past || (not keep_going && list_any is_failure past)

@@ -38,7 +38,7 @@ pub enum Entry {
     Built { drv: u32, refs: Refs },
     /// A lease ended without outputs.
     Failed { drv: u32, why: Why },
-    /// Nothing more is begun.
+    /// No further lease is made; what is leased goes on.
     Stop,
     /// A machine gets no more leases.
     Drain { machine: u32 },

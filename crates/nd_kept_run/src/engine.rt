@@ -3,8 +3,8 @@
 ghost use Rattle.std.specs.Prelude.{◌≡◌, ◌==◌, ◌↔◌, None, false, not, reverse, map, vec_len, IfOk, IfErr, IsTrue};
 ghost use Rattle.nd_cli.specs.declared.fault.CliFault.{CliFault};
 ghost use Rattle.nd_history.specs.Legal.{IsLegal};
-ghost use Rattle.nd_keeping.specs.Scribing.{HoldsDurably, journal_text};
-ghost use Rattle.nd_kept_run.specs.KeptRuns.{HoldsHistory, RunsKeptTo, IsKeptFault, FailsKept, IsEndFault, IsToldOf};
+ghost use Rattle.nd_keeping.specs.Scribing.{BeginsScribing, HoldsDurably, journal_text};
+ghost use Rattle.nd_kept_run.specs.KeptRuns.{ComesBackKept, HoldsHistory, RunsKeptTo, IsKeptFault, IsEndFault, IsToldOf};
 ghost use Rattle.nd_run_command.specs.Ended.{IsStatusOf};
 ghost use Rattle.nd_run_command.specs.Ran.{EndsIn};
 ghost use Rattle.nd_run_desk.specs.Leaves.{IsFrontOf};
@@ -20,53 +20,37 @@ use nd_run_command::{refusal, write_end};
 use nd_serve_command::{Opened, ServeFault};
 use nd_transports::Transport;
 use nd_workers::{NotWritten, RunFault, Seat, Written, run_kept};
+use std::alloc::Global;
 use std::io::Write;
 use std::mem;
 use std::sync::Wait;
 use std::thread::Threads;
 
+/// The scribe of a journal that holds the history of what was opened, durable. It takes no memory.
+///
+/// Hands the journal back where there are 2^62 entries or more.
+pub fn scribe_of<J: Journal>(alloc: Global, opened: &Opened, journal: J) -> Result<Scribe<J>, J>
+    requires { HoldsDurably (J.stored journal) (journal_text (not (opened.now.kept == 0)) opened.now.dispatch.history) }
+    ensures begins { IfOk result (λ scribe. BeginsScribing scribe (J.stored journal) (not (opened.now.kept == 0)) opened.now.dispatch.history) }
+    ensures back { IfErr result (λ back. back ≡ journal) }
+{
+    let Opened { dispatch, kept } = opened;
+    Scribe::new(alloc, journal, *kept != 0, dispatch.history())
+}
+
 /// Runs a dispatch with these workers, one for each slot of the park, whose transports are of one type, and keeps
-/// each entry in the journal before anything is begun behind it. Then writes the text of the whole history, the
-/// entries that the journal held first, and where asked the report. Unless it ends with `Receipts`, nothing is
-/// leased or waits in the end, and unless it ends with that or with `JournalFailed` the journal holds the whole
-/// history, durable. The status is 1 where a derivation failed or was cancelled, and else 0.
+/// each entry in the scribe's journal, which holds its first entries already, before anything is begun behind it.
+/// Then writes the text of the whole history, the entries that the journal held first, and where asked the report.
+/// Unless it ends with `Receipts`, nothing is leased or waits in the end, each worker's transport was called just as
+/// the receipts of its entries say, and each time once the lease's choice, and for a build its start, was durable in
+/// that journal; and unless it ends with that or with `JournalFailed` the journal holds the whole history, durable.
+/// The status is 1 where a derivation failed or was cancelled, and else 0.
 ///
 /// `TooManySlots`: there are more than 1,024 workers, and nothing is written. `Write`: the writer refused, and is
 /// marked; a part of the text, from its beginning, is out. `Thread`, `Memory`, `Receipts` and `JournalFailed`: the
 /// run ended with that fault, and what came back is written before. `Memory` also where there was none to begin
 /// with; then nothing is written.
 pub fn run_kept_engine<T: Transport, J: Journal + Send + Drop, R: Threads + Wait + Sync, W: Write>(
-    rt: &R,
-    opened: Opened,
-    workers: Vec<Seat<T>>,
-    journal: J,
-    report: bool,
-    output: &mut Told<W>,
-) -> KeptEnd<J>
-    requires manned { AreManned opened.dispatch.inputs (map (λ w. w.place) workers.items) }
-    requires held { HoldsDurably (J.stored journal) (journal_text (not (opened.kept == 0)) opened.dispatch.history) }
-    requires writer { output.old.is_marked ≡ false }
-    ensures answer { IfOk result.answer (RunsKeptTo opened.dispatch report (J.stored result.journal) W.contents output.old output.new) }
-    ensures fault { IfErr result.answer (FailsKept opened.dispatch (vec_len workers) report J.stored journal result.journal W.contents output.old output.new) }
-    ensures mark { IsTrue output.new.is_marked ↔ (result.answer ≡ Err (ServeFault.Cli CliFault.Write)) }
-{
-    let alloc = *workers.allocator();
-    let Opened { dispatch, kept } = opened;
-    match Scribe::new(alloc, journal, kept != 0, dispatch.history()) {
-        Ok(scribe) => run_written(rt, dispatch, workers, scribe, report, output),
-        Err(journal) => {
-            mem::forget(dispatch);
-            mem::forget(workers);
-            KeptEnd {
-                answer: Err(ServeFault::Cli(CliFault::Memory)),
-                journal,
-            }
-        }
-    }
-}
-
-/// The same, with the scribe of the journal, which has the entries that it holds.
-fn run_written<T: Transport, J: Journal + Send + Drop, R: Threads + Wait + Sync, W: Write>(
     rt: &R,
     dispatch: Dispatch,
     workers: Vec<Seat<T>>,
@@ -78,8 +62,8 @@ fn run_written<T: Transport, J: Journal + Send + Drop, R: Threads + Wait + Sync,
     requires handed { IsFrontOf scribe.handed.entries dispatch.history }
     requires durable { IsFrontOf scribe.kept.entries dispatch.history }
     requires writer { output.old.is_marked ≡ false }
-    ensures answer { IfOk result.answer (RunsKeptTo dispatch report (J.stored result.journal) W.contents output.old output.new) }
-    ensures fault { IfErr result.answer (IsKeptFault dispatch (vec_len workers) report scribe.stored (J.stored result.journal) W.contents output.old output.new) }
+    ensures answer { IfOk result.answer (RunsKeptTo (ComesBackKept T.state scribe dispatch workers.items) report (J.stored result.journal) W.contents output.old output.new) }
+    ensures fault { IfErr result.answer (IsKeptFault (ComesBackKept T.state scribe dispatch workers.items) (vec_len workers) report scribe.stored (J.stored result.journal) W.contents output.old output.new) }
     ensures mark { IsTrue output.new.is_marked ↔ (result.answer ≡ Err (ServeFault.Cli CliFault.Write)) }
 {
     // What comes back is left to the system: the process ends with the command, and to let go of a large dispatch

@@ -7,6 +7,6 @@ mod kept_end;
 mod reporting;
 
 pub use auditing::audit_journal_engine;
-pub use engine::run_kept_engine;
+pub use engine::{run_kept_engine, scribe_of};
 pub use kept_end::KeptEnd;
 pub use reporting::report_engine;

@@ -1,8 +1,8 @@
 -- What the refusals of calls say of the rules by which entries are audited.
-use Rattle.std.proofs.Common.{◌≡◌, ◌==◌, ℕ, ◌<◌, Bool, true, false, cond, List, [], ◌∷◌, ◌++◌, reverse, refl, sym, subst, ap, ◌∙◌, inl, inr, Option, Some, None, MatchOption}
+use Rattle.std.proofs.Common.{◌≡◌, ◌==◌, ℕ, ◌<◌, Bool, true, false, cond, List, [], ◌∷◌, ◌++◌, length, reverse, refl, sym, subst, ap, ◌∙◌, inl, inr, Option, Some, None, MatchOption}
 use Rattle.std.specs.List.{find}
 use Rattle.nd_history.specs.declared.entry.Entry.{Entry}
-use Rattle.nd_history.specs.declared.entry.Entry.TheVariants.{Started as Starting, Down, Built, Failed, Stop}
+use Rattle.nd_history.specs.declared.entry.Entry.TheVariants.{Chosen, NoBuilder, Started as Starting, Down, Built, Failed, Stop, Drain, Enable}
 use Rattle.nd_leases.specs.declared.ticket.Ticket.{Ticket}
 use Rattle.nd_history.specs.declared.entry.Why.{Why}
 use Rattle.nd_history.specs.declared.rule.Rule.{Rule}
@@ -10,7 +10,7 @@ use Rattle.nd_history.specs.declared.rule.Rule.TheVariants.{Range, Ready, Decisi
 use Rattle.nd_history.specs.Premises.{Premises}
 use Rattle.nd_history.specs.History.{live, is_leased, lease_of, is_started, has_stop}
 use Rattle.nd_history.specs.Standing.{drvs_in}
-use Rattle.nd_history.specs.References.{ArePathsRight, AreReferencesRight}
+use Rattle.nd_history.specs.References.{outputs_of, ArePathsRight, AreReferencesRight}
 use Rattle.nd_history.specs.Legal.{IsAllowed, IsLegal}
 use Rattle.nd_history.specs.Audit.{IsSupplied, Passes}
 use Rattle.nd_history.proofs.Following.{newest_first}
@@ -25,7 +25,7 @@ use Rattle.nd_ledger.specs.declared.refusal.Refusal.{Refusal}
 use Rattle.nd_ledger.specs.declared.refusal.Refusal.TheVariants.{NotLive, AlreadyStarted, NotStarted, Uncovered, Extra, BadReferences, AlreadyStopped, Memory as NoMemory}
 use Rattle.nd_ledger.specs.Refusals.{IsLive, IsDownRefused, IsStopRefused}
 use Rattle.nd_ledger.specs.Moves.{IsStartRefused, IsEndRefused}
-use Rattle.nd_ledger.specs.Admitting.{is_over_paths, PassesFreely, IsAdmitRefused, admit_error_for}
+use Rattle.nd_ledger.specs.Admitting.{is_over_paths, HasAllLists, PassesFreely, IsAdmitRefused, admit_error_for}
 
 -- ---- the lease of a derivation
 
@@ -56,8 +56,8 @@ ticket_of d past (Some t) is = (own_lease d past t (sym is), own_live d past t (
 -- ---- rules that take no memory
 
 -- what passes each of those, one by one
-pub freely : (i : Premises) (past : List Entry) (e : Entry) → Passes i past e Range → Passes i past e Ready → Passes i past e Decision → Passes i past e Best → Passes i past e Slot → Passes i past e Live → Passes i past e StartedRule → Passes i past e Stopped → PassesFreely i past e
-freely i past e ranged ready decided best slot live started stopped = record { each = each }
+pub freely : (i : Premises) (past : List Entry) (e : Entry) → Passes i past e Range → Passes i past e Ready → Passes i past e Decision → Passes i past e Best → Passes i past e Slot → Passes i past e Live → Passes i past e StartedRule → Passes i past e Stopped → HasAllLists i e → PassesFreely i past e
+freely i past e ranged ready decided best slot live started stopped listed = record { each = each; listed = listed }
   where
     each : (rule : Rule) → is_over_paths rule ≡ false → Passes i past e rule
     each Range free = ranged
@@ -73,15 +73,26 @@ freely i past e ranged ready decided best slot live started stopped = record { e
 
 -- a start of a lease that is live and not started passes those
 pub free_start : (i : Premises) (past : List Entry) (d : ℕ) (paths : List (List ℕ)) → d < drvs_in i → is_leased d past ≡ true → is_started d past ≡ false → PassesFreely i past (Starting d paths)
-free_start i past d paths ranged leased fresh = freely i past (Starting d paths) ranged tt tt tt tt leased fresh tt
+free_start i past d paths ranged leased fresh = freely i past (Starting d paths) ranged tt tt tt tt leased fresh tt tt
 
--- .. and the end of a build of one that is live and started
-pub free_end : (i : Premises) (past : List Entry) (d : ℕ) (refs : List (List (List ℕ))) → d < drvs_in i → is_leased d past ≡ true → is_started d past ≡ true → PassesFreely i past (Built d refs)
-free_end i past d refs ranged leased started = freely i past (Built d refs) ranged tt tt tt tt leased started tt
+-- .. and the end of a build of one that is live and started, with a list for each output
+pub free_end : (i : Premises) (past : List Entry) (d : ℕ) (refs : List (List (List ℕ))) → d < drvs_in i → is_leased d past ≡ true → is_started d past ≡ true → length refs ≡ length (outputs_of i d) → PassesFreely i past (Built d refs)
+free_end i past d refs ranged leased started listed = freely i past (Built d refs) ranged tt tt tt tt leased started tt listed
+
+lists_allowed : (i : Premises) (past : List Entry) (e : Entry) → IsAllowed i e past → HasAllLists i e
+lists_allowed i past (Built d refs) allowed = allowed.may.right.sized
+lists_allowed i past (Chosen d m s) allowed = tt
+lists_allowed i past (NoBuilder d) allowed = tt
+lists_allowed i past (Starting d paths) allowed = tt
+lists_allowed i past (Down d) allowed = tt
+lists_allowed i past (Failed d why) allowed = tt
+lists_allowed i past Stop allowed = tt
+lists_allowed i past (Drain m) allowed = tt
+lists_allowed i past (Enable m) allowed = tt
 
 -- .. and what is allowed
 pub free_allowed : (i : Premises) (past : List Entry) (e : Entry) → IsAllowed i e past → PassesFreely i past e
-free_allowed i past e allowed = record { each = λ rule free. (rules_decide.allowed i past e).0 allowed rule }
+free_allowed i past e allowed = record { each = λ rule free. (rules_decide.allowed i past e).0 allowed rule; listed = lists_allowed i past e allowed }
 
 -- ---- what a call that succeeds says of its entry
 
@@ -139,7 +150,7 @@ end_at : (i : Premises) (past : List Entry) (t : Ticket) (refs : List (List (Lis
 end_at i past t refs NotLive ranged is h = absurd (h is)
 end_at i past t refs NotStarted ranged is h = built_early i past t.drv refs ranged (leased_by t.drv past t is) (λ started. let was = h.1 in cc)
 end_at i past t refs BadReferences ranged is h = built_wrongly i past t.drv refs ranged (leased_by t.drv past t is) h.1 h.2
-end_at i past t refs NoMemory ranged is h = free_end i past t.drv refs ranged (leased_by t.drv past t is) h.1
+end_at i past t refs NoMemory ranged is h = free_end i past t.drv refs ranged (leased_by t.drv past t is) h.1 h.2
 end_at i past t refs AlreadyStarted ranged is h = absurd h
 end_at i past t refs Uncovered ranged is h = absurd h
 end_at i past t refs Extra ranged is h = absurd h

@@ -1,10 +1,12 @@
 -- When an entry is not admitted. The histories of these definitions stand newest first. The clauses of `admit` cite this, but for
 -- `admit_error_for`, which serves a private one.
-use Rattle.std.specs.Prelude.{◌≡◌, Bool, true, false, List}
+use Rattle.std.specs.Prelude.{◌≡◌, Bool, true, false, List, length}
 use Rattle.nd_history.specs.declared.entry.Entry.{Entry}
+use Rattle.nd_history.specs.declared.entry.Entry.TheVariants.{Built}
 use Rattle.nd_history.specs.declared.rule.Rule.{Rule}
 use Rattle.nd_history.specs.declared.rule.Rule.TheVariants.{Range, Ready, Decision, Best, Slot, Live, Started, Paths, References, Stopped}
 use Rattle.nd_history.specs.Premises.{Premises}
+use Rattle.nd_history.specs.References.{outputs_of}
 use Rattle.nd_history.specs.Audit.{Passes, IsFirstRule}
 use Rattle.nd_ledger.specs.declared.refusal.AdmitError.{AdmitError}
 use Rattle.nd_ledger.specs.declared.refusal.AdmitError.TheVariants.{Illegal, Memory}
@@ -24,11 +26,17 @@ is_over_paths Paths = true
 is_over_paths References = true
 is_over_paths Stopped = false
 
--- no rule that takes no memory refuses the entry
+-- where the entry is the end of a build, it has one list of references for each output
+abbrev pub HasAllLists : Premises → Entry → Type 0
+HasAllLists i (Built d refs) = length refs ≡ length (outputs_of i d)
+HasAllLists i _ = Unit {0}
+
+-- the entry isn't refused by what is found without memory: by no rule that takes none, nor for the number of its lists of references
 pub record PassesFreely (i : Premises) (past : List Entry) (e : Entry) : Type 0 where
   pub each : (rule : Rule) → is_over_paths rule ≡ false → Passes i past e rule
+  pub listed : HasAllLists i e
 
--- the rule that is named is the first that refuses the entry; memory is wanting only where each rule passes that takes none
+-- the rule that is named is the first that refuses the entry; memory is wanting only where nothing refuses it that is found without
 abbrev pub IsAdmitRefused : Premises → List Entry → Entry → AdmitError → Type 0
 IsAdmitRefused i past e (Illegal rule) = IsFirstRule i past e rule
 IsAdmitRefused i past e Memory = PassesFreely i past e

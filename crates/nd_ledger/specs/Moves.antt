@@ -12,7 +12,7 @@ use Rattle.nd_history.specs.Books.{Recorded}
 use Rattle.nd_history.specs.Premises.{Premises}
 use Rattle.nd_history.specs.History.{live as leases, is_started}
 use Rattle.nd_ledger.specs.Refusals.{IsLive}
-use Rattle.nd_history.specs.References.{ArePathsRight, AreReferencesRight}
+use Rattle.nd_history.specs.References.{outputs_of, ArePathsRight, AreReferencesRight}
 use Rattle.nd_provision.specs.Stored.{Stored, Fits, AreStartAdditions, AreBuiltAdditions, IsUncovered, IsExtra}
 
 -- `started` is refused where the ticket isn't a live lease's, then where the lease was started, then where a path of the closure is
@@ -28,12 +28,12 @@ IsStartRefused i past t paths BadReferences = ⊥
 IsStartRefused i past t paths AlreadyStopped = ⊥
 
 -- `built` is refused where the ticket isn't a live lease's, then where the lease was not started, then where the references aren't
--- right; memory is wanted only for a live lease that was started
+-- right; memory is wanted only for a live lease that was started, with one list of references for each output
 abbrev pub IsEndRefused : Premises → List Entry → Ticket → List (List (List ℕ)) → Refusal → Type 0
 IsEndRefused i past t refs NotLive = IsLive past t → ⊥
 IsEndRefused i past t refs NotStarted = IsLive past t × (is_started t.drv past ≡ false)
 IsEndRefused i past t refs BadReferences = IsLive past t × (is_started t.drv past ≡ true) × (AreReferencesRight i past t.drv refs → ⊥)
-IsEndRefused i past t refs Memory = IsLive past t × (is_started t.drv past ≡ true)
+IsEndRefused i past t refs Memory = IsLive past t × (is_started t.drv past ≡ true) × (length refs ≡ length (outputs_of i t.drv))
 IsEndRefused i past t refs AlreadyStarted = ⊥
 IsEndRefused i past t refs Uncovered = ⊥
 IsEndRefused i past t refs Extra = ⊥

@@ -20,7 +20,7 @@ impl Dispatch {
     ///
     /// Refuses with `Illegal` (1) where it isn't, naming the first rule that refuses it, and with
     /// `Memory` (2) where an allocation is refused; that comes only where every rule passes but perhaps
-    /// those over paths and references.
+    /// those over paths and references, and where the end of a build has one list of references per output.
     pub fn admit(&mut self, alloc: Global, entry: Entry) -> Result<(), AdmitError>
         ensures ok { OnOk result (self.new ≡ record self.old { history = self.old.history ++ entry ∷ [] }) }
         ensures allowed { OnOk result (IsAllowed self.old.inputs entry (reverse self.old.history)) }

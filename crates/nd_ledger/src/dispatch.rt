@@ -218,7 +218,8 @@ impl Dispatch {
     /// Refuses with `NotLive` (1) where the ticket is not a live lease's, then with `NotStarted` (3)
     /// where the lease was not started, then with `BadReferences` (6) where there is not one set per
     /// output, or a reference is neither in the input closure nor an output, and with `Memory` (8)
-    /// where an allocation is refused. The references come back then.
+    /// where an allocation is refused, which comes only where there is one set per output. The references
+    /// come back then.
     pub fn built(&mut self, alloc: Global, ticket: Ticket, refs: Refs) -> Result<(), Refused<Refs>>
         ensures ok { OnOk result (self.new ≡ record self.old { history = self.old.history ++ Entry.Built ticket.drv refs ∷ [] }) }
         ensures live { OnOk result (IsLive (reverse self.old.history) ticket) }
@@ -336,7 +337,8 @@ impl Dispatch {
         Ok(())
     }
 
-    /// Nothing more is begun: what waits is cancelled, and what is leased goes on. It takes no memory.
+    /// No further lease is made: what waits is cancelled, and what is leased goes on, a lease that wasn't started
+    /// yet too. It takes no memory.
     ///
     /// Refuses with `AlreadyStopped` (7) where a stop was asked for before, and else succeeds.
     pub fn stop(&mut self) -> Result<(), Refusal>
@@ -451,7 +453,7 @@ impl Dispatch {
     }
 
     /// The status of derivation `i`: built, failed or leased as its entries say; else cancelled where
-    /// nothing more is begun or a derivation that it depends on failed; and else waiting. What a failure
+    /// no further lease is made or a derivation that it depends on failed; and else waiting. What a failure
     /// cancels is the rule of Nix (Nix Reference Manual, the option `--keep-going`). It takes no memory.
     pub fn status(&self, i: usize) -> Status
         requires { i < drvs_in self.now.inputs }
@@ -505,8 +507,8 @@ impl Dispatch {
     ///   inputs were built; and none was started twice;
     /// - eligible and provisioned: each start was that of a lease on a machine that was eligible, and
     ///   that machine holds the derivation's input closure;
-    /// - counts sum: no derivation has two statuses, and the numbers of derivations with each status
-    ///   sum to the number of derivations;
+    /// - counts sum: each derivation has one status and no other, and the numbers of derivations with
+    ///   each status sum to the number of derivations;
     /// - least-loaded choice: each choice of a builder was the least loaded of the eligible machines
     ///   that were up and free at its place in the history.
     #[tactic(auto, using(nd_history::proofs::Headline::slots_are_leases, nd_history::proofs::Headline::leases_are_in_order, nd_history::proofs::StartsOnce::starts_are_once, nd_history::proofs::Headline::starts_are_eligible, nd_history::proofs::Tallies::counts_sum, nd_history::proofs::Headline::choices_are_best, nd_history::proofs::Provisions::starts_are_provisioned))]

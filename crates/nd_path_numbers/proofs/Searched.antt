@@ -7,11 +7,12 @@ use Rattle.std.proofs.lemmas.List.Elements.{Contains-append_left, Contains-appen
 use Rattle.nd_path.specs.PathSets.{HasSameMembers}
 use Rattle.nd_closure.specs.Tables.{refs_of}
 use Rattle.nd_closure.specs.Closures.{IsReached}
-use Rattle.nd_closure.specs.Closures.IsReached.{seed as begin, step as onward}
+use Rattle.nd_closure.specs.Closures.IsReached.{seed as start, step as further}
 use Rattle.nd_path_numbers.specs.Numbers.{Numbered, path_in, row_in, AreNumbered, AreKnown}
 use Rattle.nd_path_numbers.specs.Held.{is_among, with_new}
-use Rattle.nd_path_numbers.specs.Searches.{IsCovered, AddsUnheld, IsAlong, AreUnheld, IsUnheld}
+use Rattle.nd_path_numbers.specs.Searches.{IsCovered, AddsUnheld, IsAlong, AreUnheld, IsReachedUnheld, IsUnheld}
 use Rattle.nd_path_numbers.specs.Searches.IsAlong.{seed, step}
+use Rattle.nd_path_numbers.specs.Searches.IsReachedUnheld.{seed as begin, step as onward}
 use Rattle.nd_path_numbers.proofs.Holding.{member_by_test}
 
 -- ---- one call that adds numbers
@@ -80,16 +81,14 @@ covers_one numbers held new made i n lt at covers is = elim (cases_Bool (is_amon
 -- the search has found these numbers, and has looked at the rows of the first n
 pub record Searched (rows : List (List ℕ)) (held seeds found : List ℕ) (n : ℕ) : Type 0 where
   pub within : n ≤ length found
-  pub reached : (k : ℕ) → Contains found k → IsAlong rows seeds k
-  pub lacked : (k : ℕ) → Contains found k → Contains held k → ⊥
+  pub reached : (k : ℕ) → Contains found k → IsAlong rows held seeds k
   pub seeded : IsCovered seeds held found
   pub onward : (k : ℕ) → k < n → IsCovered (row_in rows (get_or found k 0)) held found
 
 pub begun : (rows : List (List ℕ)) (held seeds found : List ℕ) → AddsUnheld held [] found seeds → IsCovered seeds held found → Searched rows held seeds found 0
 begun rows held seeds found only all = record {
   within = omega arith;
-  reached = λ k h. seed k (only.among k (subst (λ (xs : List ℕ). Contains xs k) only.grown h));
-  lacked = λ k h. only.lacked k (subst (λ (xs : List ℕ). Contains xs k) only.grown h);
+  reached = λ k h. let new : Contains only.added k = subst (λ (xs : List ℕ). Contains xs k) only.grown h in seed k (only.among k new) (only.lacked k new);
   seeded = all;
   onward = λ k lt. absurd (omega arith);
 }
@@ -103,11 +102,7 @@ gone_on rows held seeds found grown n s lt only all =
       within = omega (arith, length-append found only.added);
       reached = λ k h. elim (Contains-append_cases found only.added k h) [
         | inl before ↦ s.reached k before
-        | inr new ↦ step (get_or found n 0) k (s.reached (get_or found n 0) (Contains-get_or found n 0 lt)) (only.among k new)
-      ];
-      lacked = λ k h. elim (Contains-append_cases found only.added k h) [
-        | inl before ↦ s.lacked k before
-        | inr new ↦ only.lacked k new
+        | inr new ↦ step (get_or found n 0) k (s.reached (get_or found n 0) (Contains-get_or found n 0 lt)) (only.among k new) (only.lacked k new)
       ];
       seeded = covers_grown seeds held found only.added s.seeded;
       onward = λ k h.
@@ -121,7 +116,6 @@ gone_on rows held seeds found grown n s lt only all =
 pub ended : (rows : List (List ℕ)) (held seeds found : List ℕ) (n : ℕ) → Searched rows held seeds found n → length found ≤ n → AreUnheld rows held seeds found
 ended rows held seeds found n s all = record {
   reached = s.reached;
-  lacked = s.lacked;
   seeded = s.seeded;
   onward = λ k h.
       let at : get_or found h.0 0 ≡ k = get_or_default found h.0 0 k h.1 ∙ h.2 in
@@ -129,6 +123,16 @@ ended rows held seeds found n s all = record {
 }
 
 -- ---- the paths with these numbers
+
+-- the last path of a walk of which none is held isn't held
+pub last_unheld : (entries : List (List ℕ × List (List ℕ))) (held seeds : List (List ℕ)) (p : List ℕ) → IsReachedUnheld entries held seeds p → Contains held p → ⊥
+last_unheld entries held seeds p (begin q h free) = free
+last_unheld entries held seeds p (onward q r w h free) = free
+
+-- a walk of which no path is held is a walk
+pub walk_reached : (entries : List (List ℕ × List (List ℕ))) (held seeds : List (List ℕ)) (p : List ℕ) → IsReachedUnheld entries held seeds p → IsReached entries seeds p
+walk_reached entries held seeds p (begin q h free) = start q h
+walk_reached entries held seeds p (onward q r w h free) = further q r (walk_reached entries held seeds q w) h
 
 -- a path of a list of numbers is that of one of them
 pub named : (paths : List (List ℕ)) (numbers : List ℕ) (p : List ℕ) → Contains (map (path_in paths) numbers) p → (n : ℕ) × Contains numbers n × (path_in paths n ≡ p)
@@ -139,24 +143,27 @@ named paths numbers p h =
 pub has_name : (paths : List (List ℕ)) (numbers : List ℕ) (n : ℕ) → Contains numbers n → Contains (map (path_in paths) numbers) (path_in paths n)
 has_name paths numbers n h = (h.0, subst (λ (k : ℕ). h.0 < k) (sym (length-map numbers (path_in paths))) h.1, get_or-map (path_in paths) numbers h.0 n (path_in paths n) h.1 ∙ ap (path_in paths) h.2)
 
-along_reached : (entries : List (List ℕ × List (List ℕ))) (n : Numbered) (seeds : List ℕ) → AreNumbered entries n → (k : ℕ) → IsAlong n.rows seeds k → IsReached entries (map (path_in n.paths) seeds) (path_in n.paths k)
-along_reached entries n seeds are k (seed j h) = begin (path_in n.paths j) (has_name n.paths seeds j h)
-along_reached entries n seeds are k (step j i r h) = onward (path_in n.paths j) (path_in n.paths i) (along_reached entries n seeds are j r) (are.sound j i h)
+along_known : (entries : List (List ℕ × List (List ℕ))) (n : Numbered) (held seeds : List ℕ) → AreNumbered entries n → AreKnown n.paths seeds → (k : ℕ) → IsAlong n.rows held seeds k → k < length n.paths
+along_known entries n held seeds are known k (seed j h free) = known.each j h
+along_known entries n held seeds are known k (step j i r h free) = (are.ranged j i h).1
 
-along_known : (entries : List (List ℕ × List (List ℕ))) (n : Numbered) (seeds : List ℕ) → AreNumbered entries n → AreKnown n.paths seeds → (k : ℕ) → IsAlong n.rows seeds k → k < length n.paths
-along_known entries n seeds are known k (seed j h) = known.each j h
-along_known entries n seeds are known k (step j i r h) = (are.ranged j i h).1
+-- a path whose number isn't held isn't held
+not_named : (entries : List (List ℕ × List (List ℕ))) (n : Numbered) (held : List ℕ) → AreNumbered entries n → AreKnown n.paths held → (k : ℕ) → k < length n.paths → (Contains held k → ⊥) → Contains (map (path_in n.paths) held) (path_in n.paths k) → ⊥
+not_named entries n held are known k lt free h = let there = named n.paths held (path_in n.paths k) h in
+    free (subst (λ (x : ℕ). Contains held x) (are.distinct.one there.0 k (known.each there.0 there.1) lt there.2) there.1)
+
+along_reached : (entries : List (List ℕ × List (List ℕ))) (n : Numbered) (held seeds : List ℕ) → AreNumbered entries n → AreKnown n.paths held → AreKnown n.paths seeds → (k : ℕ) → IsAlong n.rows held seeds k → IsReachedUnheld entries (map (path_in n.paths) held) (map (path_in n.paths) seeds) (path_in n.paths k)
+along_reached entries n held seeds are held_known seeds_known k (seed j h free) = begin (path_in n.paths j) (has_name n.paths seeds j h) (not_named entries n held are held_known j (seeds_known.each j h) free)
+along_reached entries n held seeds are held_known seeds_known k (step j i r h free) = onward (path_in n.paths j) (path_in n.paths i) (along_reached entries n held seeds are held_known seeds_known j r) (are.sound j i h) (not_named entries n held are held_known i (are.ranged j i h).1 free)
 
 pub unheld_named : (entries : List (List ℕ × List (List ℕ))) (n : Numbered) (held seeds found : List ℕ) (paths : List (List ℕ)) → AreNumbered entries n → AreKnown n.paths held → AreKnown n.paths seeds → AreUnheld n.rows held seeds found
     → (AreKnown n.paths found → HasSameMembers (map (path_in n.paths) found) paths) → IsUnheld entries (map (path_in n.paths) held) (map (path_in n.paths) seeds) paths
 unheld_named entries n held seeds found paths are held_known seeds_known s members =
-    let known : AreKnown n.paths found = record { each = λ k h. along_known entries n seeds are seeds_known k (s.reached k h) } in
+    let known : AreKnown n.paths found = record { each = λ k h. along_known entries n held seeds are seeds_known k (s.reached k h) } in
     let same : HasSameMembers (map (path_in n.paths) found) paths = members known in
     record {
       reached = λ p h. let at = named n.paths found p (same.from p h) in
-          subst (λ (x : List ℕ). IsReached entries (map (path_in n.paths) seeds) x) at.2 (along_reached entries n seeds are at.0 (s.reached at.0 at.1));
-      lacked = λ p h k. let at = named n.paths found p (same.from p h) in let there = named n.paths held p k in
-          s.lacked at.0 at.1 (subst (λ (x : ℕ). Contains held x) (sym (are.distinct.one at.0 there.0 (known.each at.0 at.1) (held_known.each there.0 there.1) (at.2 ∙ sym there.2))) there.1);
+          subst (λ (x : List ℕ). IsReachedUnheld entries (map (path_in n.paths) held) (map (path_in n.paths) seeds) x) at.2 (along_reached entries n held seeds are held_known seeds_known at.0 (s.reached at.0 at.1));
       seeded = λ p h. let at = named n.paths seeds p h in there_or_held known same p at.0 at.2 (s.seeded.each at.0 at.1);
       onward = λ p q h k. let at = named n.paths found p (same.from p h) in
           let to = are.complete at.0 q (known.each at.0 at.1) (subst (λ (x : List ℕ). Contains (refs_of entries x) q) (sym at.2) k) in

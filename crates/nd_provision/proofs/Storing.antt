@@ -18,7 +18,7 @@ use Rattle.nd_path_numbers.specs.Numbers.{Numbered, path_in, row_in, AreKnown, A
 use Rattle.nd_path_numbers.specs.Held.{Hold, hold_of}
 use Rattle.nd_path_numbers.specs.Searches.{IsUnheld, FindsUnheld}
 use Rattle.nd_path_numbers.proofs.Growing.{known_stay, names_stay, numbered_grown}
-use Rattle.nd_path_numbers.proofs.Searched.{named, has_name}
+use Rattle.nd_path_numbers.proofs.Searched.{named, has_name, last_unheld, walk_reached}
 use Rattle.nd_closure.specs.Closures.IsReached.{seed as start, step as onward}
 use Rattle.nd_closure.proofs.Members.{member_by_test}
 use Rattle.nd_history.specs.declared.entry.Entry.{Entry}
@@ -90,7 +90,7 @@ closure_by i s d paths ranged finds = record {
       let found : IsUnheld s.entries [] (seeds_of s d) paths = finds.tells s.entries kept.numbered none (kept.seeds.known d) in
       let are = kept.seeds.needed d ranged in
       let refers = table_refers i past s.entries kept.references in (
-        λ h. reached_along s.entries (seeds_of s d) (λ q k. (are.exact q).0 k) (λ q r k. (refers q r).0 k) p (found.reached p h),
+        λ h. reached_along s.entries (seeds_of s d) (λ q k. (are.exact q).0 k) (λ q r k. (refers q r).0 k) p (walk_reached s.entries [] (seeds_of s d) p (found.reached p h)),
         λ h. along_within (λ x. Contains paths x)
             (λ q k. elim (found.seeded q ((are.exact q).1 k)) [ inl there ↦ there | inr held ↦ absurd (nothing_in q held) ])
             (λ q r there refs. elim (found.onward q r there ((refers q r).1 refs)) [ inl more ↦ more | inr held ↦ absurd (nothing_in r held) ])
@@ -126,8 +126,8 @@ unheld_by i s d m paths within ranged whole finds = record {
       let refers = table_refers i past s.entries kept.references in
       let holds = kept.whole whole m within in
       record {
-        needed = λ p h. reached_along s.entries (seeds_of s d) (λ q k. (are.exact q).0 k) (λ q r k. (refers q r).0 k) p (found.reached p h);
-        lacked = λ p h held. found.lacked p h ((kept.holdings.held m within p).1 held);
+        needed = λ p h. reached_along s.entries (seeds_of s d) (λ q k. (are.exact q).0 k) (λ q r k. (refers q r).0 k) p (walk_reached s.entries (paths_on s m) (seeds_of s d) p (found.reached p h));
+        lacked = λ p h held. last_unheld s.entries (paths_on s m) (seeds_of s d) p (found.reached p h) ((kept.holdings.held m within p).1 held);
         all = λ p h. along_within (λ x. Contains paths x ⊎ IsHeld i past m x)
             (λ q k. elim (found.seeded q ((are.exact q).1 k)) [ inl there ↦ inl there | inr held ↦ inr ((kept.holdings.held m within q).0 held) ])
             (λ q r k refs. elim k [

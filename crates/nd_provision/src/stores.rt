@@ -1,6 +1,6 @@
 //! What machines hold and what paths refer to, kept beside the entries of a history.
 
-ghost use Rattle.std.specs.Prelude.{◌≡◌, ◌<◌, ◌≤◌, true, length, IfOk, OnOk, IfErr, IfSome, OnSome};
+ghost use Rattle.std.specs.Prelude.{◌≡◌, ◌<◌, ◌≤◌, true, length, IfOk, OnOk, IfErr, OnErr, IfSome, OnSome};
 ghost use Rattle.nd_path_numbers.specs.Numbers.{AreKnown, AreNumbersOf, row_in};
 ghost use Rattle.nd_history.specs.Premises.{premises_of};
 ghost use Rattle.nd_history.specs.References.{outputs_of};
@@ -248,7 +248,8 @@ impl Stores {
     }
 
     /// Whether these are references that a build of derivation `drv` may report: one set per output,
-    /// each in its input closure or among its outputs.
+    /// each in its input closure or among its outputs. Refuses only where an allocation is refused, and never
+    /// where there isn't one set per output: that is found without memory.
     pub fn check_references(
         &self,
         alloc: Global,
@@ -257,7 +258,8 @@ impl Stores {
         refs: &Refs,
     ) -> Result<bool, AllocError>
         requires { drv < length inputs.now.graph.paths }
-        ensures { IfOk result (AreReferencesRightBy (premises_of inputs.now) self.now drv refs.now) }
+        ensures right { IfOk result (AreReferencesRightBy (premises_of inputs.now) self.now drv refs.now) }
+        ensures sized { OnErr result (length refs.now ≡ length (outputs_of (premises_of inputs.now) drv)) }
     {
         let outputs = inputs.graph.outputs(drv);
         if refs.lists().len() != outputs.len() {

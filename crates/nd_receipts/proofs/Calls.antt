@@ -1,16 +1,20 @@
 -- Lemmas on receipts that are compared with a history.
 use Rattle.std.proofs.Common.{◌≡◌, ℕ, ◌==◌, Bool, true, false, List, [], ◌∷◌, ◌++◌, reverse, take, refl, sym, ap, ◌∙◌, subst, eq-eqb, append_assoc, inl, inr, Vec}
+use Rattle.std.specs.Prelude.{All}
+use Rattle.std.proofs.lemmas.Bool.{eqb-true}
+use Rattle.std.proofs.lemmas.List.Elements.{All-nil, All-cons}
 use Rattle.std.specs.List.{AllZip}
 use Rattle.nd_history.specs.declared.entry.Entry.{Entry}
 use Rattle.nd_history.specs.declared.entry.Entry.TheVariants.{Chosen, NoBuilder, Started, Down, Built, Failed, Stop, Drain, Enable}
 use Rattle.nd_history.specs.declared.entry.Why.{Why}
 use Rattle.nd_history.specs.declared.entry.Why.TheVariants.{Status, Lost, BadReferences, NoWorker, Memory}
-use Rattle.nd_history.specs.History.{is_started}
+use Rattle.nd_history.specs.History.{is_started, ends}
 use Rattle.nd_transports.specs.declared.kinds.Call.{Call}
 use Rattle.nd_transports.specs.declared.kinds.Call.TheVariants.{Build}
 use Rattle.nd_receipts.specs.declared.receipt.Receipt.{Receipt}
 use Rattle.nd_receipts.specs.declared.standing.Standing.{Standing}
-use Rattle.nd_receipts.specs.Receipts.{AreCallsOfShortage, AreCallsOfFailure, AreCallsFor, AreCallsBy, AreCallsOf, AreCallsAt, AreCallsIn}
+use Rattle.nd_transports.specs.Calls.{Deed, calls_of}
+use Rattle.nd_receipts.specs.Receipts.{AreCallsOfShortage, AreCallsOfFailure, AreCallsFor, AreCallsBy, AreCallsOf, AreCallsAt, AreCallsIn, AreDueFor, IsOf}
 use Rattle.nd_receipts.specs.Receipts.AreCallsIn.{none, more}
 use Rattle.nd_receipts.specs.Noted.{AreLeases, IsNotedIn, AreRowsNotedBy, AreRowsNoted}
 use Rattle.nd_receipts.specs.Noted.AreLeases.{none as no_leases, unstarted, served, left}
@@ -52,29 +56,53 @@ calls_by : (own past : List Entry) (n : ℕ) (paths : List (List ℕ)) (refs : L
 calls_by own past n paths refs e these true h says = h
 calls_by own past n paths refs e these false h says = calls_for own past n paths refs e these h (λ d is. says d is refl)
 
-calls_at : (opened : ℕ) (history own : List Entry) (r : Receipt) (e : Entry) (these : List Call) → AreCallsOf own r e these → IsNotedIn opened history r e → AreCallsAt opened history r these
-calls_at opened history own r e these h noted = record {
+calls_at : (Due : ℕ → Deed → Type 0) (opened : ℕ) (history own : List Entry) (r : Receipt) (e : Entry) (these : List Deed) → AreCallsOf own r e (calls_of these) → AreDueFor Due e these → IsNotedIn opened history r e → AreCallsAt Due opened history r these
+calls_at Due opened history own r e these h due noted = record {
   entry = e;
   at = noted.at;
   again = noted.again;
   calls = record {
     kind = h.kind;
-    calls = calls_by own (reverse (take r.index history)) r.calls r.paths r.refs e these r.again h.calls noted.start.each;
+    calls = calls_by own (reverse (take r.index history)) r.calls r.paths r.refs e (calls_of these) r.again h.calls noted.start.each;
   };
+  due = due;
 }
+
+-- the derivation of the end of a lease
+ended_of : (d e : ℕ) (entry : Entry) → ends d entry ≡ true → IsOf e entry → d ≡ e
+ended_of d e (Started x copied) is own = cc
+ended_of d e (Down x) is own = eqb-true d x is ∙ own
+ended_of d e (Built x refs) is own = eqb-true d x is ∙ own
+ended_of d e (Failed x why) is own = eqb-true d x is ∙ own
+ended_of d e (Chosen x m s) is own = absurd own
+ended_of d e (NoBuilder x) is own = absurd own
+ended_of d e Stop is own = absurd own
+ended_of d e (Drain m) is own = absurd own
+ended_of d e (Enable m) is own = absurd own
+
+due_end : (Due : ℕ → Deed → Type 0) (d : ℕ) (entry : Entry) (these : List Deed) → ends d entry ≡ true → All (Due d) these → AreDueFor Due entry these
+due_end Due d entry these is all = record { each = λ e own. subst (λ (x : ℕ). All (Due x) these) (ended_of d e entry is own) all }
+
+due_start : (Due : ℕ → Deed → Type 0) (d : ℕ) (paths : List (List ℕ)) (entry : Entry) (these : List Deed) → entry ≡ Started d paths → All (Due d) these → AreDueFor Due entry these
+due_start Due d paths entry these is all =
+    let P : Entry → Type 0 = λ x. AreDueFor Due x these in
+    subst P (sym is) (record { each = λ e own. subst (λ (x : ℕ). All (Due x) these) own all })
 
 -- ---- all receipts
 
 -- the history's entries in the place of the copies
-pub calls_in : (opened : ℕ) (history : List Entry) (rs : List Receipt) (es : List Entry) (cs : List Call) → AreLeases rs es cs → AllZip (IsNotedIn opened history) rs es → AreCallsIn opened history rs cs
-calls_in opened history rs es cs no_leases all = none
-calls_in opened history rs es cs (unstarted r e these rest_rs rest_es rest h t) all = more r these rest_rs rest (calls_at opened history [] r e these h.calls all.0) (calls_in opened history rest_rs rest_es rest t all.1)
-calls_in opened history rs es cs (served r q start end these rest_rs rest_es rest h t) all =
-    let one : List Call = Build h.drv h.answer ∷ [] in
-    let P : List Call → Type 0 = λ calls. AreCallsIn opened history (r ∷ q ∷ rest_rs) calls in
-    let later : AreCallsIn opened history (q ∷ rest_rs) (one ++ rest) = more q one rest_rs rest (calls_at opened history (Started h.drv h.paths ∷ []) q end one h.finishes.calls all.1.0) (calls_in opened history rest_rs rest_es rest t all.1.1) in
-    subst P (sym (ap (λ calls. calls ++ rest) h.calls_are ∙ append_assoc h.fetched one rest)) (more r h.fetched (q ∷ rest_rs) (one ++ rest) (calls_at opened history [] r start h.fetched h.begins all.0) later)
-calls_in opened history rs es cs (left r e these rest_rs rest_es rest h t) all = more r these rest_rs rest (calls_at opened history [] r e these h.begins all.0) (calls_in opened history rest_rs rest_es rest t all.1)
+pub calls_in : (Due : ℕ → Deed → Type 0) (opened : ℕ) (history : List Entry) (rs : List Receipt) (es : List Entry) (cs : List Deed) → AreLeases Due rs es cs → AllZip (IsNotedIn opened history) rs es → AreCallsIn Due opened history rs cs
+calls_in Due opened history rs es cs no_leases all = none
+calls_in Due opened history rs es cs (unstarted r e these rest_rs rest_es rest h t) all = more r these rest_rs rest (calls_at Due opened history [] r e these h.calls (due_end Due h.drv e these h.ends h.due) all.0) (calls_in Due opened history rest_rs rest_es rest t all.1)
+calls_in Due opened history rs es cs (served r q start end these rest_rs rest_es rest h t) all =
+    let one : List Deed = h.last ∷ [] in
+    let P : List Deed → Type 0 = λ deeds. AreCallsIn Due opened history (r ∷ q ∷ rest_rs) deeds in
+    let Q : Call → Type 0 = λ call. AreCallsOf (Started h.drv h.paths ∷ []) q end (call ∷ []) in
+    let behind : AreCallsAt Due opened history q one = calls_at Due opened history (Started h.drv h.paths ∷ []) q end one (subst Q (sym h.build.call) h.finishes.calls) (due_end Due h.drv end one h.finishes.ends (All-cons (Due h.drv) h.last [] h.build.due (All-nil (Due h.drv)))) all.1.0 in
+    let later : AreCallsIn Due opened history (q ∷ rest_rs) (one ++ rest) = more q one rest_rs rest behind (calls_in Due opened history rest_rs rest_es rest t all.1.1) in
+    let first : AreCallsAt Due opened history r h.fetched = calls_at Due opened history [] r start h.fetched h.begins.begins (due_start Due h.drv h.paths start h.fetched h.begins.start_is h.begins.due) all.0 in
+    subst P (sym (ap (λ deeds. deeds ++ rest) h.deeds_are ∙ append_assoc h.fetched one rest)) (more r h.fetched (q ∷ rest_rs) (one ++ rest) first later)
+calls_in Due opened history rs es cs (left r e these rest_rs rest_es rest h t) all = more r these rest_rs rest (calls_at Due opened history [] r e these h.begins.begins (due_start Due h.drv h.paths e these h.begins.start_is h.begins.due) all.0) (calls_in Due opened history rest_rs rest_es rest t all.1)
 
 -- ---- what was being built
 

@@ -29,7 +29,7 @@ is_made (Enable m) = false
 abbrev pub made : List Entry → ℕ
 made history = count_by is_made history
 
--- it says neither that nothing more is begun nor that no worker serves a lease, and neither drains nor enables a machine
+-- it says neither that no further lease is made nor that no worker serves a lease, and neither drains nor enables a machine
 abbrev pub is_quiet : Entry → Bool
 is_quiet (Failed d why) = is_worker_cause why
 is_quiet Stop = false

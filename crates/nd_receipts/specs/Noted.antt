@@ -1,6 +1,6 @@
 -- What a worker notes: receipts, and beside each a copy of its entry. No clause of `run` cites these definitions: those of
 -- the functions between a worker's notes and the comparison with the history do. This project's own choice.
-use Rattle.std.specs.Prelude.{◌≡◌, ℕ, ◌+◌, ◌==◌, ◌<◌, ◌≤◌, List, [], ◌∷◌, ◌++◌, ◌⊎◌, Bool, true, false, length, slice_get, take, reverse, Option, Some, None, Vec}
+use Rattle.std.specs.Prelude.{◌≡◌, ℕ, ◌+◌, ◌==◌, ◌<◌, ◌≤◌, List, [], ◌∷◌, ◌++◌, ◌⊎◌, Bool, true, false, length, slice_get, take, reverse, Option, Some, None, Vec, All}
 use Rattle.std.specs.List.{AllZip}
 use Rattle.nd_history.specs.declared.entry.Entry.{Entry}
 use Rattle.nd_history.specs.declared.entry.Entry.TheVariants.{Chosen, NoBuilder, Started, Down, Built, Failed, Stop, Drain, Enable}
@@ -11,7 +11,7 @@ use Rattle.nd_transports.specs.declared.kinds.Answer.{Answer}
 use Rattle.nd_transports.specs.declared.kinds.Answer.TheVariants.{Built as AnswerBuilt, Status as AnswerStatus, Lost as AnswerLost, Memory as AnswerMemory}
 use Rattle.nd_transports.specs.declared.kinds.Call.{Call}
 use Rattle.nd_transports.specs.declared.kinds.Call.TheVariants.{Build}
-use Rattle.nd_transports.specs.Calls.{State}
+use Rattle.nd_transports.specs.Calls.{State, Deed, calls_of}
 use Rattle.nd_receipts.specs.declared.receipt.Behind.{Behind}
 use Rattle.nd_receipts.specs.declared.receipt.Receipt.{Receipt}
 use Rattle.nd_receipts.specs.declared.receipt.Kind.{Kind}
@@ -61,77 +61,90 @@ pub record HasEnded (old new : Noted) (d : ℕ) (behind : Behind) (refs : List (
 pub record Track : Type 0 where
   pub receipts : List Receipt
   pub copies : List Entry
-  pub calls : List Call
+  pub deeds : List Deed
 
-abbrev pub track : Noted → List Call → Track
-track notes calls = record { receipts = notes.receipts; copies = notes.copies; calls = calls }
+abbrev pub track : Noted → List Deed → Track
+track notes deeds = record { receipts = notes.receipts; copies = notes.copies; deeds = deeds }
 
 -- .. where this is the state of the transport
 abbrev pub track_of : Noted → State → Track
-track_of notes state = track notes state.calls
+track_of notes state = track notes state.deeds
 
--- ---- leases
+-- ---- leases. `Due` says of each call which derivation it may be made for, and how.
 
 -- a lease ended that its worker didn't start, after these calls: before its start, or one that was started before the run
-pub record EndsUnstarted (r : Receipt) (e : Entry) (these : List Call) : Type 0 where
+pub record EndsUnstarted (Due : ℕ → Deed → Type 0) (r : Receipt) (e : Entry) (these : List Deed) : Type 0 where
   pub drv : ℕ
   pub ends : ends drv e ≡ true
-  pub calls : AreCallsOf [] r e these
+  pub calls : AreCallsOf [] r e (calls_of these)
+  pub due : All (Due drv) these
 
 -- a lease of d ended after its start with these paths, by one build with this answer
 pub record EndsStarted (d : ℕ) (paths : List (List ℕ)) (r : Receipt) (e : Entry) (answer : Answer) : Type 0 where
   pub ends : ends d e ≡ true
   pub calls : AreCallsOf (Started d paths ∷ []) r e (Build d answer ∷ [])
 
+-- a call is a build of d with this answer
+pub record IsBuildOf (Due : ℕ → Deed → Type 0) (d : ℕ) (answer : Answer) (x : Deed) : Type 0 where
+  pub call : x.call ≡ Build d answer
+  pub due : Due d x
+
+-- a lease of d was started, after these calls
+pub record BeginsLease (Due : ℕ → Deed → Type 0) (d : ℕ) (paths : List (List ℕ)) (r : Receipt) (e : Entry) (these : List Deed) : Type 0 where
+  pub start_is : e ≡ Started d paths
+  pub begins : AreCallsOf [] r e (calls_of these)
+  pub due : All (Due d) these
+
 -- a lease was started and ended: its two receipts, the entries beside them, and the calls
-pub record IsServedLease (r q : Receipt) (start end : Entry) (calls : List Call) : Type 0 where
+pub record IsServedLease (Due : ℕ → Deed → Type 0) (r q : Receipt) (start end : Entry) (deeds : List Deed) : Type 0 where
   pub drv : ℕ
   pub paths : List (List ℕ)
-  pub fetched : List Call
+  pub fetched : List Deed
   pub answer : Answer
-  pub start_is : start ≡ Started drv paths
-  pub begins : AreCallsOf [] r start fetched
+  pub last : Deed
+  pub begins : BeginsLease Due drv paths r start fetched
   pub finishes : EndsStarted drv paths q end answer
-  pub calls_are : calls ≡ fetched ++ Build drv answer ∷ []
+  pub build : IsBuildOf Due drv answer last
+  pub deeds_are : deeds ≡ fetched ++ last ∷ []
 
 -- a lease was started, after these calls, and its worker left before its end
-pub record StaysStarted (r : Receipt) (e : Entry) (these : List Call) : Type 0 where
+pub record StaysStarted (Due : ℕ → Deed → Type 0) (r : Receipt) (e : Entry) (these : List Deed) : Type 0 where
   pub drv : ℕ
   pub paths : List (List ℕ)
-  pub start_is : e ≡ Started drv paths
-  pub begins : AreCallsOf [] r e these
+  pub begins : BeginsLease Due drv paths r e these
 
 -- the receipts of leases, one lease after another, the entries beside them, and the calls
-pub data AreLeases : List Receipt → List Entry → List Call → Type 0 where
-  none : AreLeases [] [] []
-  unstarted : (r : Receipt) (e : Entry) (these : List Call) (rs : List Receipt) (es : List Entry) (rest : List Call) → EndsUnstarted r e these → AreLeases rs es rest → AreLeases (r ∷ rs) (e ∷ es) (these ++ rest)
-  served : (r q : Receipt) (start end : Entry) (these : List Call) (rs : List Receipt) (es : List Entry) (rest : List Call) → IsServedLease r q start end these → AreLeases rs es rest → AreLeases (r ∷ q ∷ rs) (start ∷ end ∷ es) (these ++ rest)
-  left : (r : Receipt) (e : Entry) (these : List Call) (rs : List Receipt) (es : List Entry) (rest : List Call) → StaysStarted r e these → AreLeases rs es rest → AreLeases (r ∷ rs) (e ∷ es) (these ++ rest)
+pub data AreLeases (Due : ℕ → Deed → Type 0) : List Receipt → List Entry → List Deed → Type 0 where
+  none : AreLeases Due [] [] []
+  unstarted : (r : Receipt) (e : Entry) (these : List Deed) (rs : List Receipt) (es : List Entry) (rest : List Deed) → EndsUnstarted Due r e these → AreLeases Due rs es rest → AreLeases Due (r ∷ rs) (e ∷ es) (these ++ rest)
+  served : (r q : Receipt) (start end : Entry) (these : List Deed) (rs : List Receipt) (es : List Entry) (rest : List Deed) → IsServedLease Due r q start end these → AreLeases Due rs es rest → AreLeases Due (r ∷ q ∷ rs) (start ∷ end ∷ es) (these ++ rest)
+  left : (r : Receipt) (e : Entry) (these : List Deed) (rs : List Receipt) (es : List Entry) (rest : List Deed) → StaysStarted Due r e these → AreLeases Due rs es rest → AreLeases Due (r ∷ rs) (e ∷ es) (these ++ rest)
 
 -- one goes on from the other by leases, with the calls since then
-pub record GoesOn (s t : Track) : Type 0 where
+pub record GoesOn (Due : ℕ → Deed → Type 0) (s t : Track) : Type 0 where
   pub receipts : List Receipt
   pub copies : List Entry
-  pub calls : List Call
+  pub deeds : List Deed
   pub receipts_are : t.receipts ≡ s.receipts ++ receipts
   pub copies_are : t.copies ≡ s.copies ++ copies
-  pub calls_are : t.calls ≡ s.calls ++ calls
-  pub agree : AreLeases receipts copies calls
+  pub deeds_are : t.deeds ≡ s.deeds ++ deeds
+  pub agree : AreLeases Due receipts copies deeds
 
 -- one goes on from the other by the start of a lease of d
-pub record IsBegun (s t : Track) (d : ℕ) : Type 0 where
+pub record IsBegun (Due : ℕ → Deed → Type 0) (s t : Track) (d : ℕ) : Type 0 where
   pub receipt : Receipt
   pub paths : List (List ℕ)
-  pub calls : List Call
+  pub deeds : List Deed
   pub receipts_are : t.receipts ≡ s.receipts ++ receipt ∷ []
   pub copies_are : t.copies ≡ s.copies ++ Started d paths ∷ []
-  pub calls_are : t.calls ≡ s.calls ++ calls
-  pub agree : AreCallsOf [] receipt (Started d paths) calls
+  pub deeds_are : t.deeds ≡ s.deeds ++ deeds
+  pub agree : AreCallsOf [] receipt (Started d paths) (calls_of deeds)
+  pub due : All (Due d) deeds
 
 -- .. or, where there was no start, by a whole lease
-abbrev pub HasFetched : Track → Track → ℕ → Bool → Type 0
-HasFetched s t d true = IsBegun s t d
-HasFetched s t d false = GoesOn s t
+abbrev pub HasFetched : (ℕ → Deed → Type 0) → Track → Track → ℕ → Bool → Type 0
+HasFetched Due s t d true = IsBegun Due s t d
+HasFetched Due s t d false = GoesOn Due s t
 
 -- a build with this answer failed for this reason; `refs` are references that it reported and may not have
 abbrev pub IsFailureBy : List (List (List ℕ)) → Answer → Why → Type 0
@@ -154,7 +167,8 @@ IsEndBy d refs answer (Drain m) = ⊥
 IsEndBy d refs answer (Enable m) = ⊥
 
 -- one goes on from the other by the end of a started lease of d: one build, and the entry of how it ended, with what stands behind it
-pub record IsFinished (s t : Track) (d : ℕ) (behind : Behind) : Type 0 where
+pub record IsFinished (Due : ℕ → Deed → Type 0) (s t : Track) (d : ℕ) (behind : Behind) : Type 0 where
+  pub last : Deed
   pub index : ℕ
   pub of : Kind
   pub refs : List (List (List ℕ))
@@ -162,21 +176,23 @@ pub record IsFinished (s t : Track) (d : ℕ) (behind : Behind) : Type 0 where
   pub answer : Answer
   pub receipts_are : t.receipts ≡ s.receipts ++ record { index = index; kind = of; calls = behind.calls; paths = behind.paths; refs = refs; again = behind.again } ∷ []
   pub copies_are : t.copies ≡ s.copies ++ copy ∷ []
-  pub calls_are : t.calls ≡ s.calls ++ Build d answer ∷ []
+  pub deeds_are : t.deeds ≡ s.deeds ++ last ∷ []
+  pub build : IsBuildOf Due d answer last
   pub kind_is : IsOfKind of copy
   pub ends : IsEndBy d refs answer copy
 
 -- one goes on from the other by the end of a lease of d that was started before the run
-pub record HasEndedAgain (s t : Track) (d : ℕ) : Type 0 where
+pub record HasEndedAgain (Due : ℕ → Deed → Type 0) (s t : Track) (d : ℕ) : Type 0 where
   pub receipt : Receipt
   pub copy : Entry
-  pub calls : List Call
+  pub deeds : List Deed
   pub receipts_are : t.receipts ≡ s.receipts ++ receipt ∷ []
   pub copies_are : t.copies ≡ s.copies ++ copy ∷ []
-  pub calls_are : t.calls ≡ s.calls ++ calls
+  pub deeds_are : t.deeds ≡ s.deeds ++ deeds
   pub again : receipt.again ≡ true
   pub ends : ends d copy ≡ true
-  pub agree : AreCallsOf [] receipt copy calls
+  pub agree : AreCallsOf [] receipt copy (calls_of deeds)
+  pub due : All (Due d) deeds
 
 -- ---- compared with the history
 

@@ -1,6 +1,6 @@
 -- Which calls of a transport stand behind a receipt. The clause `calls` of nd_workers' `run` cites `AreCallsIn`; the other
 -- definitions are what it is made of. This project's own choice.
-use Rattle.std.specs.Prelude.{◌≡◌, ℕ, Bool, true, false, List, [], ◌∷◌, ◌++◌, ◌⊎◌, slice_get, take, reverse, Some}
+use Rattle.std.specs.Prelude.{◌≡◌, ℕ, Bool, true, false, List, [], ◌∷◌, ◌++◌, ◌⊎◌, slice_get, take, reverse, Some, All}
 use Rattle.nd_history.specs.declared.entry.Entry.{Entry}
 use Rattle.nd_history.specs.declared.entry.Entry.TheVariants.{Chosen, NoBuilder, Started, Down, Built, Failed, Stop, Drain, Enable}
 use Rattle.nd_history.specs.declared.entry.Why.{Why}
@@ -10,6 +10,7 @@ use Rattle.nd_transports.specs.declared.kinds.Answer.{Answer}
 use Rattle.nd_transports.specs.declared.kinds.Answer.TheVariants.{Built as AnswerBuilt, Status as AnswerStatus, Lost as AnswerLost, Memory as AnswerMemory}
 use Rattle.nd_transports.specs.declared.kinds.Call.{Call}
 use Rattle.nd_transports.specs.declared.kinds.Call.TheVariants.{Connect, Copy, Build}
+use Rattle.nd_transports.specs.Calls.{Deed, calls_of}
 use Rattle.nd_receipts.specs.declared.receipt.Receipt.{Receipt}
 use Rattle.nd_receipts.specs.declared.receipt.Kind.{Kind}
 use Rattle.nd_receipts.specs.declared.receipt.Kind.TheVariants.{Started as KindStarted, Down as KindDown, Built as KindBuilt, Failed as KindFailed}
@@ -111,15 +112,33 @@ pub record AreCallsOf (past : List Entry) (r : Receipt) (e : Entry) (these : Lis
   pub kind : IsOfKind r.kind e
   pub calls : AreCallsBy r.again past r.calls r.paths r.refs e these
 
+-- the derivation of an entry that a worker makes
+abbrev pub IsOf : ℕ → Entry → Type 0
+IsOf d (Started e copied) = e ≡ d
+IsOf d (Down e) = e ≡ d
+IsOf d (Built e refs) = e ≡ d
+IsOf d (Failed e why) = e ≡ d
+IsOf d (Chosen e m s) = ⊥
+IsOf d (NoBuilder e) = ⊥
+IsOf d Stop = ⊥
+IsOf d (Drain m) = ⊥
+IsOf d (Enable m) = ⊥
+
+-- each of these calls was made as it may be for the derivation of the entry, which `Due` says
+pub record AreDueFor (Due : ℕ → Deed → Type 0) (e : Entry) (these : List Deed) : Type 0 where
+  pub each : (d : ℕ) → IsOf d e → All (Due d) these
+
 -- these are the calls of a receipt, for the entry of the history that it names and what stands before that entry; the receipt is of
--- a lease that was started before exactly where the entry ends a build that was going on behind the first `opened` entries
-pub record AreCallsAt (opened : ℕ) (history : List Entry) (r : Receipt) (these : List Call) : Type 0 where
+-- a lease that was started before exactly where the entry ends a build that was going on behind the first `opened` entries; each was made
+-- for the entry's derivation, as it may be
+pub record AreCallsAt (Due : ℕ → Deed → Type 0) (opened : ℕ) (history : List Entry) (r : Receipt) (these : List Deed) : Type 0 where
   pub entry : Entry
   pub at : slice_get history r.index ≡ Some entry
   pub again : r.again ≡ ends_build (reverse (take opened history)) entry
-  pub calls : AreCallsOf (reverse (take r.index history)) r entry these
+  pub calls : AreCallsOf (reverse (take r.index history)) r entry (calls_of these)
+  pub due : AreDueFor Due entry these
 
 -- these are the calls of the receipts, one after another, of a run that began behind the first `opened` entries
-pub data AreCallsIn (opened : ℕ) (history : List Entry) : List Receipt → List Call → Type 0 where
-  none : AreCallsIn opened history [] []
-  more : (r : Receipt) (these : List Call) (rs : List Receipt) (rest : List Call) → AreCallsAt opened history r these → AreCallsIn opened history rs rest → AreCallsIn opened history (r ∷ rs) (these ++ rest)
+pub data AreCallsIn (Due : ℕ → Deed → Type 0) (opened : ℕ) (history : List Entry) : List Receipt → List Deed → Type 0 where
+  none : AreCallsIn Due opened history [] []
+  more : (r : Receipt) (these : List Deed) (rs : List Receipt) (rest : List Deed) → AreCallsAt Due opened history r these → AreCallsIn Due opened history rs rest → AreCallsIn Due opened history (r ∷ rs) (these ++ rest)

@@ -130,7 +130,7 @@ pub fn count_made(history: &[Entry]) -> usize
     history.iter().filter(|entry| is_made(entry)).count()
 }
 
-/// Whether the entry says that nothing more is begun.
+/// Whether the entry says that no further lease is made.
 fn is_stop(entry: &Entry) -> bool
     ensures { result ≡ is_stop entry.now }
 {
@@ -147,7 +147,7 @@ pub fn has_stop(history: &[Entry]) -> bool
     history.iter().any(|entry| is_stop(entry))
 }
 
-/// Whether the entry says neither that nothing more is begun nor that no worker serves a lease, and
+/// Whether the entry says neither that no further lease is made nor that no worker serves a lease, and
 /// neither drains nor enables a machine.
 fn is_quiet_entry(entry: &Entry) -> bool
     ensures { result ≡ is_quiet entry.now }

@@ -11,7 +11,12 @@ use Rattle.nd_workers.specs.declared.run_end.RunFault.{RunFault}
 use Rattle.nd_workers.specs.declared.run_end.RunFault.TheVariants.{Thread as NoThread, Memory as NoMemory, Receipts as OtherReceipts, Journal as NoJournal}
 use Rattle.nd_workers.specs.declared.run_end.RunError.{RunError}
 use Rattle.nd_workers.specs.declared.run_end.RunError.TheVariants.{Slots, TooManySlots as TooManyWorkers, Memory as NoRoom}
-use Rattle.nd_workers.specs.Runs.{IsOver}
+use Rattle.nd_transports.specs.Calls.{State}
+use Rattle.nd_workers.specs.declared.run_end.Ran.{Ran}
+use Rattle.nd_workers.specs.declared.seat.Seat.{Seat}
+use Rattle.nd_workers.specs.Faults.{IsFaultOf}
+use Rattle.nd_workers.specs.Runs.{IsOver, Agrees, AreServed, AreReceiptedSince}
+use Rattle.nd_workers.specs.Served.{places_served}
 use Rattle.nd_run_desk.specs.Steps.{RunsOn}
 use Rattle.nd_cli.specs.declared.fault.CliFault.{CliFault}
 use Rattle.nd_cli.specs.declared.fault.CliFault.TheVariants.{Derivation, Drvs, Builders, Info, Script, Stand, History, TooLarge, TooManySlots, Read, Write, Memory, Thread, Receipts}
@@ -47,43 +52,60 @@ CameBack (Some NoMemory) before after = IsStopped before after
 CameBack (Some NoJournal) before after = IsStopped before after
 CameBack (Some OtherReceipts) before after = IsUnreceipted before after
 
+-- a run of `before` by these workers ended so: its fault is the one whose cause stands, by the receipts and the evidence that came back; and unless
+-- it is that these aren't what the history says, the receipts are the entries that workers made, and each transport was called just as they say
+pub record IsRanBy {T : Type 0} (state : T → State) (before : World) (workers : List (Seat T)) (ran : Ran T) : Type 0 where
+  pub fault : IsFaultOf before ran.dispatch (places_served workers) ran.receipts.items ran.evidence ran.fault
+  pub receipted : Agrees ran.fault → AreReceiptedSince before ran.dispatch (places_served workers) ran.receipts.items
+  pub calls : Agrees ran.fault → AreServed state before ran.dispatch workers ran.workers.items ran.receipts.items
+
+-- a run of `before` by these workers came back with this fault and this dispatch
+pub record ComesBack {T : Type 0} (state : T → State) (before : World) (workers : List (Seat T)) (fault : Option RunFault) (after : World) : Type 0 where
+  pub back : CameBack fault before after
+  pub ran : Ran T
+  pub by : IsRanBy state before workers ran
+  pub dispatch : ran.dispatch ≡ after
+  pub ended : ran.fault ≡ fault
+
+-- ---- what is written. `Back` says what is known of a fault and of the dispatch that came back with it.
+
 -- the run ended without a fault; all of what came back was written, and this is its status
-pub record RunsTo (before : World) (report : Bool) (status : ℕ) (old new : Option (List ℕ)) : Type 0 where
+pub record RunsTo (Back : Option RunFault → World → Type 0) (report : Bool) (status : ℕ) (old new : Option (List ℕ)) : Type 0 where
   pub after : World
-  pub done : IsDone before after
+  pub back : Back None after
   pub writes : WritesEnd after report old new
   pub status_is : IsStatusOf after status
 
 -- the run ended with this fault, and all of what came back was written
-pub record WritesFaulty (before : World) (fault : RunFault) (report : Bool) (old new : Option (List ℕ)) : Type 0 where
+pub record WritesFaulty (Back : Option RunFault → World → Type 0) (fault : RunFault) (report : Bool) (old new : Option (List ℕ)) : Type 0 where
   pub after : World
-  pub back : CameBack (Some fault) before after
+  pub back : Back (Some fault) after
   pub writes : WritesEnd after report old new
 
 -- the run ended with a fault or without one, and a part of what came back was written, from its beginning
-pub record WritesTorn (before : World) (report : Bool) (old new : Option (List ℕ)) : Type 0 where
+pub record WritesTorn (Back : Option RunFault → World → Type 0) (report : Bool) (old new : Option (List ℕ)) : Type 0 where
   pub fault : Option RunFault
   pub after : World
-  pub back : CameBack fault before after
+  pub back : Back fault after
   pub part : WritesEndPart after report old new
 
 -- Why there is no status, of a run by so many workers: the writer refused; or the run ended with a fault, and what came back was
 -- written before; or there was no run, for want of memory or for too many slots, and the writer is as it was.
-abbrev pub IsRunFault : {W : Type 0} → World → ℕ → Bool → (W → Option (List ℕ)) → Watched W → Watched W → CliFault → Type 0
-IsRunFault before workers report text old new (Derivation e) = ⊥
-IsRunFault before workers report text old new (Drvs e) = ⊥
-IsRunFault before workers report text old new (Builders e) = ⊥
-IsRunFault before workers report text old new (Info e) = ⊥
-IsRunFault before workers report text old new (Script e) = ⊥
-IsRunFault before workers report text old new (Stand e) = ⊥
-IsRunFault before workers report text old new (History e) = ⊥
-IsRunFault before workers report text old new (TooLarge place) = ⊥
-IsRunFault before workers report text old new TooManySlots = (1024 < workers) × (new ≡ old)
-IsRunFault before workers report text old new Read = ⊥
-IsRunFault before workers report text old new Write = WritesTorn before report (text old.device) (text new.device)
-IsRunFault before workers report text old new Memory = (new ≡ old) ⊎ WritesFaulty before NoMemory report (text old.device) (text new.device)
-IsRunFault before workers report text old new Thread = WritesFaulty before NoThread report (text old.device) (text new.device)
-IsRunFault before workers report text old new Receipts = WritesFaulty before OtherReceipts report (text old.device) (text new.device)
+abbrev pub IsRunFault : {W : Type 0} → (Option RunFault → World → Type 0) → ℕ → Bool → (W → Option (List ℕ)) → Watched W → Watched W → CliFault → Type 0
+IsRunFault Back workers report text old new (Derivation e) = ⊥
+IsRunFault Back workers report text old new (Drvs e) = ⊥
+IsRunFault Back workers report text old new (Builders e) = ⊥
+IsRunFault Back workers report text old new (Info e) = ⊥
+IsRunFault Back workers report text old new (Script e) = ⊥
+IsRunFault Back workers report text old new (Stand e) = ⊥
+IsRunFault Back workers report text old new (History e) = ⊥
+IsRunFault Back workers report text old new (TooLarge place) = ⊥
+IsRunFault Back workers report text old new TooManySlots = (1024 < workers) × (new ≡ old)
+IsRunFault Back workers report text old new Read = ⊥
+IsRunFault Back workers report text old new Write = WritesTorn Back report (text old.device) (text new.device)
+IsRunFault Back workers report text old new Memory = (new ≡ old) ⊎ WritesFaulty Back NoMemory report (text old.device) (text new.device)
+IsRunFault Back workers report text old new Thread = WritesFaulty Back NoThread report (text old.device) (text new.device)
+IsRunFault Back workers report text old new Receipts = WritesFaulty Back OtherReceipts report (text old.device) (text new.device)
 
 -- a run without a fault: what came back was written, and this is its status
 pub record EndsIn (after : World) (fault : Option RunFault) (report : Bool) (status : ℕ) (old new : Option (List ℕ)) : Type 0 where

@@ -1,8 +1,8 @@
 -- The places of a park that a run has a stand-in for, and the stand-in on each. The contracts of `places` and `stand_ins`
 -- cite what stands here. This project's own choice.
-use Rattle.std.specs.Prelude.{ℕ, ◌<◌, List, [], length, None}
+use Rattle.std.specs.Prelude.{ℕ, ◌<◌, List, length, None}
 use Rattle.nd_script.specs.declared.rule.Rule.{Rule}
-use Rattle.nd_transports.specs.declared.kinds.Phase.{Phase}
+use Rattle.nd_transports.specs.Calls.{unused}
 use Rattle.nd_transports.specs.StandIns.{Stood}
 use Rattle.nd_cli.specs.declared.fault.CliFault.{CliFault}
 use Rattle.nd_cli.specs.declared.fault.CliFault.TheVariants.{TooManySlots, Memory}
@@ -15,4 +15,4 @@ AreTooMany places _ = ⊥
 
 -- the stand-in on a place: for the place's machine, with these rules, without a fuse, and before its first call
 abbrev pub stand_in_on : List Rule → ℕ × ℕ → Stood
-stand_in_on rules place = record { machine = place.0; outputs = 0; rules = rules; fuse = None; state = record { phase = Phase.Idle; drv = 0; paths = []; calls = [] } }
+stand_in_on rules place = record { machine = place.0; outputs = 0; rules = rules; fuse = None; state = unused }

@@ -3,7 +3,7 @@
 ghost use Rattle.std.specs.Prelude.{◌≡◌, ◌↔◌, false, reverse, map, vec_len, Some, IfOk, IfErr, IsTrue};
 ghost use Rattle.nd_history.specs.Legal.{IsLegal};
 ghost use Rattle.nd_workers.specs.Runs.{AreManned};
-ghost use Rattle.nd_run_command.specs.Ran.{RunsTo, IsRunFault, EndsIn, IsEndFault};
+ghost use Rattle.nd_run_command.specs.Ran.{ComesBack, RunsTo, IsRunFault, EndsIn, IsEndFault};
 
 use crate::ending::{refusal, status_or_fault, write_end};
 use nd_cli::CliFault;
@@ -18,7 +18,7 @@ use std::thread::Threads;
 
 /// Runs a dispatch with these workers, one for each slot of the park, whose transports are of one type, and writes
 /// the text of its history, and then where asked the report. Unless it ends with `Receipts`, nothing is leased or
-/// waits in the end. The status is 1 where a derivation failed or was cancelled, and else 0.
+/// waits in the end, and each worker's transport was called just as the receipts of its entries say. The status is 1 where a derivation failed or was cancelled, and else 0.
 ///
 /// `TooManySlots`: there are more than 1,024 workers, and nothing is written. `Write`: the writer
 /// refused, and is marked; a part of the text, from its beginning, is out. `Thread`, `Memory` and
@@ -34,8 +34,8 @@ pub fn run_engine<T: Transport, R: Threads + Wait + Sync, W: Write>(
 ) -> Result<u8, CliFault>
     requires manned { AreManned dispatch.inputs (map (λ w. w.place) workers.items) }
     requires writer { output.old.is_marked ≡ false }
-    ensures answer { IfOk result (λ status. RunsTo dispatch report status (W.contents output.old.device) (W.contents output.new.device)) }
-    ensures fault { IfErr result (IsRunFault dispatch (vec_len workers) report W.contents output.old output.new) }
+    ensures answer { IfOk result (λ status. RunsTo (ComesBack T.state dispatch workers.items) report status (W.contents output.old.device) (W.contents output.new.device)) }
+    ensures fault { IfErr result (IsRunFault (ComesBack T.state dispatch workers.items) (vec_len workers) report W.contents output.old output.new) }
     ensures mark { IsTrue output.new.is_marked ↔ (result ≡ Err CliFault.Write) }
 {
     // What comes back is left to the system: the process ends with the command, and to let go of a large dispatch

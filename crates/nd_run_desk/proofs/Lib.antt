@@ -1,5 +1,6 @@
 pub mod Counts
 pub mod Fronts
+pub mod Jobs
 pub mod Judgings
 pub mod Kept
 pub mod Leaving

@@ -1,4 +1,5 @@
 pub mod Abandoned
+pub mod Jobs
 pub mod Judgements
 pub mod Leaves
 pub mod Picks

@@ -9,7 +9,7 @@ use nd_history::Why;
 use nd_ledger::Dispatch;
 use nd_receipts::ParkPlace;
 
-/// Begins nothing more, and ends each live lease on a place of the park that isn't among `manned`:
+/// Makes no further lease, and ends each live lease on a place of the park that isn't among `manned`:
 /// `Stop` is recorded where none stands, and then, in the order of the machines and their slots, `Failed`
 /// with `NoWorker` for each of these leases, and nothing else. It takes no memory.
 #[tactic(auto, using(crate::proofs::Leaving::park_first, crate::proofs::Leaving::park_more, crate::proofs::Leaving::all_given_up))]

@@ -6,6 +6,7 @@ ghost use Rattle.nd_history.specs.History.{is_started};
 ghost use Rattle.nd_ledger.specs.Moves.{IsStartRefused, IsEndRefused};
 ghost use Rattle.nd_ledger.specs.Refusals.{IsDownRefused, IsFailRefused};
 ghost use Rattle.nd_receipts.specs.Made.{made};
+ghost use Rattle.nd_run_desk.specs.Jobs.{IsNextOf};
 ghost use Rattle.nd_run_desk.specs.Judgements.{is_own_cause};
 ghost use Rattle.nd_run_desk.specs.Steps.{IsUpheld, Records};
 
@@ -202,7 +203,7 @@ impl<L: Opened> Desk<L> {
         }
     }
 
-    /// Makes the choices that can be made. Where memory is refused nothing more is begun.
+    /// Makes the choices that can be made. Where memory is refused no further lease is made.
     pub fn pump(&mut self) {
         if !self.choose() {
             self.begin_no_more();
@@ -218,7 +219,7 @@ impl<L: Opened> Desk<L> {
         }
     }
 
-    /// Nothing more is begun.
+    /// No further lease is made.
     pub(crate) fn begin_no_more(&mut self) {
         let Desk {
             dispatch,
@@ -228,20 +229,23 @@ impl<L: Opened> Desk<L> {
         abandon(dispatch, manned.as_slice());
     }
 
-    /// The worker of this place leaves for want of memory, and nothing more is begun.
+    /// The worker of this place leaves for want of memory, and no further lease is made.
     pub fn leave(&mut self, place: ParkPlace) {
         self.manned.retain(|one| *one != place);
         self.begin_no_more();
     }
 
-    /// Only the first `started` workers have threads, and nothing more is begun.
+    /// Only the first `started` workers have threads, and no further lease is made.
     pub fn unstarted(&mut self, started: usize) {
         self.manned.truncate(started);
         self.begin_no_more();
     }
 
-    /// What there is to do for the worker of this place.
-    pub fn next(&mut self, alloc: Global, place: ParkPlace) -> Next {
+    /// What there is to do for the worker of this place. A job names the lease's derivation and its outputs by the graph,
+    /// and what its machine lacks of the input closure now.
+    pub fn next(&mut self, alloc: Global, place: ParkPlace) -> Next
+        ensures { IsNextOf L.opening result }
+    {
         self.pump();
         if self.dispatch.finished() {
             return Next::Finished;

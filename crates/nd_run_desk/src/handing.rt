@@ -65,7 +65,7 @@ impl<L: Opened> Desk<L> {
             || self.dispatch.history().len() != self.progress.handed.len()
     }
 
-    /// The journal has refused: nothing more is begun.
+    /// The journal has refused: no further lease is made.
     pub fn refuse(&mut self) {
         self.progress.refused = true;
         self.begin_no_more();

@@ -21,7 +21,7 @@ pub enum Command {
     Lose { drv: u32 },
     /// `down D`: its lease is given back before the start.
     Down { drv: u32 },
-    /// `stop`: nothing more is begun.
+    /// `stop`: no further lease is made.
     Stop,
     /// `drain M`: the machine gets no more leases.
     Drain { machine: u32 },

@@ -126,7 +126,7 @@ pub(crate) fn down(dispatch: &mut Dispatch, drv: u32) -> Result<Answer, Refusal>
     Ok(Answer::Added)
 }
 
-/// `stop`: nothing more is begun.
+/// `stop`: no further lease is made.
 #[tactic(auto, using(crate::proofs::Recording::added))]
 pub(crate) fn stop(dispatch: &mut Dispatch) -> Result<Answer, Refusal>
     ensures inputs { dispatch.new.inputs ≡ dispatch.old.inputs }

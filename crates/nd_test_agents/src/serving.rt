@@ -8,6 +8,7 @@ use nd_ledger::Job;
 use nd_path::{PathSet, StorePath};
 use nd_test_fixtures::bundles::S1;
 use nd_test_fixtures::devices::{CountedReader, CountedWriter, EndlessReader};
+use nd_test_fixtures::journals::nothing_kept;
 use nd_transports::{Fetch, Outcome, Transport, serve_build, serve_copy};
 use std::alloc::Global;
 use std::test::Fail;
@@ -108,9 +109,10 @@ fn first_length(refs: &Refs) -> usize {
 }
 
 /// How the lease goes through this agent.
-fn served<T: Transport>(job: &Job, agent: &mut T) -> Went {
-    match serve_copy(agent, job) {
-        Fetch::Copied => came_to(serve_build(agent)),
+fn served<T: Transport>(alloc: Global, job: &Job, agent: &mut T) -> Went {
+    let kept = nothing_kept(alloc);
+    match serve_copy(agent, job, &kept) {
+        Fetch::Copied => came_to(serve_build(agent, &kept)),
         Fetch::Refused(calls) => Went::Refused(calls),
         Fetch::Memory => Went::Memory,
     }
@@ -123,7 +125,7 @@ fn answered(alloc: Global, answers: &[u8], writes: usize) -> Option<(Went, bool)
     let mut calls = CountedWriter::new(alloc, 4096, writes, false);
     let reader = CountedReader::new(answers, 7, usize::MAX);
     let mut agent = Agent::new(alloc, reader, &mut calls);
-    let how = served(&job, &mut agent);
+    let how = served(alloc, &job, &mut agent);
     Some((how, agent.is_gone()))
 }
 
@@ -148,7 +150,7 @@ fn each_call_and_answer(rt: HostRuntime) -> Result<(), Fail> {
         CountedReader::new(ANSWERS, 1, usize::MAX),
         &mut calls,
     );
-    let how = served(&job, &mut agent);
+    let how = served(alloc, &job, &mut agent);
     drop(agent);
     assert!(rt; how == Went::Built(2, 1));
     assert!(rt; calls.bytes() == CALLS);
@@ -220,7 +222,7 @@ fn turns(alloc: Global, answers: &[u8], turned: &[Went], gone: bool) -> bool {
     let mut agent = Agent::new(alloc, reader, calls);
     let mut are_so = true;
     for went in turned {
-        are_so = are_so && served(&job, &mut agent) == *went;
+        are_so = are_so && served(alloc, &job, &mut agent) == *went;
     }
     are_so && agent.is_gone() == gone
 }
@@ -294,7 +296,7 @@ fn answered_endlessly(alloc: Global, answers: &[u8], byte: u8) -> Option<(Went, 
     let job = job(alloc)?;
     let calls = CountedWriter::new(alloc, 4096, usize::MAX, false);
     let mut agent = Agent::new(alloc, EndlessReader::new(answers, byte), calls);
-    let how = served(&job, &mut agent);
+    let how = served(alloc, &job, &mut agent);
     Some((how, agent.is_gone()))
 }
 
@@ -352,8 +354,8 @@ fn gone_for_good(rt: HostRuntime) -> Result<(), Fail> {
         CountedReader::new(b"yes\n", 7, usize::MAX),
         &mut calls,
     );
-    let first = served(&job, &mut agent);
-    let second = served(&job, &mut agent);
+    let first = served(alloc, &job, &mut agent);
+    let second = served(alloc, &job, &mut agent);
     drop(agent);
     assert!(rt; first == Went::Refused(2));
     assert!(rt; second == Went::Refused(1));

@@ -2,7 +2,8 @@
 
 ghost use Rattle.std.specs.Prelude.{◌≡◌, length};
 
-use nd_keeping::Journal;
+use nd_keeping::{Journal, Kept, NoJournal, Scribe};
+use std::alloc::Global;
 use std::io;
 
 /// A journal in memory that refuses its calls once it has granted a number of them, and then keeps a part of
@@ -70,4 +71,12 @@ impl Journal for MemoryJournal {
         self.durable = self.bytes.len();
         Ok(())
     }
+}
+
+/// What is durable of a run without a journal: nothing.
+pub fn nothing_kept(alloc: Global) -> Kept {
+    let scribe = Scribe::fresh(alloc, NoJournal);
+    let kept = scribe.kept();
+    drop(scribe);
+    kept
 }

@@ -7,7 +7,7 @@ ghost use Rattle.nd_workers.specs.Runs.{AreManned};
 
 use nd_devices::Told;
 use nd_journal::whole_lines;
-use nd_kept_run::{KeptEnd, run_kept_engine};
+use nd_kept_run::{KeptEnd, run_kept_engine, scribe_of};
 use nd_ledger::Dispatch;
 use nd_run_command::{RunInputs, run_inputs, stand_ins};
 use nd_script::Rule;
@@ -111,11 +111,17 @@ fn run_seated<R: Threads + Wait + Sync>(
     requires held { HoldsDurably (Some (stored_with journal.bytes.items journal.durable)) (journal_text (not (opened.kept == 0)) opened.dispatch.history) }
 {
     let mut output = Told::new(Vec::new(alloc));
+    let Ok(scribe) = scribe_of(alloc, &opened, journal) else {
+        mem::forget(opened);
+        mem::forget(seats);
+        return None;
+    };
+    let Opened { dispatch, kept: _ } = opened;
     let KeptEnd { answer, journal } = run_kept_engine(
         rt,
-        opened,
+        dispatch,
         seats,
-        journal,
+        scribe,
         false,
         &mut output,
     );

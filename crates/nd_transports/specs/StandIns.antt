@@ -1,8 +1,10 @@
 -- What a stand-in answers. The clauses of `StandIn` cite these definitions. This project's own choice.
-use Rattle.std.specs.Prelude.{◌≡◌, ℕ, Bool, true, false, not, ◌&&◌, ◌==◌, ◌-◌, List, [], Option, Some, None, replicate, ◌⊎◌}
+use Rattle.std.specs.Prelude.{◌≡◌, ℕ, Bool, true, false, not, ◌&&◌, ◌==◌, ◌-◌, List, [], Option, Some, None, replicate, length, ◌⊎◌}
 use Rattle.std.specs.List.{find, list_any}
 use Rattle.nd_transports.specs.declared.kinds.Answer.{Answer}
 use Rattle.nd_transports.specs.declared.kinds.Answer.TheVariants.{Built, Status, Lost, Memory}
+use Rattle.nd_keeping.specs.Listing.{Listed}
+use Rattle.nd_ledger.specs.declared.job.Job.{Job}
 use Rattle.nd_script.specs.declared.rule.Rule.{Rule}
 use Rattle.nd_script.specs.declared.rule.Rule.TheVariants.{NoConnect, NoCopy, Fail, Lose, Built as RuleBuilt}
 use Rattle.nd_script.specs.Rules.{is_no_connect, is_no_copy, is_about}
@@ -25,9 +27,9 @@ pub record Stood : Type 0 where
 abbrev pub fresh : ℕ → List Rule → Stood
 fresh machine rules = record { machine = machine; outputs = 0; rules = rules; fuse = None; state = unused }
 
--- a job with so many outputs was prepared
-abbrev pub readied : Stood → ℕ → ℕ → List (List ℕ) → Stood
-readied s outputs drv paths = record s { outputs = outputs; state = prepared s.state drv paths }
+-- a job was prepared
+abbrev pub readied : Stood → Job → Stood
+readied s job = record s { outputs = length job.output_paths; state = prepared s.state job }
 
 -- how a build ends by its rule; without one it reports an empty list for each output
 abbrev pub answer_by : ℕ → Option Rule → Answer
@@ -40,7 +42,7 @@ answer_by outputs None = Built (replicate outputs [])
 
 -- the first rule about the derivation decides
 abbrev pub answer_of : Stood → Answer
-answer_of s = answer_by s.outputs (find (is_about s.state.drv) s.rules)
+answer_of s = answer_by s.outputs (find (is_about s.state.job.ticket.drv) s.rules)
 
 -- the fuse lets one more call pass
 abbrev pub lets_pass : Option ℕ → Bool
@@ -72,8 +74,8 @@ pub record IsTold (passes : Bool) (ruled answer : Answer) : Type 0 where
   pub passed : passes ≡ true → (answer ≡ ruled) ⊎ ((answer ≡ Lost) × NeedsLists ruled)
 
 -- a build with that answer
-pub record StandInBuilds (s : Stood) (ended : Ended) (t : Stood) : Type 0 where
+pub record StandInBuilds (s : Stood) (by : Listed) (ended : Ended) (t : Stood) : Type 0 where
   pub answer : Answer
   pub by_rules : IsTold (lets_pass s.fuse) (answer_of s) answer
   pub told : ended ≡ ended_of answer
-  pub after : t ≡ record s { fuse = burnt s.fuse; state = built s.state answer }
+  pub after : t ≡ record s { fuse = burnt s.fuse; state = built s.state by answer }

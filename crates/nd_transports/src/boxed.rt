@@ -3,6 +3,7 @@
 use crate::kinds::{Ended, Phase};
 use crate::transport::Transport;
 use nd_closure::Refs;
+use nd_keeping::Kept;
 use nd_ledger::Job;
 use std::alloc::AllocError;
 
@@ -13,16 +14,16 @@ impl Transport for Box<dyn Transport + Send> {
         (**self).prepare(job)
     }
 
-    fn connect(&mut self) -> bool {
-        (**self).connect()
+    fn connect(&mut self, by: &Kept) -> bool {
+        (**self).connect(by)
     }
 
-    fn copy(&mut self) -> bool {
-        (**self).copy()
+    fn copy(&mut self, by: &Kept) -> bool {
+        (**self).copy(by)
     }
 
-    fn build(&mut self) -> Ended {
-        (**self).build()
+    fn build(&mut self, by: &Kept) -> Ended {
+        (**self).build(by)
     }
 
     fn reported(&self) -> Result<Refs, AllocError> {

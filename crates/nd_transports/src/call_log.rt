@@ -1,10 +1,12 @@
 //! The calls of a transport, and how far it is.
 
 ghost use Rattle.std.specs.Prelude.{◌≡◌, ℕ, List, [], IfOk, OnOk, OnErr};
-ghost use Rattle.nd_transports.specs.Calls.{unused, prepared, IsIdleAgain, connected, copied, built, Reports};
+ghost use Rattle.nd_transports.specs.Calls.{unused, prepared, IsIdleAgain, connected, copied, built, calls_of, Reports};
 
+use crate::calls_so_far::CallsSoFar;
 use crate::kinds::{Answer, Call, Phase};
 use nd_closure::Refs;
+use nd_keeping::Kept;
 use nd_ledger::Job;
 use nd_path::PathSet;
 use std::alloc::{AllocError, Global};
@@ -20,6 +22,7 @@ pub struct CallLog {
     drv: u32,
     paths: PathSet,
     calls: Vec<Call>,
+    so_far: CallsSoFar,
 }
 
 impl Model for CallLog {
@@ -27,11 +30,11 @@ impl Model for CallLog {
 
     ghost Value = { State };
 
-    ghost use Rattle.nd_transports.specs.Logs.{state_of, HasRoom};
+    ghost use Rattle.nd_transports.specs.Logs.{state_of, HasCalls};
 
     ghost view = { state_of };
 
-    ghost invariant = { HasRoom };
+    ghost invariant = { HasCalls };
 }
 
 impl CallLog {
@@ -44,12 +47,13 @@ impl CallLog {
             drv: 0,
             paths: PathSet::new(alloc),
             calls: Vec::new(alloc),
+            so_far: CallsSoFar::new(),
         }
     }
 
     /// A job is prepared. Where memory is refused the phase is `Idle`.
     pub fn prepare(&mut self, job: &Job) -> Result<(), AllocError>
-        ensures ok { OnOk result (self.new ≡ prepared self.old job.now.ticket.drv job.now.paths) }
+        ensures ok { OnOk result (self.new ≡ prepared self.old job.now) }
         ensures err { OnErr result (IsIdleAgain self.old self.new) }
     {
         self.phase = Phase::Idle;
@@ -57,43 +61,53 @@ impl CallLog {
         self.calls.reserve(3)?;
         self.paths = paths;
         self.drv = job.ticket.drv;
+        self.so_far = self.so_far.for_job(job);
         self.phase = Phase::Prepared;
         Ok(())
     }
 
     /// The machine was called, and answered or not. It takes no memory.
-    pub fn connected(&mut self, answered: bool)
+    #[tactic(auto, using(crate::proofs::Calling::noted))]
+    pub fn connected(&mut self, answered: bool, by: &Kept)
         requires { self.old.phase ≡ Phase.Prepared }
-        ensures { self.new ≡ connected self.old answered }
+        ensures { self.new ≡ connected self.old by.now answered }
     {
         self.phase = if answered {
             Phase::Connected
         } else {
             Phase::Idle
         };
-        self.calls.push_reserved(Call::Connect(answered));
+        let call = Call::Connect(answered);
+        self.so_far = self.so_far.with(&call, by);
+        self.calls.push_reserved(call);
     }
 
     /// The paths were to be copied, which worked or not. It takes no memory.
-    pub fn copied(&mut self, alloc: Global, done: bool)
+    #[tactic(auto, using(crate::proofs::Calling::noted))]
+    pub fn copied(&mut self, alloc: Global, done: bool, by: &Kept)
         requires { self.old.phase ≡ Phase.Connected }
-        ensures { self.new ≡ copied self.old done }
+        ensures { self.new ≡ copied self.old by.now done }
     {
         self.phase = if done { Phase::Copied } else { Phase::Idle };
         let paths = mem::replace(&mut self.paths, PathSet::new(alloc));
-        self.calls.push_reserved(Call::Copy { paths, done });
+        let call = Call::Copy { paths, done };
+        self.so_far = self.so_far.with(&call, by);
+        self.calls.push_reserved(call);
     }
 
     /// The derivation was to be built, and the build ended so. It takes no memory.
-    pub fn built(&mut self, answer: Answer)
+    #[tactic(auto, using(crate::proofs::Calling::noted))]
+    pub fn built(&mut self, answer: Answer, by: &Kept)
         requires { self.old.phase ≡ Phase.Copied }
-        ensures { self.new ≡ built self.old answer }
+        ensures { self.new ≡ built self.old by.now answer }
     {
         self.phase = Phase::Idle;
-        self.calls.push_reserved(Call::Build {
+        let call = Call::Build {
             drv: self.drv,
             answer,
-        });
+        };
+        self.so_far = self.so_far.with(&call, by);
+        self.calls.push_reserved(call);
     }
 
     /// The references that the last call, a build that ended with its outputs, reported.
@@ -114,7 +128,7 @@ impl CallLog {
 
     /// The derivation of the job that was prepared last.
     pub fn drv(&self) -> u32
-        ensures { result ≡ self.now.drv }
+        ensures { result ≡ self.now.job.ticket.drv }
     {
         self.drv
     }
@@ -128,7 +142,7 @@ impl CallLog {
 
     /// The calls so far, oldest first, with their answers.
     pub fn calls(&self) -> &[Call]
-        ensures { result.now ≡ self.now.calls }
+        ensures { result.now ≡ calls_of self.now.deeds }
     {
         self.calls.as_slice()
     }

@@ -6,6 +6,7 @@ ghost use Rattle.nd_transports.specs.Services.{Fetches, Serves};
 use crate::kinds::{Ended, Phase};
 use crate::transport::Transport;
 use nd_closure::Refs;
+use nd_keeping::Kept;
 use nd_ledger::Job;
 
 /// How the copy before a build went.
@@ -33,28 +34,29 @@ pub enum Outcome {
     Memory,
 }
 
-/// Prepares a job, calls its machine and copies its paths. Where memory is refused nothing is called.
-pub fn serve_copy<T: Transport>(transport: &mut T, job: &Job) -> Fetch
-    ensures { Fetches (T.state transport.old) job.now.ticket.drv job.now.paths result (T.state transport.new) }
+/// Prepares a job, calls its machine and copies its paths, by what is durable. Where memory is refused nothing is
+/// called.
+pub fn serve_copy<T: Transport>(transport: &mut T, job: &Job, by: &Kept) -> Fetch
+    ensures { Fetches (T.state transport.old) job.now by.now result (T.state transport.new) }
 {
     if transport.prepare(job).is_err() {
         return Fetch::Memory;
     }
-    if !transport.connect() {
+    if !transport.connect(by) {
         return Fetch::Refused(1);
     }
-    if !transport.copy() {
+    if !transport.copy(by) {
         return Fetch::Refused(2);
     }
     Fetch::Copied
 }
 
-/// Builds what was prepared and copied, and takes the references that the build reported.
-pub fn serve_build<T: Transport>(transport: &mut T) -> Outcome
+/// Builds what was prepared and copied, by what is durable, and takes the references that the build reported.
+pub fn serve_build<T: Transport>(transport: &mut T, by: &Kept) -> Outcome
     requires { (T.state transport.old).phase ≡ Phase.Copied }
-    ensures { Serves (T.state transport.old) result (T.state transport.new) }
+    ensures { Serves (T.state transport.old) by.now result (T.state transport.new) }
 {
-    match transport.build() {
+    match transport.build(by) {
         Ended::Built => match transport.reported() {
             Ok(refs) => Outcome::Built(refs),
             Err(_) => Outcome::Memory,

@@ -1,6 +1,6 @@
 //! A transport that follows rules.
 
-ghost use Rattle.std.specs.Prelude.{◌≡◌, ℕ, List, Option, Some, IfOk, OnOk, OnErr, length};
+ghost use Rattle.std.specs.Prelude.{◌≡◌, ℕ, List, Option, Some, IfOk, OnOk, OnErr};
 ghost use Rattle.nd_transports.specs.Calls.{prepared, connected, copied, built, Reports, IsIdleAgain};
 ghost use Rattle.nd_transports.specs.StandIns.{fresh, readied, burnt, connects, copies, StandInBuilds};
 
@@ -10,6 +10,7 @@ use crate::last_call::LastCall;
 use crate::rule_book::RuleBook;
 use crate::transport::Transport;
 use nd_closure::Refs;
+use nd_keeping::Kept;
 use nd_ledger::Job;
 use std::alloc::{AllocError, Global};
 use std::marker::Model;
@@ -63,7 +64,7 @@ impl Transport for StandIn {
     ghost state = { λ s. s.state };
 
     fn prepare(&mut self, job: &Job) -> Result<(), AllocError>
-        ensures ok { OnOk result (self.new ≡ readied self.old (length job.now.output_paths) job.now.ticket.drv job.now.paths) }
+        ensures ok { OnOk result (self.new ≡ readied self.old job.now) }
         ensures err { OnErr result (IsIdleAgain self.old.state self.new.state) }
         ensures kept { OnErr result (self.new ≡ record self.old { state = self.new.state }) }
     {
@@ -72,34 +73,34 @@ impl Transport for StandIn {
         Ok(())
     }
 
-    fn connect(&mut self) -> bool
+    fn connect(&mut self, by: &Kept) -> bool
         requires { self.old.state.phase ≡ Phase.Prepared }
         ensures answer { result ≡ connects self.old }
-        ensures after { self.new ≡ record self.old { fuse = burnt self.old.fuse; state = connected self.old.state result } }
+        ensures after { self.new ≡ record self.old { fuse = burnt self.old.fuse; state = connected self.old.state by.now result } }
     {
         let answered = self.conduct.connects();
-        self.log.connected(answered);
+        self.log.connected(answered, by);
         answered
     }
 
-    fn copy(&mut self) -> bool
+    fn copy(&mut self, by: &Kept) -> bool
         requires { self.old.state.phase ≡ Phase.Connected }
         ensures answer { result ≡ copies self.old }
-        ensures after { self.new ≡ record self.old { fuse = burnt self.old.fuse; state = copied self.old.state result } }
+        ensures after { self.new ≡ record self.old { fuse = burnt self.old.fuse; state = copied self.old.state by.now result } }
     {
         let done = self.conduct.copies();
-        self.log.copied(self.alloc, done);
+        self.log.copied(self.alloc, done, by);
         done
     }
 
-    fn build(&mut self) -> Ended
+    fn build(&mut self, by: &Kept) -> Ended
         requires { self.old.state.phase ≡ Phase.Copied }
-        ensures { StandInBuilds self.old result self.new }
+        ensures { StandInBuilds self.old by.now result self.new }
     {
         let drv = self.log.drv();
         let answer = self.conduct.builds(drv);
         let ended = answer.ended();
-        self.log.built(answer);
+        self.log.built(answer, by);
         ended
     }
 

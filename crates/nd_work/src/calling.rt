@@ -2,6 +2,7 @@
 
 ghost use Rattle.std.specs.Prelude.{◌≡◌};
 ghost use Rattle.nd_transports.specs.Services.{Fetches, Serves};
+ghost use Rattle.nd_run_desk.specs.Jobs.{IsJobOf, MayCall};
 ghost use Rattle.nd_run_desk.specs.Leaves.{Allows};
 
 use nd_leases::Ticket;
@@ -42,20 +43,26 @@ impl<T: Transport> Guarded<T> {
 
     /// Calls the machine of a lease's job and copies what it lacks, as [`serve_copy`]. Where the run keeps a journal
     /// the lease's choice is durable.
-    pub(crate) fn fetch<L: Opened>(&mut self, _leave: &Leave<L>, job: &Job) -> Fetch
-        requires { Allows L.keeping.keeps _leave.now.kept.entries _leave.now.place Step.Call job.now.ticket }
-        ensures { Fetches self.old job.now.ticket.drv job.now.paths result self.new }
+    #[tactic(auto, using(crate::proofs::Going::may_call))]
+    pub(crate) fn fetch<L: Opened>(&mut self, leave: &Leave<L>, job: &Job) -> Fetch
+        requires job { IsJobOf L.opening job.now }
+        requires leave { Allows L.keeping.keeps leave.now.kept.entries leave.now.place Step.Call job.now.ticket }
+        ensures may { MayCall L.keeping L.opening job.now leave.now.kept Step.Call }
+        ensures fetches { Fetches self.old job.now leave.now.kept result self.new }
     {
-        serve_copy(&mut self.transport, job)
+        serve_copy(&mut self.transport, job, &leave.kept)
     }
 
     /// Builds what was copied, as [`serve_build`]. Where the run keeps a journal the lease's start is durable.
-    pub(crate) fn build<L: Opened>(&mut self, _leave: &Leave<L>, ticket: Ticket) -> Outcome
+    #[tactic(auto, using(crate::proofs::Going::may_build))]
+    pub(crate) fn build<L: Opened>(&mut self, leave: &Leave<L>, ticket: Ticket) -> Outcome
         requires phase { self.old.phase ≡ Phase.Copied }
-        requires drv { self.old.drv ≡ ticket.drv }
-        requires leave { Allows L.keeping.keeps _leave.now.kept.entries _leave.now.place Step.Build ticket }
-        ensures { Serves self.old result self.new }
+        requires ticket { self.old.job.ticket ≡ ticket }
+        requires job { IsJobOf L.opening self.old.job }
+        requires leave { Allows L.keeping.keeps leave.now.kept.entries leave.now.place Step.Build ticket }
+        ensures may { MayCall L.keeping L.opening self.old.job leave.now.kept Step.Build }
+        ensures serves { Serves self.old leave.now.kept result self.new }
     {
-        serve_build(&mut self.transport)
+        serve_build(&mut self.transport, &leave.kept)
     }
 }

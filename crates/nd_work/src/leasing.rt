@@ -3,6 +3,7 @@
 
 ghost use Rattle.std.specs.Prelude.{◌≡◌, ◌+◌, ◌<◌, ◌≤◌, [], true, IfOk, OnOk, ℕ, List};
 ghost use Rattle.nd_receipts.specs.Noted.{HasBegun, HasEnded, HasFetched, IsFinished, HasEndedAgain, GoesOn, afresh, track_of};
+ghost use Rattle.nd_run_desk.specs.Jobs.{IsDue, IsJobOf};
 ghost use Rattle.nd_run_desk.specs.Leaves.{Allows};
 ghost use Rattle.nd_work.specs.Ends.{HasBuilt};
 
@@ -174,9 +175,10 @@ impl<'a, L: Opened, R: Wait> Floor<'a, L, R> {
     ) -> Result<(), Refusal>
         requires room { 0 < hand.old.notes.room }
         requires phase { transport.old.phase ≡ Phase.Copied }
-        requires drv { transport.old.drv ≡ ticket.drv }
+        requires ticket { transport.old.job.ticket ≡ ticket }
+        requires job { IsJobOf L.opening transport.old.job }
         requires leave { Allows L.keeping.keeps leave.now.kept.entries leave.now.place Step.Build ticket }
-        ensures { OnOk result (IsFinished (track_of hand.old.notes transport.old) (track_of hand.new.notes transport.new) ticket.drv behind) }
+        ensures { OnOk result (IsFinished (IsDue L.keeping L.opening) (track_of hand.old.notes transport.old) (track_of hand.new.notes transport.new) ticket.drv behind) }
     {
         match transport.build(leave, ticket) {
             Outcome::Built(refs) => {
@@ -200,7 +202,7 @@ impl<'a, L: Opened, R: Wait> Floor<'a, L, R> {
 
     /// Copies what a lease needs, with leave for that, and makes the entry of its start, or of its end where it can't
     /// start. The answer is whether it started.
-    #[tactic(auto, using(crate::proofs::Going::has_begun, crate::proofs::Going::begun_room, crate::proofs::Going::goes_short))]
+    #[tactic(auto, using(crate::proofs::Going::has_begun, crate::proofs::Going::begun_room, crate::proofs::Going::goes_short, crate::proofs::Going::fetched_job, crate::proofs::Going::fetched_ticket))]
     fn fetch_lease<T: Transport>(
         &self,
         hand: &mut Hand<L>,
@@ -209,10 +211,12 @@ impl<'a, L: Opened, R: Wait> Floor<'a, L, R> {
         job: Job,
     ) -> Result<bool, Refusal>
         requires room { 0 < hand.old.notes.room }
+        requires job { IsJobOf L.opening job }
         requires leave { Allows L.keeping.keeps leave.now.kept.entries leave.now.place Step.Call job.ticket }
-        ensures goes { IfOk result (HasFetched (track_of hand.old.notes transport.old) (track_of hand.new.notes transport.new) job.ticket.drv) }
+        ensures goes { IfOk result (HasFetched (IsDue L.keeping L.opening) (track_of hand.old.notes transport.old) (track_of hand.new.notes transport.new) job.ticket.drv) }
         ensures phase { result ≡ Ok true → transport.new.phase ≡ Phase.Copied }
-        ensures drv { result ≡ Ok true → transport.new.drv ≡ job.ticket.drv }
+        ensures ticket { result ≡ Ok true → transport.new.job.ticket ≡ job.ticket }
+        ensures job { result ≡ Ok true → IsJobOf L.opening transport.new.job }
         ensures room { OnOk result (hand.old.notes.room ≤ hand.new.notes.room + 1) }
     {
         let fetched = transport.fetch(leave, &job);
@@ -247,8 +251,9 @@ impl<'a, L: Opened, R: Wait> Floor<'a, L, R> {
     ) -> Result<bool, Refusal>
         requires room { 0 < hand.old.notes.room }
         requires phase { transport.old.phase ≡ Phase.Copied }
-        requires drv { transport.old.drv ≡ ticket.drv }
-        ensures { IfOk result (HasBuilt (track_of hand.old.notes transport.old) (track_of hand.new.notes transport.new) ticket.drv) }
+        requires ticket { transport.old.job.ticket ≡ ticket }
+        requires job { IsJobOf L.opening transport.old.job }
+        ensures { IfOk result (HasBuilt (IsDue L.keeping L.opening) (track_of hand.old.notes transport.old) (track_of hand.new.notes transport.new) ticket.drv) }
     {
         let Some(leave) = self.leave_for(Step::Build, &ticket) else {
             return Ok(false);
@@ -267,8 +272,9 @@ impl<'a, L: Opened, R: Wait> Floor<'a, L, R> {
         transport: &mut Guarded<T>,
         job: Job,
     ) -> Result<bool, Refusal>
-        requires { 1 < hand.old.notes.room }
-        ensures { OnOk result (GoesOn (track_of hand.old.notes transport.old) (track_of hand.new.notes transport.new)) }
+        requires room { 1 < hand.old.notes.room }
+        requires job { IsJobOf L.opening job }
+        ensures { OnOk result (GoesOn (IsDue L.keeping L.opening) (track_of hand.old.notes transport.old) (track_of hand.new.notes transport.new)) }
     {
         let ticket = job.ticket;
         let Some(leave) = self.leave_for(Step::Call, &ticket) else {
@@ -285,7 +291,7 @@ impl<'a, L: Opened, R: Wait> Floor<'a, L, R> {
 
     /// Builds a lease once more that was started before the run: copies what it needs, and builds. Where its machine
     /// isn't reached, or the copy fails, it is lost: it can't be given back.
-    #[tactic(auto, using(crate::proofs::Going::again_built, crate::proofs::Going::again_short))]
+    #[tactic(auto, using(crate::proofs::Going::again_built, crate::proofs::Going::again_short, crate::proofs::Going::fetched_job, crate::proofs::Going::fetched_ticket))]
     fn build_again<T: Transport>(
         &self,
         hand: &mut Hand<L>,
@@ -295,9 +301,10 @@ impl<'a, L: Opened, R: Wait> Floor<'a, L, R> {
         job: Job,
     ) -> Result<(), Refusal>
         requires room { 0 < hand.old.notes.room }
+        requires job { IsJobOf L.opening job }
         requires call { Allows L.keeping.keeps call.now.kept.entries call.now.place Step.Call job.ticket }
         requires build { Allows L.keeping.keeps build.now.kept.entries build.now.place Step.Build job.ticket }
-        ensures { OnOk result (HasEndedAgain (track_of hand.old.notes transport.old) (track_of hand.new.notes transport.new) job.ticket.drv) }
+        ensures { OnOk result (HasEndedAgain (IsDue L.keeping L.opening) (track_of hand.old.notes transport.old) (track_of hand.new.notes transport.new) job.ticket.drv) }
     {
         let fetched = transport.fetch(call, &job);
         let ticket = job.ticket;
@@ -341,8 +348,9 @@ impl<'a, L: Opened, R: Wait> Floor<'a, L, R> {
         transport: &mut Guarded<T>,
         job: Job,
     ) -> Result<bool, Refusal>
-        requires { 0 < hand.old.notes.room }
-        ensures { OnOk result (GoesOn (track_of hand.old.notes transport.old) (track_of hand.new.notes transport.new)) }
+        requires room { 0 < hand.old.notes.room }
+        requires job { IsJobOf L.opening job }
+        ensures { OnOk result (GoesOn (IsDue L.keeping L.opening) (track_of hand.old.notes transport.old) (track_of hand.new.notes transport.new)) }
     {
         let ticket = job.ticket;
         let Some(call) = self.leave_for(Step::Call, &ticket) else {
@@ -366,8 +374,9 @@ impl<'a, L: Opened, R: Wait> Floor<'a, L, R> {
         job: Job,
         again: bool,
     ) -> Result<bool, Refusal>
-        requires { 1 < hand.old.notes.room }
-        ensures { OnOk result (GoesOn (track_of hand.old.notes transport.old) (track_of hand.new.notes transport.new)) }
+        requires room { 1 < hand.old.notes.room }
+        requires job { IsJobOf L.opening job }
+        ensures { OnOk result (GoesOn (IsDue L.keeping L.opening) (track_of hand.old.notes transport.old) (track_of hand.new.notes transport.new)) }
     {
         if again {
             return self.serve_again(hand, transport, job);

@@ -70,7 +70,7 @@ impl<'a, L: Opened, R: Wait> Floor<'a, L, R> {
         desk.keep(writing);
     }
 
-    /// The journal has refused, and nothing more is begun.
+    /// The journal has refused, and no further lease is made.
     pub fn refuse(&self) {
         let mut desk = self.shared.desk.lock(self.rt);
         desk.refuse();

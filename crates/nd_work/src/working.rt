@@ -2,6 +2,7 @@
 
 ghost use Rattle.std.specs.Prelude.{◌≡◌, ◌<◌, [], ℕ, List};
 ghost use Rattle.nd_receipts.specs.Noted.{GoesOn, track_of};
+ghost use Rattle.nd_run_desk.specs.Jobs.{IsDue, IsNextOf};
 ghost use Rattle.nd_work.specs.Ends.{EndsWell};
 
 use crate::calling::Guarded;
@@ -29,7 +30,9 @@ pub enum End {
 
 impl<'a, L: Opened, R: Wait> Floor<'a, L, R> {
     /// What there is to do for the worker of this place. The bells of all places that get a lease ring.
-    fn look(&self, desk: &mut Desk<L>, place: ParkPlace) -> Next {
+    fn look(&self, desk: &mut Desk<L>, place: ParkPlace) -> Next
+        ensures { IsNextOf L.opening result }
+    {
         let before = desk.dispatch.history().len();
         let next = desk.next(self.alloc, place);
         let news = entries_since(&desk.dispatch, before);
@@ -38,7 +41,9 @@ impl<'a, L: Opened, R: Wait> Floor<'a, L, R> {
     }
 
     /// Waits until there is something to do for the worker of this place.
-    fn take(&self, place: ParkPlace) -> Next {
+    fn take(&self, place: ParkPlace) -> Next
+        ensures { IsNextOf L.opening result }
+    {
         let mut desk = self.shared.desk.lock(self.rt);
         for _ in self.rt.forever() {
             match self.look(&mut *desk, place) {
@@ -56,14 +61,14 @@ impl<'a, L: Opened, R: Wait> Floor<'a, L, R> {
         unreachable!()
     }
 
-    /// The worker of this place leaves, and nothing more is begun.
+    /// The worker of this place leaves, and no further lease is made.
     fn leave(&self, place: ParkPlace) {
         let mut desk = self.shared.desk.lock(self.rt);
         desk.leave(place);
         self.shared.bells.ring_all();
     }
 
-    /// Only the first `started` workers have threads, and nothing more is begun.
+    /// Only the first `started` workers have threads, and no further lease is made.
     pub fn serve_by_few(&self, started: usize) {
         let mut desk = self.shared.desk.lock(self.rt);
         desk.unstarted(started);
@@ -78,7 +83,7 @@ impl<'a, L: Opened, R: Wait> Floor<'a, L, R> {
         transport: &mut Guarded<T>,
         place: ParkPlace,
     ) -> End
-        ensures { EndsWell result (track_of hand.old.notes transport.old) (track_of hand.new.notes transport.new) }
+        ensures { EndsWell (IsDue L.keeping L.opening) result (track_of hand.old.notes transport.old) (track_of hand.new.notes transport.new) }
     {
         if hand.make_room().is_err() {
             self.leave(place);
@@ -100,8 +105,9 @@ impl<'a, L: Opened, R: Wait> Floor<'a, L, R> {
         transport: &mut Guarded<T>,
         next: Next,
     ) -> End
-        requires { 1 < hand.old.notes.room }
-        ensures { EndsWell result (track_of hand.old.notes transport.old) (track_of hand.new.notes transport.new) }
+        requires room { 1 < hand.old.notes.room }
+        requires next { IsNextOf L.opening next }
+        ensures { EndsWell (IsDue L.keeping L.opening) result (track_of hand.old.notes transport.old) (track_of hand.new.notes transport.new) }
     {
         match next {
             Next::Finished => End::Finished,
@@ -129,7 +135,7 @@ impl<'a, L: Opened, R: Wait> Floor<'a, L, R> {
         transport: &mut Guarded<T>,
         place: ParkPlace,
     ) -> End
-        ensures { EndsWell result (track_of hand.old.notes transport.old) (track_of hand.new.notes transport.new) }
+        ensures { EndsWell (IsDue L.keeping L.opening) result (track_of hand.old.notes transport.old) (track_of hand.new.notes transport.new) }
     {
         'serving: for _ in self.rt.forever() {
             let end = self.turn(hand, transport, place);

@@ -7,11 +7,13 @@ use Rattle.nd_history.specs.Premises.{Premises}
 use Rattle.nd_history.specs.Choices.{machines_in, jobs_of}
 use Rattle.nd_history.specs.Statuses.{IsFinished}
 use Rattle.nd_ledger.specs.Worlds.{World}
-use Rattle.nd_transports.specs.declared.kinds.Call.{Call}
+use Rattle.nd_keeping.specs.Scribing.{Scribing}
+use Rattle.nd_run_desk.specs.Jobs.{IsAsked, IsDue}
+use Rattle.nd_run_desk.specs.Leaves.{Keeping}
 use Rattle.nd_receipts.specs.declared.receipt.Receipt.{Receipt}
 use Rattle.nd_receipts.specs.Receipts.{AreCallsIn}
 use Rattle.nd_receipts.specs.Dealt.{AreReceipted}
-use Rattle.nd_transports.specs.Calls.{State}
+use Rattle.nd_transports.specs.Calls.{State, Deed}
 use Rattle.nd_workers.specs.declared.run_end.RunFault.{RunFault}
 use Rattle.nd_workers.specs.declared.run_end.RunFault.TheVariants.{Receipts}
 use Rattle.nd_workers.specs.declared.run_end.RunError.{RunError}
@@ -53,20 +55,32 @@ pub record IsOver (opening now : World) : Type 0 where
   pub finished : IsFinished now.inputs (reverse now.history)
 
 -- a worker kept its place, and its transport's calls since then are those of its receipts, in a run that began behind the first `opened`
--- entries of the history
-pub record IsServedIn (opened : ℕ) (history : List Entry) (before after : Seated) (receipts : List Receipt) : Type 0 where
+-- entries of the history, each made as `Due` says of its derivation
+pub record IsServedIn (Due : ℕ → Deed → Type 0) (opened : ℕ) (history : List Entry) (before after : Seated) (receipts : List Receipt) : Type 0 where
   pub place : after.place ≡ before.place
-  pub calls : List Call
-  pub grown : after.calls ≡ before.calls ++ calls
-  pub agree : AreCallsIn opened history receipts calls
+  pub deeds : List Deed
+  pub grown : after.deeds ≡ before.deeds ++ deeds
+  pub agree : AreCallsIn Due opened history receipts deeds
 
 -- .. each of these workers, with its receipts
-abbrev pub AreServedIn : {T A : Type 0} → (T → State) → ℕ → List Entry → List (Seat T) → List (Seat T) → List (Vec Receipt A) → Type 0
-AreServedIn state opened history before after receipts = AllZip (λ w x. IsServedIn opened history (seat_of state w) (seat_of state x.0) x.1.items) before (zip after receipts)
+abbrev pub AreServedIn : {T A : Type 0} → (ℕ → Deed → Type 0) → (T → State) → ℕ → List Entry → List (Seat T) → List (Seat T) → List (Vec Receipt A) → Type 0
+AreServedIn Due state opened history before after receipts = AllZip (λ w x. IsServedIn Due opened history (seat_of state w) (seat_of state x.0) x.1.items) before (zip after receipts)
 
--- .. in a run that began with this dispatch
+-- .. in a run that began with this dispatch and asks as `Due` says
+abbrev pub AreServedBy : {T A : Type 0} → (ℕ → Deed → Type 0) → (T → State) → World → World → List (Seat T) → List (Seat T) → List (Vec Receipt A) → Type 0
+AreServedBy Due state opening now before after receipts = AreServedIn Due state (length opening.history) now.history before after receipts
+
+-- .. for jobs of the run
 abbrev pub AreServed : {T A : Type 0} → (T → State) → World → World → List (Seat T) → List (Seat T) → List (Vec Receipt A) → Type 0
-AreServed state opening now before after receipts = AreServedIn state (length opening.history) now.history before after receipts
+AreServed state opening now before after receipts = AreServedBy (IsAsked opening) state opening now before after receipts
+
+-- a run that keeps its history by this scribe, or doesn't
+abbrev pub keeping_of : Scribing → Bool → Keeping
+keeping_of scribe keeps = record { book = scribe.handed.book; keeps = keeps }
+
+-- .. where the run keeps its history by this scribe: each call was made once what stands behind it was durable in the scribe's journal
+abbrev pub AreServedKept : {T A : Type 0} → Scribing → (T → State) → World → World → List (Seat T) → List (Seat T) → List (Vec Receipt A) → Type 0
+AreServedKept scribe state opening now before after receipts = AreServedBy (IsDue (keeping_of scribe true) opening) state opening now before after receipts
 
 -- the entries since the opening
 abbrev pub since : World → World → List Entry

@@ -3,8 +3,7 @@
 use Rattle.std.specs.Prelude.{◌≡◌, ℕ, Bool, true, false, List, [], map, sum_by, length}
 use Rattle.std.specs.List.{AllZip}
 use Rattle.nd_history.specs.declared.entry.Entry.{Entry}
-use Rattle.nd_transports.specs.declared.kinds.Call.{Call}
-use Rattle.nd_transports.specs.Calls.{State}
+use Rattle.nd_transports.specs.Calls.{State, Deed}
 use Rattle.nd_workers.specs.declared.seat.Seat.{Seat}
 use Rattle.nd_workers.specs.declared.threads.Stint.{Stint}
 use Rattle.nd_work.specs.declared.working.End.{End}
@@ -15,28 +14,28 @@ use Rattle.nd_work.specs.Ends.{EndsWell}
 -- a worker's place, and the calls of its transport
 pub record Seated : Type 0 where
   pub place : ℕ × ℕ
-  pub calls : List Call
+  pub deeds : List Deed
 
 -- .. where this is the state of a transport
 abbrev pub seat_of : {T : Type 0} → (T → State) → Seat T → Seated
-seat_of state w = record { place = w.place; calls = (state w.transport).calls }
+seat_of state w = record { place = w.place; deeds = (state w.transport).deeds }
 
 -- the places that these workers serve
 abbrev pub places_served : {T : Type 0} → List (Seat T) → List (ℕ × ℕ)
 places_served workers = map (λ w. w.place) workers
 
 -- a worker ended so, on the same place, with these notes
-pub record IsServed (before : Seated) (how : End) (after : Seated) (notes : Noted) : Type 0 where
+pub record IsServed (Due : ℕ → Deed → Type 0) (before : Seated) (how : End) (after : Seated) (notes : Noted) : Type 0 where
   pub place : after.place ≡ before.place
-  pub goes : EndsWell how (record { receipts = []; copies = []; calls = before.calls }) (track notes after.calls)
+  pub goes : EndsWell Due how (record { receipts = []; copies = []; deeds = before.deeds }) (track notes after.deeds)
 
 -- this came back of the worker
-abbrev pub HasServed : {T : Type 0} → (T → State) → Seated → Stint T → Type 0
-HasServed state w x = IsServed w x.end (seat_of state x.seat) x.notes
+abbrev pub HasServed : {T : Type 0} → (ℕ → Deed → Type 0) → (T → State) → Seated → Stint T → Type 0
+HasServed Due state w x = IsServed Due w x.end (seat_of state x.seat) x.notes
 
 -- .. of each worker
-abbrev pub HaveServed : {T : Type 0} → (T → State) → List (Seat T) → List (Stint T) → Type 0
-HaveServed state workers stints = AllZip (λ w x. HasServed state (seat_of state w) x) workers stints
+abbrev pub HaveServed : {T : Type 0} → (ℕ → Deed → Type 0) → (T → State) → List (Seat T) → List (Stint T) → Type 0
+HaveServed Due state workers stints = AllZip (λ w x. HasServed Due state (seat_of state w) x) workers stints
 
 -- how many receipts came back
 abbrev pub receipts_in : {T : Type 0} → List (Stint T) → ℕ

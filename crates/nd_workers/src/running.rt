@@ -9,8 +9,9 @@ ghost use Rattle.nd_receipts.specs.Dealt.{AreApart};
 ghost use Rattle.nd_receipts.specs.Standing.{IsIdle};
 ghost use Rattle.nd_receipts.specs.Walks.{AreUnknown};
 ghost use Rattle.nd_workers.specs.Faults.{IsFaultFrom, IsFaultOf, AreAllWrong};
-ghost use Rattle.nd_workers.specs.Runs.{AreManned, IsRunRefused, Agrees, IsOver, AreServed, AreReceiptedSince, since};
+ghost use Rattle.nd_workers.specs.Runs.{AreManned, IsRunRefused, Agrees, IsOver, AreServed, AreServedBy, AreReceiptedSince, keeping_of, since};
 ghost use Rattle.nd_workers.specs.Served.{places_served, HaveServed, is_refused, receipts_in};
+ghost use Rattle.nd_run_desk.specs.Jobs.{IsDue};
 ghost use Rattle.nd_run_desk.specs.Judgements.{AreJudged};
 ghost use Rattle.nd_run_desk.specs.Leaves.{IsFrontOf};
 ghost use Rattle.nd_run_desk.specs.Steps.{RunsOn, StopsAreTold};
@@ -147,7 +148,7 @@ fn serve_leases<
     ensures misreports { AreJudged dispatch result.served.dispatch result.served.misreports }
     ensures count { vec_len result.served.stints ≡ vec_len seats }
     ensures total { made result.served.dispatch.history ≡ made dispatch.history + receipts_in result.served.stints.items }
-    ensures each { HaveServed T.state seats.items result.served.stints.items }
+    ensures each { HaveServed (IsDue L.keeping L.opening) T.state seats.items result.served.stints.items }
     ensures written { IsWritten paper.keeps result.served.kept result.scribe result.served.handed.entries result.served.dispatch.history }
 {
     let Stations { manned, bells } = stations;
@@ -227,7 +228,7 @@ fn run_in<
     ensures memory { result.run.fault ≡ Some RunFault.Memory → list_any is_stop result.run.dispatch.history ≡ true }
     ensures journal { result.run.fault ≡ Some RunFault.Journal → list_any is_stop result.run.dispatch.history ≡ true }
     ensures written { IsWritten paper.keeps result.run.evidence.kept result.scribe result.run.evidence.handed.entries result.run.dispatch.history }
-    ensures calls { Agrees result.run.fault → AreServed T.state dispatch result.run.dispatch seats.items result.run.workers.items result.run.receipts.items }
+    ensures calls { Agrees result.run.fault → AreServedBy (IsDue L.keeping L.opening) T.state dispatch result.run.dispatch seats.items result.run.workers.items result.run.receipts.items }
     ensures judged { Agrees result.run.fault → AreAllWrong result.run.dispatch.inputs result.run.dispatch.history result.run.receipts.items }
     ensures misreports { AreJudged dispatch result.run.dispatch result.run.evidence.misreports }
     ensures fault { IsFaultOf dispatch result.run.dispatch plan.places.items result.run.receipts.items result.run.evidence result.run.fault }
@@ -287,7 +288,7 @@ fn run_named<
     ensures memory { IfOk result (λ e. e.run.fault ≡ Some RunFault.Memory → list_any is_stop e.run.dispatch.history ≡ true) }
     ensures journal { IfOk result (λ e. e.run.fault ≡ Some RunFault.Journal → list_any is_stop e.run.dispatch.history ≡ true) }
     ensures written { IfOk result (λ e. IsWritten paper.keeps e.run.evidence.kept e.scribe e.run.evidence.handed.entries e.run.dispatch.history) }
-    ensures calls { IfOk result (λ e. Agrees e.run.fault → AreServed T.state dispatch e.run.dispatch seats.items e.run.workers.items e.run.receipts.items) }
+    ensures calls { IfOk result (λ e. Agrees e.run.fault → AreServedBy (IsDue L.keeping L.opening) T.state dispatch e.run.dispatch seats.items e.run.workers.items e.run.receipts.items) }
     ensures judged { IfOk result (λ e. Agrees e.run.fault → AreAllWrong e.run.dispatch.inputs e.run.dispatch.history e.run.receipts.items) }
     ensures misreports { IfOk result (λ e. AreJudged dispatch e.run.dispatch e.run.evidence.misreports) }
     ensures fault { IfOk result (λ e. IsFaultOf dispatch e.run.dispatch plan.places.items e.run.receipts.items e.run.evidence e.run.fault) }
@@ -331,7 +332,7 @@ pub(crate) fn run_by<T: Transport, J: Journal + Send + Drop, R: Threads + Wait +
     ensures memory { IfOk result (λ e. e.run.fault ≡ Some RunFault.Memory → list_any is_stop e.run.dispatch.history ≡ true) }
     ensures journal { IfOk result (λ e. e.run.fault ≡ Some RunFault.Journal → list_any is_stop e.run.dispatch.history ≡ true) }
     ensures written { IfOk result (λ e. IsWritten keeps e.run.evidence.kept e.scribe e.run.evidence.handed.entries e.run.dispatch.history) }
-    ensures calls { IfOk result (λ e. Agrees e.run.fault → AreServed T.state dispatch e.run.dispatch workers.items e.run.workers.items e.run.receipts.items) }
+    ensures calls { IfOk result (λ e. Agrees e.run.fault → AreServedBy (IsDue (keeping_of scribe keeps) dispatch) T.state dispatch e.run.dispatch workers.items e.run.workers.items e.run.receipts.items) }
     ensures judged { IfOk result (λ e. Agrees e.run.fault → AreAllWrong e.run.dispatch.inputs e.run.dispatch.history e.run.receipts.items) }
     ensures misreports { IfOk result (λ e. AreJudged dispatch e.run.dispatch e.run.evidence.misreports) }
     ensures fault { IfOk result (λ e. IsFaultOf dispatch e.run.dispatch (places_served workers.items) e.run.receipts.items e.run.evidence e.run.fault) }

@@ -4,6 +4,7 @@
 ghost use Rattle.std.specs.Prelude.{◌≡◌, ◌+◌, ◌<◌, ◌≤◌, [], ℕ, List, length, vec_len, vec_capacity, sum_by, is_ok, MatchResult};
 ghost use Rattle.std.specs.List.{AllZip};
 ghost use Rattle.nd_receipts.specs.Noted.{track_of};
+ghost use Rattle.nd_run_desk.specs.Jobs.{IsDue};
 ghost use Rattle.nd_work.specs.Ends.{EndsWell};
 ghost use Rattle.nd_workers.specs.AtWork.{IsAtWork, HaveEnded};
 ghost use Rattle.nd_workers.specs.Served.{seat_of, HasServed, HaveServed, receipts_in};
@@ -35,7 +36,7 @@ fn work<L: Opened, T: Transport, R: Wait>(
     hand: Hand<L>,
     seat: Seat<T>,
 ) -> Done<L, T>
-    ensures goes { EndsWell result.end (track_of hand.notes (T.state seat.transport)) (track_of result.hand.notes (T.state result.seat.transport)) }
+    ensures goes { EndsWell (IsDue L.keeping L.opening) result.end (track_of hand.notes (T.state seat.transport)) (track_of result.hand.notes (T.state result.seat.transport)) }
     ensures place { result.seat.place ≡ seat.place }
 {
     let Seat { place, transport } = seat;
@@ -59,9 +60,10 @@ pub(crate) struct Serves<T> {
 }
 
 impl<L: Opened, T: Transport> Promise<Done<L, T>> for Serves<T> {
+    ghost use Rattle.nd_run_desk.specs.Jobs.{IsDue};
     ghost use Rattle.nd_workers.specs.Served.{seat_of, IsServed};
 
-    ghost kept_by = { λ p d. IsServed (seat_of T.state p.seat.value) d.end (seat_of T.state d.seat) d.hand.notes };
+    ghost kept_by = { λ p d. IsServed (IsDue L.keeping L.opening) (seat_of T.state p.seat.value) d.end (seat_of T.state d.seat) d.hand.notes };
 }
 
 /// The thread of a worker, or what the worker handed back where it has none.
@@ -92,7 +94,7 @@ fn start<'s, E, L: Opened + Send + Sync + 's, T: Transport + 's, R: Wait + Sync>
 ) -> Running<L, T>
     requires receipts { hand.notes.receipts ≡ [] }
     requires copies { hand.notes.copies ≡ [] }
-    ensures { IsAtWork T.state seat result }
+    ensures { IsAtWork (IsDue L.keeping L.opening) T.state seat result }
 {
     if stopped {
         return Err(Done {
@@ -148,7 +150,7 @@ fn start_all<'s, E, L: Opened + Send + Sync + 's, T: Transport + 's, R: Wait + S
     ensures parts { rest.new.parts ≡ 1 }
     ensures amount { rest.new.amount ≡ rest.old.amount }
     ensures count { vec_len running.new ≡ vec_len seats }
-    ensures each { AllZip (IsAtWork T.state) seats.items running.new.items }
+    ensures each { AllZip (IsAtWork (IsDue L.keeping L.opening) T.state) seats.items running.new.items }
 {
     let mut stopped = false;
     'starting: for seat in seats {
@@ -193,7 +195,7 @@ fn join<L: Opened, T: Transport, R: Threads>(
     ensures parts { all.new.parts ≡ all.old.parts + 1 }
     ensures amount { all.new.amount ≡ all.old.amount + length result.notes.receipts }
     ensures threaded { result.threaded ≡ is_ok running }
-    ensures served { (w : _) → IsAtWork T.state w running → HasServed T.state (seat_of T.state w) result }
+    ensures served { (w : _) → IsAtWork (IsDue L.keeping L.opening) T.state w running → HasServed (IsDue L.keeping L.opening) T.state (seat_of T.state w) result }
 {
     match running {
         Ok(handle) => take_in(handle.join(rt), true, all),
@@ -214,7 +216,7 @@ fn join_all<L: Opened, T: Transport, R: Threads>(
     ensures parts { all.new.parts ≡ all.old.parts + vec_len running }
     ensures count { vec_len stints.new ≡ vec_len running }
     ensures amount { all.new.amount ≡ all.old.amount + receipts_in stints.new.items }
-    ensures each { AllZip (λ r x. (w : _) → IsAtWork T.state w r → HasServed T.state (seat_of T.state w) x) running.items stints.new.items }
+    ensures each { AllZip (λ r x. (w : _) → IsAtWork (IsDue L.keeping L.opening) T.state w r → HasServed (IsDue L.keeping L.opening) T.state (seat_of T.state w) x) running.items stints.new.items }
 {
     'joining: for next in running {
         let stint = join(rt, next, all);
@@ -288,7 +290,7 @@ fn serve_all<'s, E, L: Opened + Send + Sync + 's, T: Transport + 's, R: Threads 
     ensures parts { result.all.parts ≡ vec_len ready.seats + 1 }
     ensures count { vec_len result.stints ≡ vec_len ready.seats }
     ensures amount { result.all.amount ≡ ready.rest.amount + receipts_in result.stints.items }
-    ensures each { HaveServed T.state ready.seats.items result.stints.items }
+    ensures each { HaveServed (IsDue L.keeping L.opening) T.state ready.seats.items result.stints.items }
 {
     let Ready {
         seats,
@@ -317,7 +319,7 @@ fn keep_and_serve<
     ready: Ready<L, T>,
     writing: Writing<L, J>,
 ) -> Joined<L, T, J>
-    ensures { HaveEnded T.state ready.seats ready.rest.amount result.ended }
+    ensures { HaveEnded (IsDue L.keeping L.opening) T.state ready.seats ready.rest.amount result.ended }
 {
     let scribing = start_scribe(scope, rt, alloc, shared, writing);
     let ended = serve_all(scope, rt, alloc, shared, ready);
@@ -340,13 +342,13 @@ pub(crate) fn in_scope<
     ready: Ready<L, T>,
     writing: Writing<L, J>,
 ) -> Joined<L, T, J>
-    ensures { HaveEnded T.state ready.seats ready.rest.amount result.ended }
+    ensures { HaveEnded (IsDue L.keeping L.opening) T.state ready.seats ready.rest.amount result.ended }
 {
     thread::scope(
         thread::scope_env(),
         rt,
         |scope| -> Joined<L, T, J>
-            ensures { HaveEnded T.state ready.seats ready.rest.amount result.ended }
+            ensures { HaveEnded (IsDue L.keeping L.opening) T.state ready.seats ready.rest.amount result.ended }
         { keep_and_serve(scope, rt, alloc, shared, ready, writing) },
     )
 }

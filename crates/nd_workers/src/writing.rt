@@ -7,7 +7,7 @@ ghost use Rattle.nd_receipts.specs.Made.{made, is_quiet};
 ghost use Rattle.nd_workers.specs.Faults.{IsFaultOf, AreAllWrong};
 ghost use Rattle.nd_run_desk.specs.Judgements.{AreJudged};
 ghost use Rattle.nd_run_desk.specs.Leaves.{IsFrontOf};
-ghost use Rattle.nd_workers.specs.Runs.{AreManned, IsRunRefused, Agrees, IsOver, AreServed, AreReceiptedSince, since};
+ghost use Rattle.nd_workers.specs.Runs.{AreManned, IsRunRefused, Agrees, IsOver, AreServedKept, AreReceiptedSince, since};
 ghost use Rattle.nd_workers.specs.Served.{places_served};
 ghost use Rattle.nd_run_desk.specs.Steps.{RunsOn};
 ghost use Rattle.nd_run_desk.specs.Written.{IsUnwritten, IsWrittenWhole};
@@ -57,7 +57,7 @@ pub fn run_kept<T: Transport, J: Journal + Send + Drop, R: Threads + Wait + Sync
     ensures journal { IfOk result (λ e. e.run.fault ≡ Some RunFault.Journal → list_any is_stop e.run.dispatch.history ≡ true) }
     ensures written { IfOk result (λ e. e.run.evidence.kept ≡ true → IsWrittenWhole e.scribe e.run.dispatch.history) }
     ensures unwritten { IfOk result (λ e. e.run.evidence.kept ≡ false → IsUnwritten e.scribe e.run.evidence.handed.entries e.run.dispatch.history) }
-    ensures calls { IfOk result (λ e. Agrees e.run.fault → AreServed T.state dispatch e.run.dispatch workers.items e.run.workers.items e.run.receipts.items) }
+    ensures calls { IfOk result (λ e. Agrees e.run.fault → AreServedKept scribe T.state dispatch e.run.dispatch workers.items e.run.workers.items e.run.receipts.items) }
     ensures judged { IfOk result (λ e. Agrees e.run.fault → AreAllWrong e.run.dispatch.inputs e.run.dispatch.history e.run.receipts.items) }
     ensures misreports { IfOk result (λ e. AreJudged dispatch e.run.dispatch e.run.evidence.misreports) }
     ensures fault { IfOk result (λ e. IsFaultOf dispatch e.run.dispatch (places_served workers.items) e.run.receipts.items e.run.evidence e.run.fault) }

@@ -11,17 +11,16 @@ use nd_options::park_options;
 use std::alloc::Global;
 use std::io::{self, Write};
 use std::rt::Files;
-use std::thread::Threads;
 
 /// Writes the slots of the park that the options describe. No bundle is read.
-pub(crate) fn list_park<'a, R: Files + Print + AllocGlobal + Threads + Sync>(
+pub(crate) fn list_park<'a, R: Files + Print + AllocGlobal>(
     rt: &R,
     alloc: Global,
     options: &ArgMatches<'a>,
 ) -> Result<u8, Failure<'a>> {
     let park = park_options(rt, alloc, options)?;
     let mut output = Told::new(Heard::new(io::writer(rt)));
-    let answer = park_engine(rt, alloc, &park, &mut output);
+    let answer = park_engine(alloc, &park, &mut output);
     listed(alloc, options, park, answer, output.into_inner())
 }
 

@@ -10,7 +10,7 @@ use nd_cli::CliFault;
 use nd_command_line::write_failure;
 use nd_devices::Told;
 use nd_explain::{Failure, Heard};
-use nd_kept_run::{KeptEnd, run_kept_engine};
+use nd_kept_run::{KeptEnd, run_kept_engine, scribe_of};
 use nd_run_command::run_engine;
 use nd_serve_command::{Opened, ServeFault};
 use nd_transports::Transport;
@@ -48,10 +48,20 @@ pub(crate) fn run_workers<'a, T: Transport, R: Print + AllocGlobal + Threads + W
             let answer = run_engine(rt, dispatch, workers, report, &mut output);
             common(ended(answer, output.into_inner()))
         }
-        journal => {
-            let end = run_kept_engine(rt, opened, workers, journal, report, &mut output);
-            kept_ended(end, output.into_inner())
-        }
+        journal => match scribe_of(alloc, &opened, journal) {
+            Ok(scribe) => {
+                let Opened { dispatch, kept: _ } = opened;
+                let end = run_kept_engine(rt, dispatch, workers, scribe, report, &mut output);
+                kept_ended(end, output.into_inner())
+            }
+            Err(journal) => {
+                // The process ends with the command.
+                mem::forget(workers);
+                mem::forget(opened);
+                mem::forget(journal);
+                common(ended(Err(CliFault::Memory), output.into_inner()))
+            }
+        },
     }
 }
 

@@ -45,6 +45,18 @@ class World:
     def is_valid(self, path):
         return os.path.exists(self._mark(path))
 
+    def has_files(self, path):
+        """Whether there is something of a path, which may be valid where there is nothing."""
+        return os.path.lexists(self.root + path)
+
+    def modified(self):
+        """The paths that aren't as they were registered."""
+        try:
+            with open(os.path.join(self.state, "modified"), encoding="ascii") as file:
+                return file.read().split()
+        except FileNotFoundError:
+            return []
+
     def make_valid(self, path):
         """Has a path in the store, as a file."""
         file = self.root + path
@@ -91,6 +103,9 @@ class World:
             left -= 1
         for path in what.get("loses", []):
             self.lose(path)
+        for path in what.get("modifies", []):
+            with open(os.path.join(self.state, "modified"), "a", encoding="ascii") as file:
+                file.write(path + "\n")
         if "kills" in what:
             os.kill(os.getpid(), what["kills"])
         return what.get("status", 0)

@@ -52,7 +52,7 @@ fn answers<R: Threads + Sync>(
 }
 
 /// For how many bytes of a bundle there is room at first.
-const ROOM: u64 = 262_144;
+const ROOM: u64 = 1_048_576;
 
 /// How many bytes that value has in a bundle of so many bytes whose other text is this.
 fn middle_of(size: u64, behind: &[u8]) -> u64 {

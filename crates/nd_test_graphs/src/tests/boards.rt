@@ -124,7 +124,7 @@ impl Boards {
         true
     }
 
-    /// Nothing more is begun on both.
+    /// No further lease is made on both.
     fn stop(&mut self) {
         self.kept.stop();
         self.plain.stop();

@@ -4,8 +4,7 @@ ghost use Rattle.std.specs.Prelude.{true};
 
 use crate::tests::derivation_texts::joined;
 use nd_aterm::{
-    AtermError, Derivation, EnvEntry, EnvEntryView, PartsView, SelectedView, Selection, parse,
-    parse_selected, parse_view,
+    AtermError, Derivation, EnvEntry, EnvEntryView, SelectedView, Selection, parse, parse_selected,
 };
 use std::alloc::{AllocError, Global};
 
@@ -126,14 +125,6 @@ fn is_one(env: &[EnvEntry], value: &[u8]) -> bool {
     }
 }
 
-/// Whether these are the parts of one.
-fn is_viewed(answer: Result<PartsView<'_>, AtermError>, value: &[u8]) -> bool {
-    match answer {
-        Ok(parts) => is_one_view(parts.env.as_slice(), value),
-        Err(_) => false,
-    }
-}
-
 /// Whether this is what is selected of one.
 fn is_selected(answer: Result<SelectedView<'_>, AtermError>, value: &[u8]) -> bool {
     match answer {
@@ -144,17 +135,13 @@ fn is_selected(answer: Result<SelectedView<'_>, AtermError>, value: &[u8]) -> bo
 
 /// Whether each reading finds the value in a text.
 fn all_find(alloc: Global, text: &[u8], value: &[u8]) -> bool {
-    is_owned(parse(alloc, text), value)
-        && is_viewed(parse_view(alloc, text), value)
-        && is_selected(parse_selected::<All>(alloc, text), value)
+    is_owned(parse(alloc, text), value) && is_selected(parse_selected::<All>(alloc, text), value)
 }
 
 /// Whether each reading says that this is no derivation's text.
 fn all_refuse(alloc: Global, text: &[u8]) -> bool {
     let refused = Some(AtermError::NotDerivation);
-    parse(alloc, text).err() == refused
-        && parse_view(alloc, text).err() == refused
-        && parse_selected::<All>(alloc, text).err() == refused
+    parse(alloc, text).err() == refused && parse_selected::<All>(alloc, text).err() == refused
 }
 
 /// Whether each reading refuses the text wherever it is cut.

@@ -5,6 +5,7 @@ ghost use Rattle.nd_transports.specs.Calls.{Builds};
 
 use crate::tests::parks::{at, dispatch, ran, stand_in};
 use nd_closure::Refs;
+use nd_keeping::Kept;
 use nd_ledger::Job;
 use nd_receipts::ParkPlace;
 use nd_test_fixtures::bundles::PLAIN_3;
@@ -50,11 +51,11 @@ fn come(count: &AtomicU64) -> bool {
 }
 
 /// As the trait says it of any transport.
-fn build_by<T: Transport>(transport: &mut T) -> Ended
+fn build_by<T: Transport>(transport: &mut T, by: &Kept) -> Ended
     requires { (T.state transport.old).phase ≡ Phase.Copied }
-    ensures { Builds (T.state transport.old) result (T.state transport.new) }
+    ensures { Builds (T.state transport.old) by.now result (T.state transport.new) }
 {
-    transport.build()
+    transport.build(by)
 }
 
 impl Transport for Meets {
@@ -64,22 +65,22 @@ impl Transport for Meets {
         self.stand.prepare(job)
     }
 
-    fn connect(&mut self) -> bool {
-        self.stand.connect()
+    fn connect(&mut self, by: &Kept) -> bool {
+        self.stand.connect(by)
     }
 
-    fn copy(&mut self) -> bool {
+    fn copy(&mut self, by: &Kept) -> bool {
         if !come(&self.meeting.copies) {
             self.stand.fuse(0);
         }
-        self.stand.copy()
+        self.stand.copy(by)
     }
 
-    fn build(&mut self) -> Ended {
+    fn build(&mut self, by: &Kept) -> Ended {
         if !come(&self.meeting.builds) {
             self.stand.fuse(0);
         }
-        build_by(&mut self.stand)
+        build_by(&mut self.stand, by)
     }
 
     fn reported(&self) -> Result<Refs, AllocError> {

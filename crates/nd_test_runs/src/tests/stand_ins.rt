@@ -8,6 +8,7 @@ use nd_ledger::Job;
 use nd_path::{PathSet, StorePath};
 use nd_script::Rule;
 use nd_test_fixtures::bundles::S1;
+use nd_test_fixtures::journals::nothing_kept;
 use nd_transports::{
     Ended, Fetch, Outcome, Phase, RuleBook, StandIn, Transport, serve_build, serve_copy,
 };
@@ -52,9 +53,10 @@ fn job_of(alloc: Global, drv: u32) -> Result<Job, Fail> {
 }
 
 /// The outcome where the copy works.
-fn outcome<S: Transport>(stand: &mut S, job: &Job) -> Option<Outcome> {
-    match serve_copy(stand, job) {
-        Fetch::Copied => Some(serve_build(stand)),
+fn outcome<S: Transport>(alloc: Global, stand: &mut S, job: &Job) -> Option<Outcome> {
+    let kept = nothing_kept(alloc);
+    match serve_copy(stand, job, &kept) {
+        Fetch::Copied => Some(serve_build(stand, &kept)),
         Fetch::Refused(_) | Fetch::Memory => None,
     }
 }
@@ -68,7 +70,7 @@ fn plain_stand_in(rt: HostRuntime) -> Result<(), Fail> {
     let alloc = rt.alloc();
     let job = job(alloc)?;
     let mut stand = stand_in(alloc, 1, vec![in alloc]?)?;
-    match outcome(&mut stand, &job) {
+    match outcome(alloc, &mut stand, &job) {
         Some(Outcome::Built(refs)) => assert!(rt; has_sets(&refs, 1, 0)),
         _ => assert!(rt; false, "not built"),
     }
@@ -80,7 +82,7 @@ fn plain_stand_in(rt: HostRuntime) -> Result<(), Fail> {
 fn fetched(alloc: Global, rules: Vec<Rule>) -> Result<Fetch, Fail> {
     let job = job(alloc)?;
     let mut stand = stand_in(alloc, 1, rules)?;
-    Ok(serve_copy(&mut stand, &job))
+    Ok(serve_copy(&mut stand, &job, &nothing_kept(alloc)))
 }
 
 #[test]
@@ -96,8 +98,8 @@ fn refused_copies(rt: HostRuntime) -> Result<(), Fail> {
 }
 
 /// How the build ends, where the copy works.
-fn end_of<S: Transport>(stand: &mut S, job: &Job) -> Option<Ended> {
-    match outcome(stand, job) {
+fn end_of<S: Transport>(alloc: Global, stand: &mut S, job: &Job) -> Option<Ended> {
+    match outcome(alloc, stand, job) {
         Some(Outcome::Status(code)) => Some(Ended::Status(code)),
         Some(Outcome::Lost) => Some(Ended::Lost),
         Some(Outcome::Built(_)) => Some(Ended::Built),
@@ -109,7 +111,7 @@ fn end_of<S: Transport>(stand: &mut S, job: &Job) -> Option<Ended> {
 fn ended(alloc: Global, rules: Vec<Rule>) -> Result<Option<Ended>, Fail> {
     let job = job(alloc)?;
     let mut stand = stand_in(alloc, 1, rules)?;
-    Ok(end_of(&mut stand, &job))
+    Ok(end_of(alloc, &mut stand, &job))
 }
 
 #[test]
@@ -130,7 +132,7 @@ fn ended_by_copy(alloc: Global, rules: Vec<Rule>) -> Result<Option<Ended>, Fail>
     let copy = book.try_clone()?;
     drop(book);
     let mut stand = StandIn::new(alloc, 1, copy);
-    Ok(end_of(&mut stand, &job(alloc)?))
+    Ok(end_of(alloc, &mut stand, &job(alloc)?))
 }
 
 #[test]
@@ -153,7 +155,7 @@ fn reported_references(rt: HostRuntime) -> Result<(), Fail> {
     let alloc = rt.alloc();
     let refs = Refs::new(vec![in alloc; one_path(alloc)?, one_path(alloc)?]?);
     let mut stand = stand_in(alloc, 1, vec![in alloc; Rule::Built(0, refs)]?)?;
-    match outcome(&mut stand, &job(alloc)?) {
+    match outcome(alloc, &mut stand, &job(alloc)?) {
         Some(Outcome::Built(refs)) => assert!(rt; has_sets(&refs, 2, 1)),
         _ => assert!(rt; false, "not built"),
     }
@@ -165,7 +167,7 @@ fn fused_copy(alloc: Global, passes: u32) -> Result<Fetch, Fail> {
     let job = job(alloc)?;
     let mut stand = stand_in(alloc, 1, vec![in alloc]?)?;
     stand.fuse(passes);
-    Ok(serve_copy(&mut stand, &job))
+    Ok(serve_copy(&mut stand, &job, &nothing_kept(alloc)))
 }
 
 /// How the build ends with this fuse, where the copy works.
@@ -173,7 +175,7 @@ fn fused_end(alloc: Global, passes: u32) -> Result<Option<Ended>, Fail> {
     let job = job(alloc)?;
     let mut stand = stand_in(alloc, 1, vec![in alloc]?)?;
     stand.fuse(passes);
-    Ok(end_of(&mut stand, &job))
+    Ok(end_of(alloc, &mut stand, &job))
 }
 
 #[test]
@@ -187,8 +189,14 @@ fn blown_fuses(rt: HostRuntime) -> Result<(), Fail> {
 }
 
 /// Whether a build ends with so many lists of so many paths.
-fn builds<S: Transport>(stand: &mut S, job: &Job, sets: usize, paths: usize) -> bool {
-    match outcome(stand, job) {
+fn builds<S: Transport>(
+    alloc: Global,
+    stand: &mut S,
+    job: &Job,
+    sets: usize,
+    paths: usize,
+) -> bool {
+    match outcome(alloc, stand, job) {
         Some(Outcome::Built(refs)) => has_sets(&refs, sets, paths),
         _ => false,
     }
@@ -211,11 +219,12 @@ fn fused(alloc: Global) -> Result<StandIn, Fail> {
 fn serves_in_turn(alloc: Global) -> Result<bool, Fail> {
     let (first, second, third) = (job_of(alloc, 0)?, job_of(alloc, 1)?, job_of(alloc, 2)?);
     let mut failing = fused(alloc)?;
-    let fails = builds(&mut failing, &first, 2, 1)
-        && end_of(&mut failing, &second) == Some(Ended::Status(4))
-        && serve_copy(&mut failing, &third) == Fetch::Refused(2);
+    let fails = builds(alloc, &mut failing, &first, 2, 1)
+        && end_of(alloc, &mut failing, &second) == Some(Ended::Status(4))
+        && serve_copy(&mut failing, &third, &nothing_kept(alloc)) == Fetch::Refused(2);
     let mut building = fused(alloc)?;
-    let builds_both = builds(&mut building, &first, 2, 1) && builds(&mut building, &third, 1, 0);
+    let builds_both = builds(alloc, &mut building, &first, 2, 1)
+        && builds(alloc, &mut building, &third, 1, 0);
     Ok(fails && builds_both && failing.phase() == Phase::Idle)
 }
 

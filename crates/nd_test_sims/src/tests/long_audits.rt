@@ -5,7 +5,8 @@ use crate::tests::drawing::Scribe;
 use crate::tests::running::{Call, written};
 use crate::tests::worlds::{Texts, draw, place_of};
 use nd_bytes::Items;
-use nd_cli::read_park;
+use nd_cli::{Park, take_park};
+use nd_devices::Told;
 use nd_history::{Entry, Inputs};
 use nd_history_text::read_history;
 use nd_report::{AuditError, audit, audit_side_by_side};
@@ -122,6 +123,12 @@ fn long_history(alloc: Global, text: &[u8]) -> Option<Vec<Entry>> {
     Some(long)
 }
 
+/// The park of a world. `None` where memory is wanting.
+fn park_of<R: Threads + Sync>(rt: &R, alloc: Global, place: &Place<'_>) -> Option<Park> {
+    let mut bundle = Told::new(place.bundle.as_bytes());
+    take_park(rt, alloc, &options(alloc, place), &mut bundle).ok()
+}
+
 /// What an audit by one thread says of the history of this text. `None` where there is none.
 fn answer_alone<R: Threads + Sync>(
     rt: &R,
@@ -130,8 +137,7 @@ fn answer_alone<R: Threads + Sync>(
     text: &[u8],
 ) -> Option<Result<(), AuditError>> {
     let entries = long_history(alloc, text)?;
-    let options = options(alloc, place);
-    let park = read_park(rt, alloc, &options, place.bundle.as_bytes()).ok()?;
+    let park = park_of(rt, alloc, place)?;
     Some(audit(
         alloc,
         park.graph,
@@ -151,8 +157,7 @@ fn answer_beside<R: Threads + Sync>(
     text: &[u8],
 ) -> Option<Result<(), AuditError>> {
     let entries = long_history(alloc, text)?;
-    let options = options(alloc, place);
-    let park = read_park(rt, alloc, &options, place.bundle.as_bytes()).ok()?;
+    let park = park_of(rt, alloc, place)?;
     let inputs = Inputs {
         graph: park.graph,
         machines: Items::new(park.machines),

@@ -5,7 +5,9 @@ use Rattle.nd_receipts.specs.Made.{made}
 use Rattle.nd_workers.specs.declared.seat.Seat.{Seat}
 use Rattle.nd_workers.specs.Faults.{IsFaultFrom}
 use Rattle.nd_workers.specs.Runs.{IsServedIn, AreReceiptedFrom}
+use Rattle.nd_run_desk.specs.Jobs.{IsDue}
 use Rattle.nd_run_desk.specs.Judgements.{AreJudged}
+use Rattle.nd_transports.specs.Calls.{Deed}
 use Rattle.nd_run_desk.specs.Steps.{RunsOn, StopsAreTold}
 use Rattle.nd_run_desk.specs.Written.{IsWritten}
 use Rattle.nd_workers.specs.Served.{Seated, seat_of, places_served, IsSound}
@@ -71,12 +73,13 @@ returns-clause-judged g c = λ agrees.
 pub returns-clause-calls : goal.returns-clause-calls
 returns-clause-calls g c = λ agrees.
     let of : Seat g.row.T.Denot → Seated = seat_of g.T.Transport.state in
+    let Due : ℕ → Deed → Type 0 = IsDue g.L.Opened.keeping g.L.Opened.opening in
     let alike = alike_of _ _ _ _ _ _ (returns-clause-fault g c) agrees in
     let history = c.settle-run.result.dispatch.history in
     let opened : ℕ = length c.args.dispatch.history in
     let sound = sound_all opened history _ _ _ _ c.settle-run.ensures.each c.settle-run.ensures.beside (sym c.settle-run.ensures.refused ∙ alike.willing) alike.noted.each in
     zip_known_via {S = IsSound opened history} _ _ _ c.serve_leases-brought.ensures.each sound c.settle-run.ensures.each
-    (λ w y z p s q. subst (λ (x : Seat g.row.T.Denot). IsServedIn opened history (of w) (of x) z.1.items) (sym q.0) (served_in opened history (of w) (of y.seat) y.end y.notes z.1.items s.0 s.1 p q.1))
+    (λ w y z p s q. subst (λ (x : Seat g.row.T.Denot). IsServedIn Due opened history (of w) (of x) z.1.items) (sym q.0) (served_in Due opened history (of w) (of y.seat) y.end y.notes z.1.items s.0 s.1 p q.1))
 
 pub returns-clause-total : goal.returns-clause-total
 returns-clause-total g c =
@@ -86,7 +89,7 @@ pub returns-clause-runs : goal.returns-clause-runs
 returns-clause-runs g c = rw c.settle-run.ensures.dispatch c.serve_leases-brought.ensures.runs
 
 pub returns-clause-places : goal.returns-clause-places
-returns-clause-places g c = ap places_served c.settle-run.ensures.workers ∙ places_kept g.T.Transport.state _ _ c.serve_leases-brought.ensures.each
+returns-clause-places g c = ap places_served c.settle-run.ensures.workers ∙ places_kept (IsDue g.L.Opened.keeping g.L.Opened.opening) g.T.Transport.state _ _ c.serve_leases-brought.ensures.each
 
 pub returns-clause-count : goal.returns-clause-count
 returns-clause-count g c = c.settle-run.ensures.count ∙ c.serve_leases-brought.ensures.count

@@ -1,6 +1,7 @@
 use Rattle.std.proofs.Common.{◌≡◌, ◌+◌, ◌≤◌, vec_len, vec_capacity}
 use Rattle.std.specs.List.{AllZip}
 use Rattle.std.specs.Vec.Iter.{into_iter_len}
+use Rattle.nd_run_desk.specs.Jobs.{IsDue}
 use Rattle.nd_workers.specs.AtWork.{IsAtWork}
 use Rattle.nd_workers.proofs.threads.start_all.Given as goal
 
@@ -10,4 +11,4 @@ invariant-starting g l =
     × (l.rest.amount ≡ l.initial.rest.amount)
     × (vec_len l.running + into_iter_len l.seat-iterator ≡ vec_len l.fn.seats)
     × (vec_len l.running + into_iter_len l.seat-iterator ≤ vec_capacity l.running)
-    × AllZip (IsAtWork g.T.Transport.state) l.yielded l.running.items
+    × AllZip (IsAtWork (IsDue g.L.Opened.keeping g.L.Opened.opening) g.T.Transport.state) l.yielded l.running.items

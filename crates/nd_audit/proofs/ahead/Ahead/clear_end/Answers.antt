@@ -26,4 +26,4 @@ pub returns-clause-cleared : goal.returns-clause-cleared
 returns-clause-cleared c =
     cleared_end (premises_of c.args.inputs.now) c.args.self.now _ c.prepare_built.new.self c.args.drv c.in-Some.machine.now c.args.refs.now c.in_ok-check_references.field-0 c.in_ok-additions.additions
     (got_at c.args.self.now c.deref.result.now c.args.drv c.in-Some.machine.now c.deref.ensures.value c.in-Some.ensures.lookup.0 c.in-Some.ensures.lookup.1)
-    c.in_ok-check_references.ensures c.if-not-branch.false c.in_ok-additions.ensures.same c.in_ok-additions.ensures.additions c.take_in.ensures refl
+    c.in_ok-check_references.ensures.right c.if-not-branch.false c.in_ok-additions.ensures.same c.in_ok-additions.ensures.additions c.take_in.ensures refl

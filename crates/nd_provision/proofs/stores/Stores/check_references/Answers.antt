@@ -8,8 +8,8 @@ use Rattle.nd_provision.proofs.Nearness.{references_seen}
 use Rattle.nd_provision.proofs.Storing.{references_near}
 use Rattle.nd_provision.proofs.stores.Stores.check_references.Goals as goal
 
-pub returns-then-all_lie_in : goal.returns-then-all_lie_in
-returns-then-all_lie_in c =
+pub returns-then-all_lie_in-clause-right : goal.returns-then-all_lie_in-clause-right
+returns-then-all_lie_in-clause-right c =
     let i = premises_of c.args.inputs.now in
     let near : List (List ℕ) = c.in_ok-near.near in
     let needed : List (List ℕ) = c.in_ok-needed_by.field-0.items in
@@ -21,8 +21,8 @@ returns-then-all_lie_in c =
     let within : AreAllWithin near c.args.refs.now = subst (λ (xs : List (List (List ℕ))). AreAllWithin near xs) c.lists-3.ensures c.if-all_lie_in.ensures in
     references_near i c.args.self.now c.args.drv c.args.refs.now needed near sized (c.in_ok-needed_by.ensures.tells i refl) same within
 
-pub returns-then-are_near : goal.returns-then-are_near
-returns-then-are_near c =
+pub returns-then-are_near-clause-right : goal.returns-then-are_near-clause-right
+returns-then-are_near-clause-right c =
     let i = premises_of c.args.inputs.now in
     let as_many : length c.lists.result.now ≡ length c.outputs-outputs.result.now = omega (arith, c.if-lists-outputs.false) in
     let sized : length c.args.refs.now ≡ length (outputs_of i c.args.drv) =

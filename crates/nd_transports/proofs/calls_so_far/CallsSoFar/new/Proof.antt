@@ -13,6 +13,7 @@ use denote.Triple.Entry.{alive}
 use denote.Triple.Walked.{Stays, walk_of, says, ends_at}
 use Rattle.nd_transports.specs.contracts.calls_so_far.CallsSoFar as made
 use Rattle.nd_transports.specs.contracts.calls_so_far.CallsSoFar.new as f
+use Rattle.nd_transports.specs.Calls.{no_job}
 use Rattle.nd_transports.specs.declared.calls_so_far.CallsSoFar.{CallsSoFar}
 use Rattle.nd_transports.proofs.calls_so_far.CallsSoFar.new.Statement.{statement}
 use Rattle.nd_transports.proofs.calls_so_far.CallsSoFar.new.Code as code
@@ -27,7 +28,7 @@ new_spec 𝓤 𝓛 𝓜 𝓡 wired =
     f.Key.name code.function (code.unfolded 𝓤 𝓛.H 𝓜 𝓡 wired)
     (λ κs. tt) (λ κs. tt) (λ κs qs bounds a g are.
     let y : W.Ghost = ((κs, qs, bounds, a, tt), tt) in
-    let none : CallsSoFar = record { calls = [] } in
+    let none : CallsSoFar = record { job = no_job; deeds = [] } in
     qed 𝓛 ((raw (alive 𝓛 f.signature κs qs) ⊛ ‵ (owns [] tt tt)) ∷ ‵ ftrue ∷ []) ∵
     split ! $ keep ! (0 ∷ 1 ∷ []) $
     enter ! _ _ _ _ _ $ alloc_all ! (λ l. pass_all ! refl tt $

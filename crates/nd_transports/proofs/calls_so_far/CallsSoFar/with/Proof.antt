@@ -18,26 +18,28 @@ use denote.Triple.Walked.{Goes-none_ref, Stays, stay_none_ref, walk_of, says, en
 use Rattle.nd_transports.specs.contracts.calls_so_far.CallsSoFar as made
 use Rattle.nd_transports.specs.contracts.calls_so_far.CallsSoFar.with as f
 use Rattle.nd_transports.specs.contracts.kinds.Call as call
+use Rattle.nd_keeping.specs.contracts.kept.Kept as kept
+use Rattle.nd_transports.specs.Calls.{deed_for}
 use Rattle.nd_transports.specs.declared.calls_so_far.CallsSoFar.{CallsSoFar}
 use Rattle.nd_transports.proofs.calls_so_far.CallsSoFar.with.Statement.{statement}
 use Rattle.nd_transports.proofs.calls_so_far.CallsSoFar.with.Code as code
 
 abbrev stayed : Stays f.ended.signature.params f.ended.kept
-stayed = (stay_none_ref (0 ∷ []) tt (plain (λ _. made.the_row)) yes, (stay_none_ref (1 ∷ []) tt (plain (λ _. call.the_row)) yes, tt))
+stayed = (stay_none_ref (0 ∷ []) tt (plain (λ _. made.the_row)) yes, (stay_none_ref (1 ∷ []) tt (plain (λ _. call.the_row)) yes, (stay_none_ref (2 ∷ []) tt (plain (λ _. kept.the_row)) yes, tt)))
 
 pub with_spec : {M : Type 1} → statement M
 with_spec 𝓤 𝓛 𝓜 𝓡 wired =
     let c = f.clauses 𝓛 𝓜.mem 𝓡.returns in let W = walk_of 𝓛 f.ended stayed c in
-    proved 𝓛 f.ended stayed c 𝓜 𝓡 (Goes-none_ref 𝓛 2 (0 ∷ []) tt (plain (λ _. made.the_row)) yes, (Goes-none_ref 𝓛 2 (1 ∷ []) tt (plain (λ _. call.the_row)) yes, tt))
+    proved 𝓛 f.ended stayed c 𝓜 𝓡 (Goes-none_ref 𝓛 3 (0 ∷ []) tt (plain (λ _. made.the_row)) yes, (Goes-none_ref 𝓛 3 (1 ∷ []) tt (plain (λ _. call.the_row)) yes, (Goes-none_ref 𝓛 3 (2 ∷ []) tt (plain (λ _. kept.the_row)) yes, tt)))
     f.Key.name code.function (code.unfolded 𝓤 𝓛.H 𝓜 𝓡 wired)
-    (λ κs. (shr_vals, (shr_vals, tt))) (λ κs. (shr_Tells (named 0) κs.0 made.the_row, (shr_Tells (named 1) κs.1.0 call.the_row, tt))) (λ κs qs bounds a g are.
-    let y : W.Ghost = ((κs, qs, bounds, a, (shr_vals a.0, (shr_vals a.1.0, tt))), tt) in
-    let more : CallsSoFar = record { calls = a.0.now.calls ++ a.1.0.now ∷ [] } in
+    (λ κs. (shr_vals, (shr_vals, (shr_vals, tt)))) (λ κs. (shr_Tells (named 0) κs.0 made.the_row, (shr_Tells (named 1) κs.1.0 call.the_row, (shr_Tells (named 2) κs.1.1.0 kept.the_row, tt)))) (λ κs qs bounds a g are.
+    let y : W.Ghost = ((κs, qs, bounds, a, (shr_vals a.0, (shr_vals a.1.0, (shr_vals a.1.1.0, tt)))), tt) in
+    let more : CallsSoFar = record { job = a.0.now.job; deeds = a.0.now.deeds ++ deed_for a.0.now.job a.1.1.0.now a.1.0.now ∷ [] } in
     qed 𝓛 ((raw (alive 𝓛 f.signature κs qs) ⊛ ‵ (owns (types_at f.signature.params κs) a y.0.4)) ∷ ‵ ftrue ∷ []) ∵
     split ! $ keep ! (0 ∷ 1 ∷ []) $
-    enter ! _ _ _ _ _ $ alloc_all ! (λ l. pass_all ! refl ((tt, tt), ((tt, tt), tt)) $
+    enter ! _ _ _ _ _ $ alloc_all ! (λ l. pass_all ! refl ((tt, tt), ((tt, tt), ((tt, tt), tt))) $
     sets ! (agg ! (no_more !)) refl (tt, tt) $
     returns ! (look_at ! 0 refl) $ free_all ! refl $
-    suffices ! _ (ends_at 𝓛 f.ended stayed c y (vstruct vnil) more (tt, (tt, tt)) (tt, (tt, tt))) $
+    suffices ! _ (ends_at 𝓛 f.ended stayed c y (vstruct vnil) more (tt, (tt, (tt, tt))) (tt, (tt, (tt, tt)))) $
     says ! refl $ pure_i ! (made.the_row.own_val more (vstruct vnil ∷ [])) ((λ vss. (tt, tt)), tt) ((tt, (refl, tt)), tt) $
     move ! (1 ∷ 2 ∷ 0 ∷ []) $ done !))
