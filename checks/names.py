@@ -35,8 +35,7 @@ MEANT = set("""
 
 # Names of what is gone, on a page that tells of it.
 GONE = {'docs/PERF.md': set("""
-    check_choice check_no_builder reply_now next_step_in decide_by_kind_in check_copies prepare_copies
-    take_turn_in judge_no_builder find_early
+    check_choice check_no_builder decide_by_kind_in find_early judge_no_builder take_turn_in
 """.split())}
 
 COMMENTS = {'.rt': '//', '.antt': '--', '.py': '#', '.sh': '#', '.c': '//'}
