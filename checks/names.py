@@ -7,8 +7,8 @@ The pages are README.md, CONTRIBUTING.md and docs/*.md, without docs/history. Lo
 in a line, and not what stands in a fenced block. A name is a function, a type, a definition, a clause, a file, a crate or
 an option:
 
-- a path exists as it is written, or below some folder of the repository, or is named by a file that isn't a page, as
-  what `farm/build` makes; a part of it in capitals, as NAME, stands for any;
+- a path exists as it is written, with its suffix or without, or below some folder of the repository, or is named by a
+  file that isn't a page, as what `farm/build` makes; a part of it in capitals, as NAME, stands for any;
 - an option, `--name`, stands in a file that isn't a page;
 - `nd_name` is a crate;
 - of `Type::function` both names stand together in a source file of Rattle;
@@ -25,13 +25,15 @@ import sys
 
 TOP = pathlib.Path(__file__).resolve().parent.parent
 
-# Words of others than this repository: the toolchain's, the system's, Nix's own functions, and folders of a user's.
+# Words of others than this repository: the toolchain's, the system's, Nix's own functions, folders of a user's, and types
+# that are made up for an example.
 MEANT = set("""
-    rattle rtlib.py start_lib --allow-holes --start --statements --incremental --extern out/rlib
-    perf clang --version
+    rattle rtlib.py start_lib --allow-holes --start --statements --incremental --extern out/rlib stamp
+    perf clang --version sched_autogroup_enabled
     NIX_REMOTE_SYSTEMS canBuildLocally expandBuilderLines getDefaultExtraPlatforms getDefaultSystemFeatures
     Worker::run inputsRealised main_build_remote openSlotLock parseBuilderLine rightType tryLocalBuild willBuildLocally
     hello/bundle hello/info hello/journal
+    Fault::Case Fault::Named
 """.split())
 
 # Names of what is gone, on a page that tells of it.
@@ -80,7 +82,7 @@ class Repository:
         self.paths, self.words, self.options, self.crates, self.sources = set(), set(), set(), {}, []
         for name in files_of_repository():
             path = pathlib.PurePath(name)
-            self.paths.update('/'.join(part) for part in runs(path.parts))
+            self.paths.update('/'.join(part) for whole in (path, path.with_suffix('')) for part in runs(whole.parts))
             if not is_page(name) and TOP / name != pathlib.Path(__file__).resolve():
                 self.take(path, (TOP / name).read_text(encoding='utf-8', errors='replace'))
 
@@ -99,7 +101,7 @@ class Repository:
     def has_path(self, path):
         if '*' in path:
             return any(TOP.glob(path)) or any(TOP.glob('crates/*/' + path))
-        return path.removeprefix('./').rstrip('/') in self.paths
+        return path.removeprefix('./').removesuffix('/..').rstrip('/') in self.paths
 
     def has_words_with(self, name):
         """Whether this is what many names begin or end with, as `write_` or `_in`."""
