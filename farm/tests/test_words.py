@@ -2,11 +2,12 @@
 
 import os
 import re
+import shlex
 import unittest
 
 from nix_farm.errors import GivenUp, Usage
 from nix_farm.options import parse
-from tests.world import FARM, FarmCase
+from tests.world import FARM, HERE, FarmCase
 
 
 class Words(FarmCase):
@@ -35,7 +36,7 @@ class Words(FarmCase):
     def test_help(self) -> None:
         ran = self.world.call([os.path.join(FARM, "build"), "--help"])
         self.ended(ran, 0)
-        self.assertIn("farm/build [-o FOLDER] [OPTION ..] ROOT.drv ..", ran.out)
+        self.assertIn("nix-dispatch build [-o FOLDER] [OPTION ..] ROOT.drv ..", ran.out)
 
     def test_what_is_not_understood(self) -> None:
         for words in (["--none", self.world.drv("root")], ["not-a-derivation"]):
