@@ -17,7 +17,7 @@ from .program import find_program
 from .run import Run
 
 _SIGNALS = ("HUP", "INT", "TERM")
-_USAGE = "usage: build [-o FOLDER] [--builders @FILE] [OPTION ..] ROOT.drv .."
+_USAGE = "usage: nix-dispatch build [-o FOLDER] [--builders @FILE] [OPTION ..] ROOT.drv .."
 
 
 def _hear_signals(run: Run) -> None:

@@ -176,7 +176,7 @@ def main(arguments: Sequence[str], page: str) -> int:
     try:
         words = _Words(arguments)
     except ValueError:
-        print("usage: gather [--store STORE] [--needed [--failed FILE]] -o OUT ROOT.drv ..", file=sys.stderr)
+        print("usage: nix-dispatch gather [--store STORE] [--needed [--failed FILE]] -o OUT ROOT.drv ..", file=sys.stderr)
         return _USAGE
     work = tempfile.mkdtemp(prefix="nix-dispatch.")
     try:

@@ -47,7 +47,7 @@ def main(words: Sequence[str], page: str) -> int:
         print(page.strip("\n"))
         return 0
     if len(words) != 1 or words[0].startswith("-"):
-        print("usage: watch FOLDER", file=sys.stderr)
+        print("usage: nix-dispatch watch FOLDER", file=sys.stderr)
         return 2
     folder = os.path.abspath(words[0])
     try:
