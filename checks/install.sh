@@ -123,6 +123,12 @@ mkdir "$folder/empty"
 cp install "$folder/empty"
 status "$folder/empty/install" --prefix "$folder/nowhere"
 refused 1 'the program is not built: ./build makes it'
+made=$folder/empty/crates/nix_dispatch/out
+mkdir -p "$made"
+cp crates/nix_dispatch/out/nix_dispatch "$made"
+echo "$(echo old | sha256sum | cut -d ' ' -f 1)  install" > "$made/nix_dispatch.sources"
+status "$folder/empty/install" --prefix "$folder/nowhere"
+refused 1 'the program was built from other sources than these: ./build makes it anew'
 [ ! -e "$folder/nowhere" ] || fail 'a refused ./install makes a folder'
 
 # A root without /lib64.
