@@ -1,6 +1,6 @@
 #!/bin/sh
 # The man page and the completions: that they are what tools/help.py makes of what the commands say now, and what each
-# shell that is here completes by them. NIX_DISPATCH names the program.
+# shell that is here completes by them. CHANGELOG.md has the version that the program says. NIX_DISPATCH names the program.
 set -eu
 cd "$(dirname "$0")/.."
 folder=$(mktemp -d)
@@ -12,6 +12,8 @@ fail() {
 }
 
 python3 tools/help.py --check || fail 'what is kept below share/ is not what the commands say'
+version=$("${NIX_DISPATCH:-crates/nix_dispatch/out/nix_dispatch}" --version | sed -n '1s/^nix-dispatch //p')
+grep -qxF "## $version" CHANGELOG.md || fail "CHANGELOG.md doesn't say what $version has"
 
 # same WORDS: whether $folder/got has just these lines, in any order.
 same() {

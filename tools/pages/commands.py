@@ -121,6 +121,6 @@ def farm_commands(folder: str) -> List[Command]:
         rows = [row for part in parts if part[0].startswith("    -") for row in rows_of(part)]
         options = [option for row in rows for option in _script_options(*row)]
         options.append(Option(["-h", "--help"], "", "Says all of this"))
-        takes = re.findall(r"[A-Z]+(?:\.drv)?", usage[0])[-1]
-        commands.append(Command(name, " ".join(about).rstrip("."), usage[0].strip(), options, takes, text))
+        takes = re.findall(r"[A-Z]+(?:\.drv)?", usage[0]) or [""]
+        commands.append(Command(name, " ".join(about).rstrip("."), usage[0].strip(), options, takes[-1], text))
     return commands
