@@ -67,7 +67,7 @@ for shell in bash fish; do
   same "$shell: a file"
 done
 if command -v zsh > /dev/null; then
-  zsh -n share/zsh/site-functions/_nix-dispatch || fail 'zsh: the file is refused'
+  timeout 120 zsh -f checks/help/completed.zsh "$top/share/zsh/site-functions" "$folder/at" || fail 'zsh: a line is not completed'
   tried="$tried zsh"
 fi
 if command -v groff > /dev/null; then
