@@ -110,6 +110,11 @@ find "$prefix" | sort | diff "$folder/before" - || fail 'something is left of a 
 mkdir -p "$prefix/libexec/nix-dispatch"
 status ./install --prefix "$prefix"
 refused 1 "$prefix/libexec/nix-dispatch is there, and isn't of an install"
+mkdir "$folder/narrow"
+touch "$folder/narrow/share"
+status ./install --prefix "$folder/narrow"
+refused 1 "not all folders can be made below $folder/narrow"
+[ "$(ls -A "$folder/narrow")" = share ] || fail 'a refused ./install leaves folders'
 status ./install --prefix "$prefix/bin/other"
 refused 1 "not all folders can be made below $prefix/bin/other"
 
