@@ -96,7 +96,6 @@ complete -c nix-dispatch -n '__fish_seen_subcommand_from report' -l info -r -F -
 complete -c nix-dispatch -n '__fish_seen_subcommand_from report' -l explain -d 'Says behind a fault where it is, what stands there, its cause and its cure'
 complete -c nix-dispatch -n '__fish_seen_subcommand_from report' -l journal -r -F -d 'The journal whose whole lines tell the history'
 complete -c nix-dispatch -n '__fish_seen_subcommand_from report' -s h -l help -d 'Print help'
-complete -c nix-dispatch -n '__fish_seen_subcommand_from park' -l bundle -r -F -d 'The file that holds the bundle, which else is read from standard input'
 complete -c nix-dispatch -n '__fish_seen_subcommand_from park' -l builders -r -F -d 'The builders list, or @FILE to read it from a file [default: ""]'
 complete -c nix-dispatch -n '__fish_seen_subcommand_from park' -l system -x -d 'The local system [default: x86_64-linux]'
 complete -c nix-dispatch -n '__fish_seen_subcommand_from park' -l extra -x -d 'Further local systems, between commas [default: ""]'
