@@ -4,6 +4,7 @@ import os
 import shutil
 import struct
 import subprocess
+import sys
 import tempfile
 import unittest
 from typing import Dict
@@ -50,6 +51,7 @@ class Command(unittest.TestCase):
             os.makedirs(self.at(place))
         self.command = shutil.copy(os.path.join(FARM, "bin", "nix-dispatch"), self.at("top/farm/bin"))
         self.put("top/program", "#!/bin/sh\n" + PROGRAM)
+        self.put("bin/python3", f'#!/bin/sh\nexec "{sys.executable}" -S "$@"\n')
         for name in ("build", "status"):
             self.put(f"top/farm/{name}", SCRIPT.format(name=name))
 
