@@ -22,7 +22,7 @@ use std::mem;
 use std::thread::{Threads, join_mut};
 
 /// How many bytes the first block of an input has: few, since nothing else is done while it is read.
-const FIRST: usize = 524_288;
+const FIRST: usize = 262_144;
 
 /// How many times as large as the block before the next one is, up to [`BLOCK`].
 const GROW: usize = 4;
