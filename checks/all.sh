@@ -27,6 +27,7 @@
 # apart.sh         graphs on machines that are apart, each with a network, a store, a daemon and an sshd of its own: cut
 #                  off, started anew, hung, shared by two; needs what bad-day.sh needs, Nix's build users, iproute2 and
 #                  /dev/net/tun, and takes some fifteen minutes
+# page.sh          pages of runs in a headless browser; needs Debian's chromium, and Python 3
 # ssh-park.sh      the same graph on machines behind ssh; needs what real-park.sh needs, and OpenSSH's sshd
 # own-agent.sh     the same graph by agents that aren't farm/build's own; needs what real-park.sh needs
 # bodies-apply.py  each wrong body can still be applied; needs Python 3
@@ -61,6 +62,7 @@ needs_of() {
     faults.py) echo program python3 cc ;;
     journal.py) echo program python3 cc root ;;
     first.sh) echo rt python3 ;;
+    page.sh) echo python3 chromium ;;
     own-agent.sh|real-park.sh) echo program nix-store busybox python3 root ;;
     apart.sh) echo program nix-store nix-daemon busybox python3 root ssh-keygen sshd ip nsenter /dev/net/tun ;;
     bad-day.sh) echo program nix-store busybox python3 root ssh-keygen sshd ;;

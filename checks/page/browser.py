@@ -41,6 +41,7 @@ class Browser:
         self._session = self.call("Target.attachToTarget", targetId=pages[0]["targetId"], flatten=True)["sessionId"]
         for part in ("Page", "Runtime", "Network", "Log"):
             self.call(f"{part}.enable")
+        self.call("Performance.enable", timeDomain="threadTicks")
 
     def close(self) -> None:
         self._process.kill()
@@ -101,6 +102,11 @@ class Browser:
         if "exceptionDetails" in told:
             raise RuntimeError(f"{words}: {told['exceptionDetails']}")
         return told["result"].get("value")
+
+    def processor(self) -> float:
+        """The processor seconds that the page's process has taken."""
+        metrics = self.call("Performance.getMetrics")["metrics"]
+        return next(one["value"] for one in metrics if one["name"] == "ProcessTime")
 
     def soon(self, words: str) -> Any:
         """What an expression comes to once that is true."""

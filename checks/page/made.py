@@ -2,8 +2,8 @@
 """Makes the folder of a run that never was, with its page:  made.py FOLDER KIND
 
 KIND is `large` (5,000 derivations on 64 slots), `small` (140 on 16, with failures, a machine that is lost and a second
-round), `going` (the same, as it was in its first round) or `odd` (names, machines, causes and logs that are markup). What
-is printed are the processor seconds that the page took.
+round), `going` (the same, which is in its first round now), `killed` (the same, which was so long ago) or `odd` (names,
+machines, causes and logs that are markup). What is printed are the processor seconds that the page took.
 """
 
 import hashlib
@@ -76,12 +76,14 @@ def graph(count: int, failing: Sequence[int], chance: random.Random) -> List[Mad
 class Run:
     """A run that is made up: its events and histories, as agents and the program would write them."""
 
-    def __init__(self, drvs: List[Made], park: Sequence[Tuple[str, int]], chance: random.Random) -> None:
+    def __init__(
+        self, drvs: List[Made], park: Sequence[Tuple[str, int]], chance: random.Random, began: int = BEGAN
+    ) -> None:
         """`park` has the URI and the slots of each machine, this one first."""
         self.drvs = drvs
         self.machines = {at: Machine(at, uri, "", "", list(range(jobs))) for at, (uri, jobs) in enumerate(park) if jobs}
         self.chance = chance
-        self.now = BEGAN
+        self.now = began
         self.built: Set[int] = set()
         self.failed: Set[int] = set()
         self.events: List[Tuple[int, str]] = []
@@ -205,11 +207,12 @@ def made(kind: str) -> Tuple[Run, int, Optional[int]]:
         run.round()
         return run, run.now, 1
     park = [("local", 2), ("ssh://builder@big.example.org", 6), ("ssh://builder@mid.example.org", 4), ("ssh://builder@arm.example.org", 4)]
-    run = Run(graph(140, [66], chance), park, chance)
-    breaks = Break(3, BEGAN + 70_000)
-    if kind == "going":
-        run.round(breaks, BEGAN + 150_000)
-        return run, BEGAN + 150_000, None
+    began = int(time.time() * 1000) - 150_000 if kind == "going" else BEGAN
+    run = Run(graph(140, [66], chance), park, chance, began)
+    breaks = Break(3, began + 70_000)
+    if kind in ("going", "killed"):
+        run.round(breaks, began + 150_000)
+        return run, began + 150_000, None
     run.round(breaks)
     run.round()
     return run, run.now, 1

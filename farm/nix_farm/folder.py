@@ -51,6 +51,12 @@ def _write(descriptor: int, text: str) -> None:
         pass
 
 
+def _room(disk: str) -> int:
+    """The room that is left on the disk of a folder, in KiB."""
+    system = os.statvfs(disk)
+    return system.f_bavail * system.f_frsize // 1024
+
+
 def _is_locked(file: str) -> bool:
     """Whether another process has a lock on a file."""
     try:
@@ -164,10 +170,9 @@ class Folder(Seen):
         """GivenUp where a disk is full that the run writes to."""
         for disk in (self.out, store, self.shared):
             try:
-                system = os.statvfs(disk)
+                room = _room(disk)
             except OSError:
                 continue
-            room = system.f_bavail * system.f_frsize // 1024
             if room < _ROOM:
                 raise GivenUp(5, f"the disk of {disk} is full: it has {room} KiB left, and a run takes {_ROOM} at least")
 
@@ -209,8 +214,7 @@ class Folder(Seen):
         can't be written to, the one before stays, or there is none."""
         new = self.at(f".{name.lstrip('.')}.new")
         try:
-            system = os.statvfs(self.out)
-            if system.f_bavail * system.f_frsize < len(text) + _SPARED * 1024:
+            if _room(self.out) < len(text) // 1024 + _SPARED:
                 return
             with open(new, "wb") as file:
                 file.write(text)

@@ -3,7 +3,7 @@
 import asyncio
 import time
 import traceback
-from typing import Optional
+from typing import Callable, Optional
 
 from .account import Account
 from .folder import say, write_error
@@ -22,11 +22,13 @@ class Pages:
     is_running  whether the last one runs now
     """
 
-    def __init__(self) -> None:
+    def __init__(self, clock: Callable[[], float] = time.process_time) -> None:
+        """`clock` says what of a processor's time was taken, in seconds."""
         self.account: Optional[Account] = None
         self.rounds = 0
         self.is_running = False
         self._has_ended = False
+        self._clock = clock
         self._took = 0.0
         self._is_broken = False
 
@@ -53,14 +55,14 @@ class Pages:
         """Where a page can't be made that is said once, and there are no more."""
         if self._is_broken or self.account is None:
             return
-        begun = time.process_time()
+        begun = self._clock()
         try:
             self.account.put_page(stand, self.is_running)
         except Exception:
             self._is_broken = True
             write_error(traceback.format_exc())
             say("the page of the run can't be made, so index.html isn't up to date; the run itself goes on")
-        self._took = time.process_time() - begun
+        self._took = self._clock() - begun
 
     async def keep_shown(self) -> None:
         """Shows the page again and again, until it is called off."""
