@@ -54,6 +54,8 @@ class _Data:
         self._place = {path: at for at, path in enumerate(report.standing)}
         self._machines = Machines(sources.parks)
         self._bars = bars(self._machines, notes)
+        if stand.status is not None:
+            self._break_off(notes[-1].at if notes else stand.now)
         self._of_machine: Dict[int, List[Bar]] = {}
         for bar in self._bars:
             self._of_machine.setdefault(bar.machine, []).append(bar)
@@ -62,6 +64,12 @@ class _Data:
         slots.update((machine, slot) for machine, those in self._machines.slots.items() for slot in those)
         self._rows = sorted(slots)
         self._numbers = sorted({*self._machines.uris, *(machine for machine, _ in self._rows)})
+
+    def _break_off(self, at: int) -> None:
+        """Ends what was open when the run ended."""
+        for bar in self._bars:
+            if bar.end is None:
+                bar.finish(at, "", "broken")
 
     def all(self) -> Dict[str, object]:
         stand, uris = self._stand, [self._machines.uris.get(number, "") for number in self._numbers]

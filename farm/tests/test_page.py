@@ -5,6 +5,7 @@ import hashlib
 import json
 import os
 import re
+import signal
 import tempfile
 import unittest
 from typing import Any, Dict, List, Mapping, Sequence, Tuple
@@ -201,6 +202,13 @@ class Data(unittest.TestCase):
         self.assertEqual(told["bars"], [[1, "build", "running", 110, None, 0, 0, None]])
         self.assertEqual((told["machines"][1]["busy"], told["chain"]), (290, [0]))
 
+    def test_what_was_open_when_the_run_ended(self) -> None:
+        path = drv_path("a")
+        lines = ["100 - - round 1 2", f"110 1 0 begin {path}", f"200 1 1 copy 3 {drv_path('b')}"]
+        told = told_of("head\nchosen 0 1 0\nstarted 0\n", lines, [(path, []), (drv_path("b"), [])])
+        self.assertEqual([bar[2:5] for bar in told["bars"]], [["broken", 110, 200], ["broken", 200, 200]])
+        self.assertEqual([(one["lost"], one["busy"]) for one in told["machines"]], [(0, 0), (1, 90)])
+
     def test_a_run_with_nothing_to_build(self) -> None:
         told = told_of("", [], [])
         self.assertEqual((told["counts"]["total"], told["bars"], told["chain"], told["failures"]), (0, [], [], []))
@@ -338,11 +346,12 @@ class OfRuns(Stopped):
 
     def test_an_interruption(self) -> None:
         begun = self.begin()
-        self.world.processes()
-        begun.send_signal(2)
+        begun.send_signal(signal.SIGINT)
         self.ended(self.world.wait(begun), 130)
         page = self.page(self.world)
         self.assertEqual((page["status"], page["interrupted"], page["counts"]["leased"]), (130, "INT", 1))
+        self.assertEqual([bar[2] for bar in page["bars"] if bar[1] == "build"][0], "ok")
+        self.assertNotIn("running", [bar[2] for bar in page["bars"]])
 
 
 class Refused(FarmCase):
