@@ -28,6 +28,9 @@
 #                  off, started anew, hung, shared by two; needs what bad-day.sh needs, Nix's build users, iproute2 and
 #                  /dev/net/tun, and takes some fifteen minutes
 # page.sh          pages of runs in a headless browser; needs Debian's chromium, and Python 3
+# install.sh       ./install below a folder and into a store, and the command in a root without /lib64, where it builds a
+#                  graph; needs what real-park.sh needs, and unshare
+# help.sh          the man page and the completions, beside what the commands say; needs the built program and Python 3
 # ssh-park.sh      the same graph on machines behind ssh; needs what real-park.sh needs, and OpenSSH's sshd
 # own-agent.sh     the same graph by agents that aren't farm/build's own; needs what real-park.sh needs
 # bodies-apply.py  each wrong body can still be applied; needs Python 3
@@ -58,7 +61,7 @@ fi
 needs_of() {
   case $1 in
     allocations.sh) echo program cc tests ;;
-    examples.py|runs.py|worlds.py|serve.sh) echo program python3 ;;
+    examples.py|help.sh|runs.py|worlds.py|serve.sh) echo program python3 ;;
     bodies-apply.py) echo python3 ;;
     names.py) echo python3 git ;;
     durable.py) echo program python3 strace ;;
@@ -66,6 +69,7 @@ needs_of() {
     journal.py) echo program python3 cc root ;;
     first.sh) echo rt python3 ;;
     page.sh) echo python3 chromium ;;
+    install.sh) echo program nix-store busybox python3 root unshare ;;
     own-agent.sh|real-park.sh) echo program nix-store busybox python3 root ;;
     apart.sh) echo program nix-store nix-daemon busybox python3 root ssh-keygen sshd ip nsenter /dev/net/tun ;;
     bad-day.sh) echo program nix-store busybox python3 root ssh-keygen sshd ;;
