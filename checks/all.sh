@@ -27,6 +27,7 @@
 # apart.sh         graphs on machines that are apart, each with a network, a store, a daemon and an sshd of its own: cut
 #                  off, started anew, hung, shared by two; needs what bad-day.sh needs, Nix's build users, iproute2 and
 #                  /dev/net/tun, and takes some fifteen minutes
+# page.sh          pages of runs in a headless browser; needs Debian's chromium, and Python 3
 # install.sh       ./install below a folder and into a store, and the command in a root without /lib64, where it builds a
 #                  graph; needs what real-park.sh needs, and unshare
 # help.sh          the man page and the completions, beside what the commands say; needs the built program and Python 3
@@ -67,6 +68,7 @@ needs_of() {
     faults.py) echo program python3 cc ;;
     journal.py) echo program python3 cc root ;;
     first.sh) echo rt python3 ;;
+    page.sh) echo python3 chromium ;;
     install.sh) echo program nix-store busybox python3 root unshare ;;
     own-agent.sh|real-park.sh) echo program nix-store busybox python3 root ;;
     apart.sh) echo program nix-store nix-daemon busybox python3 root ssh-keygen sshd ip nsenter /dev/net/tun ;;

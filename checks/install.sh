@@ -196,6 +196,7 @@ inside "$tools:$nix:${homes#* }/bin" nix-dispatch build -o /built --builders '' 
 done_by 'nix-dispatch build in the root'
 grep -qx '/nix/store/[a-z0-9]*-all' "$folder/out" || fail "build writes: $(cat "$folder/out")"
 [ -s "$root$(cat "$folder/out")" ] || fail 'what was built is not there'
+[ -s "$root/built/index.html" ] || fail 'the page of the run is not there'
 inside "$tools:$nix:${homes#* }/bin" nix-dispatch status /built
 done_by status
 built=$(sed -n 's/^\([0-9]*\) built of \1$/\1/p' "$folder/out")

@@ -51,7 +51,14 @@ A run
 What is told
     report      how each derivation stands after all rounds, as text
     report_json the same as report.json
-    trace       the timeline of copies and builds
+    timeline    the copies and builds over time
+    outages     when machines were down or drained
+    trace       the timeline for Perfetto and for a browser's tracing page
+    chain       the longest chain of builds
+    logs        the ends of logs
+    page        the page of a run, index.html, whose template is page.html
+    pages       that page again and again, while the run goes on
+    junit       the report for CI services
     summary     the counts and the failures in a few lines
     account     all of that, put into the folder
     display     how far a run is, while it goes on

@@ -34,6 +34,7 @@ async def _go(options: Options, program: str, ends: guard.Guard, shared: str) ->
     watch_children_by_descriptor()
     run = Run(options, program, Processes(ends, shared), shared)
     _hear_signals(run)
+    status = 5
     try:
         status = await run.go()
     except Interrupted:
@@ -50,6 +51,7 @@ async def _go(options: Options, program: str, ends: guard.Guard, shared: str) ->
         say("this is a fault of the farm itself")
         status = 5
     finally:
+        run.pages.leave(status, run.interrupted)
         await run.close()
     return status, run.is_stranded
 

@@ -21,9 +21,11 @@ _MADE = re.compile(
     re.DOTALL,
 )
 # What each command makes anew, also where it goes on with a run.
-_TOLD = re.compile(r"report|report\.json|trace\.json|\..*\.new", re.DOTALL)
+_TOLD = re.compile(r"report|report\.json|trace\.json|junit\.xml|index\.html|\..*\.new", re.DOTALL)
 # The room that a run takes at least, in KiB.
 _ROOM = 1024
+# The room that is left to a run where something is written that nothing hangs on, in KiB.
+_SPARED = 8 * _ROOM
 
 
 def say(words: str) -> None:
@@ -47,6 +49,12 @@ def _write(descriptor: int, text: str) -> None:
             left = left[os.write(descriptor, left) :]
     except OSError:
         pass
+
+
+def _room(disk: str) -> int:
+    """The room that is left on the disk of a folder, in KiB."""
+    system = os.statvfs(disk)
+    return system.f_bavail * system.f_frsize // 1024
 
 
 def _is_locked(file: str) -> bool:
@@ -162,10 +170,9 @@ class Folder(Seen):
         """GivenUp where a disk is full that the run writes to."""
         for disk in (self.out, store, self.shared):
             try:
-                system = os.statvfs(disk)
+                room = _room(disk)
             except OSError:
                 continue
-            room = system.f_bavail * system.f_frsize // 1024
             if room < _ROOM:
                 raise GivenUp(5, f"the disk of {disk} is full: it has {room} KiB left, and a run takes {_ROOM} at least")
 
@@ -201,6 +208,19 @@ class Folder(Seen):
             self.is_stranded = True
             self.keep(name, text)
             say(f"the disk of {self.out} is full, or can't be written to: {name} is left in {self.in_shared(name)}")
+
+    def offer(self, name: str, text: bytes) -> None:
+        """Puts a file in place whole that nothing hangs on. Where the disk has no room for it and for a run besides, or
+        can't be written to, the one before stays, or there is none."""
+        new = self.at(f".{name.lstrip('.')}.new")
+        try:
+            if _room(self.out) < len(text) // 1024 + _SPARED:
+                return
+            with open(new, "wb") as file:
+                file.write(text)
+            os.replace(new, self.at(name))
+        except OSError:
+            _remove(new)
 
     def keep(self, name: str, text: bytes) -> None:
         """Writes a file in the folder of the agents."""

@@ -42,6 +42,16 @@ class Times:
     cause: Optional[str] = None
 
 
+class Turn(NamedTuple):
+    """That a machine was drained or enabled: the round, the entry's kind, the machine's number in that round, and the
+    derivation whose lease had ended last by then, "" where none had."""
+
+    round: int
+    kind: str
+    machine: int
+    behind: str
+
+
 class Told:
     """What the events say: of each derivation its times, and why a machine was down in a round."""
 
@@ -78,7 +88,12 @@ class Report:
         self.machines = machines
         self._keep_going = keep_going
         self.standing: Dict[str, Standing] = {}
+        # by the first round that each is in
+        self.inputs: Dict[str, Sequence[str]] = {}
+        # those of the last round that are down, and which of these were drained
         self.down: Set[int] = set()
+        self.drained: Set[int] = set()
+        self.turns: List[Turn] = []
 
     def add_round(self, number: int, text: RoundText) -> None:
         """The next round, over those before it."""
@@ -86,7 +101,10 @@ class Report:
         now = _RoundState(paths)
         for entry in text.history:
             now.take(entry)
-        self.down = now.down
+        self.down, self.drained = now.down, now.drained
+        self.turns += [Turn(number, kind, machine, paths[last] if last >= 0 else "") for kind, machine, last in now.turns]
+        for path, inputs in text.drvs:
+            self.inputs.setdefault(path, inputs)
         for path in text.left:
             self.standing.setdefault(path, Standing("cancelled"))
         stay = {*paths, *text.left}
@@ -139,13 +157,30 @@ class _RoundState:
     def __init__(self, paths: Sequence[str]) -> None:
         self.states = [Standing() for _ in paths]
         self.down: Set[int] = set()
+        self.drained: Set[int] = set()
+        # each turn's kind and machine, and the derivation that had ended last by then
+        self.turns: List[Tuple[str, int, int]] = []
         self.any_failed = False
+        self._last = -1
+
+    def _turn(self, kind: str, machine: int) -> None:
+        self.turns.append((kind, machine, self._last))
+        for those in (self.down, self.drained):
+            if kind == "drain":
+                those.add(machine)
+            else:
+                those.discard(machine)
 
     def take(self, entry: Entry) -> None:
         kind = entry[0]
+        if kind in ("drain", "enable"):
+            self._turn(kind, int(entry[1]))
         if kind not in ("chosen", "started", "down", "built", "nobuilder", "failed"):
             return
-        one = self.states[int(entry[1])]
+        at = int(entry[1])
+        one = self.states[at]
+        if kind in ("built", "failed"):
+            self._last = at
         if kind == "chosen":
             one.status, one.place = "leased", Place(int(entry[2]), int(entry[3]))
         elif kind == "started":

@@ -2,7 +2,7 @@
 
 import json
 import os
-from typing import Dict, Mapping, Optional, Sequence
+from typing import Dict, List, Mapping, Optional, Sequence
 
 from .park import Machine
 from .report import Report, Standing, Times, Told
@@ -79,8 +79,13 @@ class Sources:
         }
 
 
+def derivations(report: Report, sources: Sources) -> List[Dict[str, object]]:
+    """The objects of all derivations, in the order in which they came up."""
+    return [sources.derivation(path, one) for path, one in report.standing.items()]
+
+
 def report_json(report: Report, sources: Sources, status: int, interrupted: str, rounds: int) -> str:
     """The text of report.json."""
     head = {"status": status, "interrupted": interrupted or None, "rounds": rounds, "counts": report.counts()}
-    lines = [json.dumps(sources.derivation(path, one)) for path, one in report.standing.items()]
+    lines = [json.dumps(one) for one in derivations(report, sources)]
     return json.dumps(head)[:-1] + ',\n "derivations": [' + ",".join(f"\n  {line}" for line in lines) + "\n ]}\n"

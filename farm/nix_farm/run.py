@@ -17,6 +17,7 @@ from .folder import Folder, say, write_error, write_out
 from .gather import NotGathered, Store
 from .here import Here
 from .options import Options
+from .pages import Pages
 from .process import Processes
 from .program import AUDIT_LIMIT, Program
 from .resume import Before, Round, goes_on
@@ -37,6 +38,7 @@ class Run:
         self.processes = processes
         self.shared = shared
         self.interrupted = ""
+        self.pages = Pages()
         self._program_path = program
         self._running: Optional[Running] = None
         self._settings: Mapping[str, str] = {}
@@ -102,6 +104,7 @@ class Run:
         first = self._rounds[0].drvs if self._rounds else []
         never = nobuilder.reasons(first, nobuilder.abilities(self.options, self._builders))
         self._account = Account(self.options, self.folder, self._workers.machines, self._here, self._store, self._rounds, never)
+        self.pages.account = self._account
         write_error("".join(line + "\n" for line in never_built(never)))
         if not self._is_next or await self._gather_next():
             await self._run_rounds()
@@ -210,11 +213,14 @@ class Run:
             self._number += 1
             self._is_unfinished = self._is_rooted = True
             self._has_ended = False
+            self.pages.rounds = self._number
+            self.pages.show()
             await self._keep_round(one)
             if self.interrupted:
                 return
             ran = await self._run_round(one)
             await self._look_at_history(one)
+            self.pages.show()
             if self.interrupted or not self._may_go_on(one, ran):
                 return
             if not await self._next_round(one):
@@ -253,7 +259,8 @@ class Run:
         drvs = {drv.path: drv for drv in one.drvs}
         pipes = folder.in_shared("pipes")
         files = (folder.in_shared("bundle"), folder.in_shared("info"), folder.at(f"journal.{number}"))
-        showing = asyncio.ensure_future(self._display.keep_shown())
+        showing = [asyncio.ensure_future(one.keep_shown()) for one in (self._display, self.pages)]
+        self.pages.is_running = True
         self._running = Running(self.processes, pipes, lambda process: folder.keep("program", str(process).encode()))
         try:
             words = self._program.run_words(pipes, *files)
@@ -262,7 +269,9 @@ class Run:
             return await self._running.run(words, places, lambda place: agent(place, *given))
         finally:
             self._running = None
-            showing.cancel()
+            self.pages.is_running = False
+            for task in showing:
+                task.cancel()
             self._display.end()
 
     async def _look_at_history(self, one: Round) -> None:
@@ -347,6 +356,7 @@ class Run:
             # an interruption that came behind the report
             status = self.signal_status(status)
             account.put(status, self._number, self.interrupted)
+        self.pages.end(5 if folder.is_stranded else status, self.interrupted)
         if self._has_ended and not self.interrupted:
             self._is_unfinished = False
             folder.remove(".unfinished")
