@@ -103,6 +103,7 @@ OF_WAYS: Sequence[Row] = (
         rb"path '.*' is required, but there is no substituter",
         rb"cannot build missing derivation",
         rb"cannot open connection to remote store",
+        rb"nix-daemon says nothing any more",
         rb"interrupted by the user",
     ),
 )
