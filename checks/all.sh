@@ -26,7 +26,7 @@
 #                  twenty-five minutes
 # apart.sh         graphs on machines that are apart, each with a network, a store, a daemon and an sshd of its own: cut
 #                  off, started anew, hung, shared by two; needs what bad-day.sh needs, Nix's build users, iproute2 and
-#                  /dev/net/tun, and takes some fifteen minutes
+#                  /dev/net/tun, and takes five to fifteen minutes
 # ssh-park.sh      the same graph on machines behind ssh; needs what real-park.sh needs, and OpenSSH's sshd
 # own-agent.sh     the same graph by agents that aren't farm/build's own; needs what real-park.sh needs
 # bodies-apply.py  each wrong body can still be applied; needs Python 3

@@ -84,7 +84,7 @@ start_machine() {
 on() {
   machine_pid=$(tr -d ' ' < "$folder/$1.pid")
   shift
-  nsenter --target "$machine_pid" --mount --pid --net --uts -- env -u NIX_REMOTE HOME=/root sh -c 'cd "$0" 2> /dev/null || cd /; exec "$@"' "$PWD" "$@"
+  checks/apart/enter.py "$machine_pid" env -u NIX_REMOTE HOME=/root sh -c 'cd "$0" 2> /dev/null || cd /; exec "$@"' "$PWD" "$@"
 }
 # The same as the user alice, by the daemon, and with the key of hers.
 as_alice() {
