@@ -30,6 +30,8 @@
 # ssh-park.sh      the same graph on machines behind ssh; needs what real-park.sh needs, and OpenSSH's sshd
 # own-agent.sh     the same graph by agents that aren't farm/build's own; needs what real-park.sh needs
 # bodies-apply.py  each wrong body can still be applied; needs Python 3
+# names.py         each name that README.md, CONTRIBUTING.md and docs/ have between backticks is there; needs Python 3
+#                  and git
 # allocations.sh   each allocation refused in turn; needs the built program, a C compiler, and the tests of
 #                  `nd_test_ledger` that `rt test` leaves in its folder
 # worlds.py        2,048 random worlds by the plain rules, beside the table of the tests and the program; needs
@@ -57,6 +59,7 @@ needs_of() {
     allocations.sh) echo program cc tests ;;
     examples.py|runs.py|worlds.py|serve.sh) echo program python3 ;;
     bodies-apply.py) echo python3 ;;
+    names.py) echo python3 git ;;
     durable.py) echo program python3 strace ;;
     faults.py) echo program python3 cc ;;
     journal.py) echo program python3 cc root ;;

@@ -32,15 +32,13 @@ echo 'no line of a bundle' > "$folder/bad"
 [ "$got" -eq 3 ] || fail "a refused bundle ends with status $got"
 [ ! -e "$folder/new" ] || fail 'a refused bundle leaves a journal'
 
-# The conversation of docs/SERVE.md, whose opening README.md has too.
+# The conversation of docs/SERVE.md.
 printf 'job 0\nstart 0\nstart 0\nbuilt 0\nsomething\n' \
   | "$program" serve --bundle "$farm/bundle" --builders "@$farm/builders" --extra aarch64-linux --features kvm,nixos-test \
     > "$folder/answers" || true
 head -3 "$folder/answers" | sed 's/^/    /' > "$folder/opening"
-for page in README.md docs/SERVE.md; do
-  sed -n '/^nix-dispatch serve --bundle examples\/farm\/bundle/,/^    ready$/p' "$page" | grep '^    ' \
-    | cmp - "$folder/opening" || fail "the opening is not that of $page"
-done
+sed -n '/^nix-dispatch serve --bundle examples\/farm\/bundle/,/^    ready$/p' docs/SERVE.md | grep '^    ' \
+  | cmp - "$folder/opening" || fail 'the opening is not that of docs/SERVE.md'
 sed -n 's/ .*//; 4,$p' "$folder/answers" | tr '\n' ' ' > "$folder/words"
 printf 'job ready started ready refused ready built chosen chosen chosen ready refused ready ' | cmp - "$folder/words" \
   || fail 'the answers are not those of docs/SERVE.md'

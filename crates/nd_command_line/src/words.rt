@@ -90,7 +90,7 @@ const COMMANDS: &[Known] = &[
     Known {
         name: "park",
         about: "Writes a line for each slot of the park: machine, slot, URI, key and host key; reads no bundle",
-        words: &[BUNDLE, PARK, EXPLAIN],
+        words: &[PARK, EXPLAIN],
     },
 ];
 
@@ -258,7 +258,7 @@ const RUN: &[Word] = &[
 /// The whole command line.
 pub fn command_line<'a>(alloc: Global) -> Result<Command<'a>, AllocError> {
     let mut line = Command::new(alloc, "nix-dispatch")
-        .version("0.1.0")
+        .version("0.2.0")
         .bin_name("nix-dispatch")?
         .about("Hands the derivations of a graph to local slots and remote builders")
         .subcommand_required(true);
