@@ -80,7 +80,7 @@ alices() { as_alice nix-instantiate "$graph" --argstr salt "$salt" -A "$1" 2> /d
 build() {
   begin "$@"
   started=$(date +%s%3N)
-  finish 1500
+  finish 3000
   took=$(($(date +%s%3N) - started))
 }
 # The same in the background.

@@ -53,10 +53,10 @@ class Here:
         """The NAR of a path; Failed where it isn't valid any more, or where it isn't the one that was registered. What has
         another length isn't asked for: the rest of a shorter one would be waited for."""
         try:
-            is_as_long = nar_size(self._root + info.path) == info.size
+            size = nar_size(self._root + info.path)
         except OSError:
-            is_as_long = False
-        if not is_as_long:
+            size = info.size  # the store says what is wrong
+        if size != info.size:
             raise Failed(1, f"error: path '{info.path}' isn't as it was registered\n".encode())
         async with self._lock:
             return await self._daemon.nar(info)

@@ -321,7 +321,7 @@ class Machines(FarmCase):
                     ran = world.build("-k", "--retries", "1", root, beside, jobs=0)
                     self.ended(ran, 1)
                     asked = [call["path"] for call in world.noted("calls") if call.get("command") == "nar"]
-                    self.assertEqual(source in asked, how == "other" and size == 120)
+                    self.assertEqual(source in asked, how != "shorter" and size == 120)
                     self.assertEqual(world.report()["by_name"]["beside"]["status"], "built")
                     self.says(ran, f"lost: root on ssh://.*path '{source}' is damaged in this store: {why}")
                     told = world.history(1) + world.history(2)
