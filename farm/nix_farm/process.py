@@ -15,8 +15,9 @@ from typing import IO, Callable, Dict, List, Mapping, NamedTuple, Optional, Sequ
 from . import blame
 from .guard import Guard
 
-# The seconds that a child has to end by itself once it is told to.
+# The seconds that a child has to end by itself once it is told to, and those that one has which is killed.
 GRACE = 5.0
+_KILLED = 60.0
 # The seconds between two looks at whether a child has ended whose pipes are held.
 _LOOK = 0.1
 
@@ -171,7 +172,7 @@ class Processes:
             signal_group(process.pid, signal.SIGTERM)
             if not await has_ended(process, grace):
                 signal_group(process.pid, signal.SIGKILL)
-                await has_ended(process, GRACE)
+                await has_ended(process, _KILLED)
         _close_pipes(process)
         self.forget(process)
 

@@ -67,7 +67,11 @@ class Ends(unittest.TestCase):
         env = {**os.environ, "PATH": self.folder + os.pathsep + os.environ["PATH"]}
 
         async def asks(processes: process.Processes) -> None:
-            await Daemon(processes, self.folder, env, patience=0.3).valid_paths(["/nix/store/x"])
+            asked = Daemon(processes, self.folder, env, patience=0.3)
+            try:
+                await asked.valid_paths(["/nix/store/x"])
+            finally:
+                asked._said.close()
 
         with self.assertRaisesRegex(Failed, "nix-daemon says nothing any more"):
             self.run_with(asks)
