@@ -60,7 +60,7 @@ folder=$(mktemp -d /tmp/apart.XXXXXX)
 clean_up() {
   if [ -n "$keep" ]; then
     for name in here $names; do stop_machine "$name"; done
-    kill "$router"
+    [ -z "$router" ] || kill "$router"
     echo "apart: $folder"
     return
   fi
@@ -68,8 +68,7 @@ clean_up() {
 }
 trap clean_up EXIT
 trap 'exit 130' INT TERM
-start_machine here here
-for name in $names; do start_machine "$name" machine; done
+make_park
 
 # The derivation of an attribute, with the salt of the case, as root here; it is a root of no collection.
 drv() { on here nix-instantiate "$graph" --argstr salt "$salt" -A "$1" 2> /dev/null; }
