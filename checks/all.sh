@@ -27,6 +27,9 @@
 # apart.sh         graphs on machines that are apart, each with a network, a store, a daemon and an sshd of its own: cut
 #                  off, started anew, hung, shared by two; needs what bad-day.sh needs, Nix's build users, iproute2 and
 #                  /dev/net/tun, and takes five to fifteen minutes
+# install.sh       ./install below a folder and into a store, and the command in a root without /lib64, where it builds a
+#                  graph; needs what real-park.sh needs, and unshare
+# help.sh          the man page and the completions, beside what the commands say; needs the built program and Python 3
 # ssh-park.sh      the same graph on machines behind ssh; needs what real-park.sh needs, and OpenSSH's sshd
 # own-agent.sh     the same graph by agents that aren't farm/build's own; needs what real-park.sh needs
 # bodies-apply.py  each wrong body can still be applied; needs Python 3
@@ -57,13 +60,14 @@ fi
 needs_of() {
   case $1 in
     allocations.sh) echo program cc tests ;;
-    examples.py|runs.py|worlds.py|serve.sh) echo program python3 ;;
+    examples.py|help.sh|runs.py|worlds.py|serve.sh) echo program python3 ;;
     bodies-apply.py) echo python3 ;;
     names.py) echo python3 git ;;
     durable.py) echo program python3 strace ;;
     faults.py) echo program python3 cc ;;
     journal.py) echo program python3 cc root ;;
     first.sh) echo rt python3 ;;
+    install.sh) echo program nix-store busybox python3 root unshare ;;
     own-agent.sh|real-park.sh) echo program nix-store busybox python3 root ;;
     apart.sh) echo program nix-store nix-daemon busybox python3 root ssh-keygen sshd ip nsenter /dev/net/tun ;;
     bad-day.sh) echo program nix-store busybox python3 root ssh-keygen sshd ;;

@@ -115,6 +115,7 @@ status "$tree/build"
 [ "$("$tree/$program")" = 3 ] || fail 'the built program is another one'
 grep -q ' % of the proofs, some ' "$folder/out" || fail "./build doesn't say how far it is: $(cat "$folder/out")"
 [ ! -e "$tree/out/build" ] || fail './build leaves its copies'
+(cd "$tree" && sha256sum --check --status "$program.sources") || fail './build notes other sources than those of the program'
 status "$tree/build"
 [ "$got" -eq 0 ] || fail "a second ./build ends with status $got"
 grep -q '^nothing has changed' "$folder/out" || fail "./build proves again what it has proved: $(cat "$folder/out")"

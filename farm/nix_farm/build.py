@@ -10,14 +10,14 @@ from typing import Sequence, Tuple
 
 from . import guard
 from .errors import GivenUp, Interrupted, Usage
-from .folder import remove_shared, say, write_error
+from .folder import remove_shared, say, write_error, write_out
 from .options import Options, parse
 from .process import Processes, watch_children_by_descriptor
 from .program import find_program
 from .run import Run
 
 _SIGNALS = ("HUP", "INT", "TERM")
-_USAGE = "usage: build [-o FOLDER] [--builders @FILE] [OPTION ..] ROOT.drv .."
+_USAGE = "usage: nix-dispatch build [-o FOLDER] [--builders @FILE] [OPTION ..] ROOT.drv .."
 
 
 def _hear_signals(run: Run) -> None:
@@ -82,7 +82,7 @@ def _run(options: Options, program: str) -> int:
 def main(words: Sequence[str], page: str) -> int:
     """`farm/build`: its status."""
     if list(words[:1]) in (["-h"], ["--help"]):
-        print(page.strip("\n"))
+        write_out(page.strip("\n") + "\n")
         return 0
     try:
         farm = os.path.dirname(os.path.dirname(os.path.realpath(__file__)))

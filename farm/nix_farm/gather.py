@@ -10,6 +10,7 @@ from typing import Dict, Iterable, List, Optional, Sequence
 from . import guard
 from .cut import Cut, NotInGraph, cut
 from .derivation import Derivation, read_bundle, read_line
+from .folder import write_out
 from .process import Ended, Processes, watch_children_by_descriptor
 from .settings import NIX
 
@@ -171,12 +172,12 @@ async def _gather(words: _Words, work: str) -> None:
 def main(arguments: Sequence[str], page: str) -> int:
     """`farm/gather`: its status."""
     if arguments[:1] in (["-h"], ["--help"]):
-        print(page.strip("\n"))
+        write_out(page.strip("\n") + "\n")
         return 0
     try:
         words = _Words(arguments)
     except ValueError:
-        print("usage: gather [--store STORE] [--needed [--failed FILE]] -o OUT ROOT.drv ..", file=sys.stderr)
+        print("usage: nix-dispatch gather [--store STORE] [--needed [--failed FILE]] -o OUT ROOT.drv ..", file=sys.stderr)
         return _USAGE
     work = tempfile.mkdtemp(prefix="nix-dispatch.")
     try:

@@ -112,6 +112,11 @@ _ALONE: Dict[str, Callable[[Options], None]] = {
 }
 
 
+def known() -> Set[str]:
+    """The options that are understood, by all their names."""
+    return {*_WITH_VALUE, *_ALONE, "--option"}
+
+
 def _option(options: Options, name: str, value: str) -> None:
     """`--option NAME VALUE`."""
     if name == "substitute" and value in ("true", "false"):

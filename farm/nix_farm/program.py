@@ -13,12 +13,12 @@ AUDIT_LIMIT = 64 << 20
 
 
 def find_program(farm: str) -> str:
-    """The program: the one that NIX_DISPATCH names, else the one in the path, else the one that ./build makes.
+    """The program: the one that NIX_DISPATCH names, else the one in the path, else that of the farm's own command.
 
     GivenUp where there is none.
     """
     program = os.environ.get("NIX_DISPATCH") or shutil.which("nix-dispatch")
-    program = program or os.path.join(farm, "..", "crates", "nix_dispatch", "out", "nix_dispatch")
+    program = program or os.path.join(farm, "bin", "nix-dispatch")
     if not shutil.which(program):
         raise GivenUp(5, f"there is no {program}: ./build makes it")
     # farm/bin/nix-dispatch is there also while the program isn't

@@ -110,8 +110,12 @@ class Run:
     async def _read_settings(self) -> None:
         shown = await self.processes.run([*settings.NIX, "show-config"])
         self._look_for_signal()
+        untold = settings.untold(self.options)
         if shown.status == 0:
             self._settings = settings.read_settings(shown.out.decode(errors="surrogateescape"))
+        elif untold:
+            why = shown.last_words() or f"its status is {shown.status}"
+            raise GivenUp(3, f"`nix show-config` says no settings, so give {', '.join(untold)}: {why}")
         settings.complete(self.options, self._settings)
         self._builders = settings.builders_list(self.options)
         is_told = self.options.substitute or "substitute" in self.options.told

@@ -22,6 +22,11 @@ def read_settings(shown: str) -> Dict[str, str]:
     return found
 
 
+def untold(options: Options) -> List[str]:
+    """The options by which the command line could say what it leaves to Nix's settings."""
+    return [f"--{name}" for name in ("builders", "system", "extra", "features", "jobs") if name not in options.told]
+
+
 def _with_commas(value: str) -> str:
     return re.sub(" +", ",", value)
 

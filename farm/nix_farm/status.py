@@ -88,10 +88,10 @@ def _status(folder: Seen) -> List[str]:
 def main(words: Sequence[str], page: str) -> int:
     """`farm/status`: its status."""
     if list(words[:1]) in (["-h"], ["--help"]):
-        print(page.strip("\n"))
+        write_out(page.strip("\n") + "\n")
         return 0
     if len(words) != 1 or words[0].startswith("-"):
-        print("usage: status FOLDER", file=sys.stderr)
+        print("usage: nix-dispatch status FOLDER", file=sys.stderr)
         return 2
     folder = Seen(os.path.abspath(words[0]))
     try:

@@ -7,7 +7,7 @@ from typing import Dict, Sequence
 
 from .display import Display
 from .events import read_note
-from .folder import goes_on_in, write_error
+from .folder import goes_on_in, write_error, write_out
 from .park import read_park
 
 # The seconds between two looks.
@@ -44,10 +44,10 @@ def _watch(folder: str) -> None:
 def main(words: Sequence[str], page: str) -> int:
     """`farm/watch`: its status."""
     if list(words[:1]) in (["-h"], ["--help"]):
-        print(page.strip("\n"))
+        write_out(page.strip("\n") + "\n")
         return 0
     if len(words) != 1 or words[0].startswith("-"):
-        print("usage: watch FOLDER", file=sys.stderr)
+        print("usage: nix-dispatch watch FOLDER", file=sys.stderr)
         return 2
     folder = os.path.abspath(words[0])
     try:

@@ -65,7 +65,7 @@ class Gathered(FarmCase):
             self.ended(self.gather(*words), 2)
         ran = self.world.call([os.path.join(FARM, "gather"), "--help"])
         self.ended(ran, 0)
-        self.assertIn("farm/gather [--store STORE]", ran.out)
+        self.assertIn("nix-dispatch gather [--store STORE]", ran.out)
 
 
 if __name__ == "__main__":

@@ -50,7 +50,7 @@ class Status(Stopped):
         self.ended(ran, 5)
         self.assertIn("is no folder of a run", ran.err)
         self.ended(self.world.call([os.path.join(FARM, "status")]), 2)
-        self.assertIn("farm/status FOLDER", self.world.call([os.path.join(FARM, "status"), "--help"]).out)
+        self.assertIn("nix-dispatch status FOLDER", self.world.call([os.path.join(FARM, "status"), "--help"]).out)
 
 
 class Said(FarmCase):

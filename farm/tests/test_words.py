@@ -2,11 +2,12 @@
 
 import os
 import re
+import shlex
 import unittest
 
 from nix_farm.errors import GivenUp, Usage
 from nix_farm.options import parse
-from tests.world import FARM, FarmCase
+from tests.world import FARM, HERE, FarmCase
 
 
 class Words(FarmCase):
@@ -35,7 +36,7 @@ class Words(FarmCase):
     def test_help(self) -> None:
         ran = self.world.call([os.path.join(FARM, "build"), "--help"])
         self.ended(ran, 0)
-        self.assertIn("farm/build [-o FOLDER] [OPTION ..] ROOT.drv ..", ran.out)
+        self.assertIn("nix-dispatch build [-o FOLDER] [OPTION ..] ROOT.drv ..", ran.out)
 
     def test_what_is_not_understood(self) -> None:
         for words in (["--none", self.world.drv("root")], ["not-a-derivation"]):
@@ -61,6 +62,35 @@ class Words(FarmCase):
         )
         self.ended(ran, 3)
         self.says(ran, f"the builders list {re.escape(world.at('none'))} can't be read")
+
+    def settings_fail(self, words: str) -> None:
+        """Has `nix show-config` do this, and `nix` else what it does."""
+        other = os.path.join(HERE, "stand_ins", "nix")
+        self.world.script("bin/nix", f'case " $* " in *" show-config "*) {words} ;; esac\nexec {shlex.quote(other)} "$@"')
+
+    def test_settings_that_cannot_be_read(self) -> None:
+        world = self.world
+        self.settings_fail("echo 'warning: some' >&2; echo \"error: syntax error in 'nix.conf'\" >&2; exit 1")
+        ran = world.build(world.drv("root"))
+        self.ended(ran, 3)
+        self.says(ran, "says no settings, so give --system, --extra, --features: error: syntax error in 'nix.conf'")
+        self.assertEqual(len(ran.err.splitlines()), 1)
+        self.assertEqual(world.built(), [])
+        self.assertFalse(os.path.lexists(world.at("out")))
+
+    def test_settings_that_cannot_be_read_without_a_word(self) -> None:
+        world = self.world
+        self.settings_fail("exit 7")
+        ran = world.build(world.drv("root"), jobs=None)
+        self.ended(ran, 3)
+        self.says(ran, "so give --system, --extra, --features, --jobs: its status is 7")
+
+    def test_settings_that_are_all_given(self) -> None:
+        world = self.world
+        self.settings_fail("exit 1")
+        given = ["--system", "i686-linux", "--extra", "", "--features", ""]
+        self.ended(world.build(*given, world.drv("root", system="i686-linux")), 0)
+        self.assertEqual(world.built(), ["root"])
 
     def test_what_cannot_be_gathered(self) -> None:
         world = self.world

@@ -121,14 +121,14 @@ impl Gathered {
     {
         let found = mem::replace(&mut self.found, Found::new(alloc));
         let pieces = mem::replace(&mut self.pieces, Vec::new(alloc));
-        let (read, taken) = join(
+        let (taken, read) = join(
             rt,
-            move || -> Result<Vec<Result<Piece, AllocError>>, AllocError>
-                ensures { IfOk result (λ pieces. ArePieces manner text.entry.now pieces.items) }
-            { read_pieces(rt, alloc, text, manner) },
             move || -> Result<Found, AllocError>
                 ensures { IfOk result (TakesAll found pieces.items) }
             { found.with(pieces) },
+            move || -> Result<Vec<Result<Piece, AllocError>>, AllocError>
+                ensures { IfOk result (λ pieces. ArePieces manner text.entry.now pieces.items) }
+            { read_pieces(rt, alloc, text, manner) },
         );
         self.found = taken?;
         self.pieces = read?;

@@ -1,7 +1,6 @@
 pub mod Accepted
 pub mod ClassReplying
 pub mod Fed
-pub mod Filled
 pub mod LocalTest
 pub mod NoBundle
 pub mod PlacedReplying

@@ -1,5 +1,5 @@
 -- A bundle that is read from its input in blocks. The clauses of `take_park` cite `AnswersKnownPark`; the rest serves private ones.
-use Rattle.std.specs.Prelude.{◌≡◌, ℕ, ◌+◌, ◌<◌, ◌≤◌, List, ◌++◌, length, take, Option, Some, Result, MatchResult}
+use Rattle.std.specs.Prelude.{◌≡◌, ℕ, ◌+◌, ◌<◌, ◌≤◌, List, ◌++◌, length, Option, Some, Result, MatchResult}
 use Rattle.std.specs.Io.KnownBytes.{Consumes, IsAtEnd}
 use Rattle.nd_machines.specs.Builders.{Builder}
 use Rattle.nd_links.specs.Placing.{ArePlaced, Placed}
@@ -17,21 +17,14 @@ pub record ReadsPart (most : ℕ) (old new : Option (List ℕ)) (bytes : List �
   pub bound : length bytes ≤ most
   pub whole : length bytes < most → IsAtEnd new
 
--- Where so many bytes were read before, these were read behind them: as many as this size where the input has them, but no more than the limit and one
--- byte over all.
-pub record ReadsNext (count size : ℕ) (old new : Option (List ℕ)) (bytes : List ℕ) : Type 0 where
-  pub read : Consumes old new bytes
-  pub most : count + length bytes ≤ limit + 1
-  pub whole : length bytes < size → count + length bytes ≤ limit → IsAtEnd new
-
--- A reader was fed the text, so many bytes, of what a device gave so far, and the first bytes of a room are what it gave behind that: as many as the
--- room has, unless the device is at its end or gave more than the limit.
-pub record IsFedAsFar (old new : Option (List ℕ)) (text room : List ℕ) (fed filled : ℕ) : Type 0 where
-  pub read : Consumes old new (text ++ take filled room)
-  pub counted : fed ≡ length text
-  pub most : fed + filled ≤ limit + 1
-  pub bound : filled ≤ length room
-  pub whole : filled < length room → fed + filled ≤ limit → IsAtEnd new
+-- A reader was fed the text of what a device gave so far, and the block is what it gave behind that, so many bytes with it: as many as this size, unless
+-- the device is at its end or gave more than the limit.
+pub record IsFedAsFar (old new : Option (List ℕ)) (text block : List ℕ) (count size : ℕ) : Type 0 where
+  pub read : Consumes old new (text ++ block)
+  pub counted : count ≡ length text + length block
+  pub most : count ≤ limit + 1
+  pub bound : length block ≤ size
+  pub whole : length block < size → count ≤ limit → IsAtEnd new
 
 -- the whole input, as the bundle of this graph
 pub record ReadsGraph (options : ParkOptions) (unread left : Option (List ℕ)) (graph : Nodes) : Type 0 where

@@ -1,11 +1,11 @@
 //! The graph of a bundle, or its needs, that is read from its input in blocks, so that its text is never in memory whole.
 
-ghost use Rattle.std.specs.Prelude.{◌≡◌, ◌++◌, ◌<◌, ◌≤◌, ◌||◌, ℕ, List, [], false, length, take, IfOk, IfErr, OnOk};
+ghost use Rattle.std.specs.Prelude.{◌≡◌, ◌++◌, ◌<◌, ◌||◌, [], false, length, IfOk, IfErr, OnOk};
 ghost use Rattle.nd_links.specs.Placing.{ArePlaced};
 ghost use Rattle.nd_graph.specs.Graphs.{Nodes};
 ghost use Rattle.nd_cli.specs.Asked.{IsAskFault};
-ghost use Rattle.nd_cli.specs.Blocks.{AnswersKnownGraph, AnswersKnownNeeds, HasNeedsWithin, ReadsGraph, ReadsNeeds, ReadsNext, ReadsPart};
-ghost use Rattle.nd_cli.specs.Inputs.{IsReadFault, OkUnlessMemory, ReadsWhole, is_read_failure, limit};
+ghost use Rattle.nd_cli.specs.Blocks.{AnswersKnownGraph, AnswersKnownNeeds, HasNeedsWithin, ReadsGraph, ReadsNeeds, ReadsPart};
+ghost use Rattle.nd_cli.specs.Inputs.{IsReadFault, OkUnlessMemory, ReadsWhole, is_read_failure};
 ghost use Rattle.nd_cli.specs.Parks.{HasGraph, IsBundleFault};
 
 use crate::fault::{CliFault, Place};
@@ -16,19 +16,22 @@ use crate::parts_reader::PartsReader;
 use nd_bundle::{BundleReader, Needs, NeedsReader};
 use nd_devices::{Fault, Told};
 use nd_graph::Graph;
-use std::alloc::{AllocError, Global};
+use std::alloc::Global;
 use std::io::Read;
 use std::mem;
 use std::thread::{Threads, join_mut};
 
 /// How many bytes the first block of an input has: few, since nothing else is done while it is read.
-const FIRST: usize = 1_048_576;
+const FIRST: usize = 262_144;
 
 /// How many times as large as the block before the next one is, up to [`BLOCK`].
 const GROW: usize = 4;
 
 /// How many bytes a block has at most. Threads start and end for each.
-const BLOCK: usize = 8_388_608;
+const BLOCK: usize = 4_194_304;
+
+/// How many bytes one read asks for at most.
+const STEP: usize = 65_536;
 
 /// The graph of the bundle on the input, which is read to its end, or to one byte past [`LIMIT`].
 ///
@@ -134,56 +137,50 @@ fn feed_input<T: Threads + Sync, R: Read, P: PartsReader>(
     ensures fault { IfErr result (IsReadFault input.new.is_marked) }
     ensures mark { input.new.is_marked ≡ (input.old.is_marked || is_read_failure result) }
 {
-    let mut room = new_room(alloc, FIRST)?;
+    let mut room = Vec::new(alloc);
     let mut next = Vec::new(alloc);
-    let mut filled = fill(&mut room, FIRST, input)?;
-    let mut fed = 0;
-    'feeding: while filled == room.len() && fed + filled <= LIMIT {
-        let block = room.as_slice();
-        let read = feed_beside(rt, alloc, block, &mut next, fed + filled, input, reader)?;
-        fed += filled;
-        filled = read;
+    let mut size = FIRST;
+    fill_room(&mut room, size, input)?;
+    let mut count = room.len();
+    'feeding: while room.len() == size && count <= LIMIT {
+        size = next_size(size);
+        let most = size.min(LIMIT + 1 - count);
+        feed_beside(rt, room.as_slice(), &mut next, most, input, reader)?;
         mem::swap(&mut room, &mut next);
+        count += room.len();
     }
-    reader.feed(rt, &room[..filled])?;
-    Ok(fed + filled)
+    reader.feed(rt, room.as_slice())?;
+    Ok(count)
 }
 
-/// Feeds the reader a block, and meanwhile reads the next one to the front of a room, with `count` bytes before it.
-/// Answers how many bytes that one has.
+/// Feeds the reader a block, and meanwhile reads the next one into a room: so many bytes, or fewer where the input ends.
 ///
 /// `Read`: the device refused a read, and is then marked. `Memory`.
 fn feed_beside<T: Threads + Sync, R: Read, P: PartsReader>(
     rt: &T,
-    alloc: Global,
     block: &[u8],
     next: &mut Vec<u8>,
-    count: usize,
+    most: usize,
     input: &mut Told<R>,
     reader: &mut P,
-) -> Result<usize, CliFault>
-    requires some { 0 < length block.now }
-    requires count { count ≤ limit }
+) -> Result<(), CliFault>
     ensures check { (P.reading reader.new).check ≡ (P.reading reader.old).check }
     ensures text { (P.reading reader.new).text ≡ (P.reading reader.old).text ++ block.now }
-    ensures some { OnOk result (0 < length next.new.items) }
-    ensures bound { IfOk result (λ filled. filled ≤ length next.new.items) }
-    ensures read { IfOk result (λ filled. ReadsNext count (length next.new.items) (R.remaining input.old.device) (R.remaining input.new.device) (take filled next.new.items)) }
+    ensures read { OnOk result (ReadsPart most (R.remaining input.old.device) (R.remaining input.new.device) next.new.items) }
     ensures fault { IfErr result (IsReadFault input.new.is_marked) }
     ensures mark { input.new.is_marked ≡ (input.old.is_marked || is_read_failure result) }
 {
-    let size = next_size(block.len());
     let (fed, filled) = join_mut(
         rt,
         &mut || reader.feed(rt, block),
-        &mut || fill_next(alloc, next, size, count, input),
+        &mut || fill_room(next, most, input),
     );
-    let filled = filled?;
+    filled?;
     fed?;
-    Ok(filled)
+    Ok(())
 }
 
-/// How large the room for the block behind one of this size is: four times as large, up to [`BLOCK`].
+/// How large the block behind one of this size is: four times as large, up to [`BLOCK`].
 fn next_size(size: usize) -> usize
     requires { 0 < size }
     ensures { 0 < result }
@@ -191,59 +188,26 @@ fn next_size(size: usize) -> usize
     size.saturating_mul(GROW).min(BLOCK)
 }
 
-/// Reads on in the input, of which `count` bytes were read: from the front of a room, which is made anew where it hasn't
-/// this size, until it is full, or [`LIMIT`] bytes and one more were read, or the input ends. Answers how many bytes these
-/// are.
+/// Reads on in the input: so many bytes, or fewer where it ends. The room has these alone then. It grows as they come, so
+/// that an input that is shorter costs no more than its own bytes.
 ///
 /// `Read`: the device refused a read, and is then marked. `Memory`.
-#[tactic(auto, using(crate::proofs::Fed::reads_next))]
-fn fill_next<R: Read>(
-    alloc: Global,
-    room: &mut Vec<u8>,
-    size: usize,
-    count: usize,
-    input: &mut Told<R>,
-) -> Result<usize, CliFault>
-    requires { count ≤ limit }
-    ensures size { OnOk result (length room.new.items ≡ size) }
-    ensures bound { IfOk result (λ filled. filled ≤ length room.new.items) }
-    ensures read { IfOk result (λ filled. ReadsNext count (length room.new.items) (R.remaining input.old.device) (R.remaining input.new.device) (take filled room.new.items)) }
+#[tactic(auto, using(crate::proofs::Fed::reads_part))]
+fn fill_room<R: Read>(room: &mut Vec<u8>, most: usize, input: &mut Told<R>) -> Result<(), CliFault>
+    ensures read { OnOk result (ReadsPart most (R.remaining input.old.device) (R.remaining input.new.device) room.new.items) }
     ensures fault { IfErr result (IsReadFault input.new.is_marked) }
     ensures mark { input.new.is_marked ≡ (input.old.is_marked || is_read_failure result) }
 {
-    if room.len() != size {
-        *room = new_room(alloc, size)?;
-    }
-    let most = size.min(LIMIT + 1 - count);
-    fill(room.as_mut_slice(), most, input)
-}
-
-/// Room for so many bytes.
-fn new_room(alloc: Global, size: usize) -> Result<Vec<u8>, AllocError>
-    ensures { IfOk result (λ room. length room.items ≡ size) }
-{
-    vec![in alloc; 0; size]
-}
-
-/// Reads on in the input, from the front of the room, until so many bytes stand there or the input ends; and answers how
-/// many these are.
-///
-/// `Read`: the device refused a read, and is then marked.
-fn fill<R: Read>(room: &mut [u8], most: usize, input: &mut Told<R>) -> Result<usize, CliFault>
-    requires { most ≤ length room.old }
-    ensures long { length room.new ≡ length room.old }
-    ensures bound { IfOk result (λ count. count ≤ most) }
-    ensures read { IfOk result (λ count. ReadsPart most (R.remaining input.old.device) (R.remaining input.new.device) (take count room.new)) }
-    ensures fault { IfErr result (IsReadFault input.new.is_marked) }
-    ensures mark { input.new.is_marked ≡ (input.old.is_marked || is_read_failure result) }
-{
-    let mut count = 0;
-    'filling: while count < most {
-        match input.take(&mut room[count..most]) {
-            Ok(0) => return Ok(count),
-            Ok(taken) => count += taken,
+    room.clear();
+    room.reserve_exact(most)?;
+    let mut step = [0; STEP];
+    'filling: while room.len() < most {
+        let left = step.len().min(most - room.len());
+        match input.take(&mut step[..left]) {
+            Ok(0) => return Ok(()),
+            Ok(taken) => room.extend_from_slice(&step[..taken])?,
             Err(Fault) => return Err(CliFault::Read),
         }
     }
-    Ok(count)
+    Ok(())
 }

@@ -1,6 +1,8 @@
 //! Long histories of random worlds, audited by one thread and by two: what a simulation made, with a line of it left
 //! out, doubled or moved, behind so many entries that it begins in one batch of entries and ends in the next one.
 
+ghost use Rattle.std.specs.Prelude.{◌≤◌, length, IfSome};
+
 use crate::tests::drawing::Scribe;
 use crate::tests::running::{Call, written};
 use crate::tests::worlds::{Texts, draw, place_of};
@@ -124,7 +126,9 @@ fn long_history(alloc: Global, text: &[u8]) -> Option<Vec<Entry>> {
 }
 
 /// The park of a world. `None` where memory is wanting.
-fn park_of<R: Threads + Sync>(rt: &R, alloc: Global, place: &Place<'_>) -> Option<Park> {
+fn park_of<R: Threads + Sync>(rt: &R, alloc: Global, place: &Place<'_>) -> Option<Park>
+    ensures { IfSome result (λ park. length park.machines.items ≤ 1024) }
+{
     let mut bundle = Told::new(place.bundle.as_bytes());
     take_park(rt, alloc, &options(alloc, place), &mut bundle).ok()
 }
