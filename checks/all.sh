@@ -26,7 +26,7 @@
 #                  twenty-five minutes
 # apart.sh         graphs on machines that are apart, each with a network, a store, a daemon and an sshd of its own: cut
 #                  off, started anew, hung, shared by two; needs what bad-day.sh needs, Nix's build users, iproute2 and
-#                  /dev/net/tun, and takes five to fifteen minutes
+#                  /dev/net/tun, and takes some fifteen minutes
 # install.sh       ./install below a folder and into a store, and the command in a root without /lib64, where it builds a
 #                  graph; needs what real-park.sh needs, and unshare
 # help.sh          the man page and the completions, beside what the commands say; needs the built program and Python 3
