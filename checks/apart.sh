@@ -5,15 +5,17 @@
 #
 #     checks/apart.sh [-k] [CASE ..]
 #
-# A case is a function below or in apart/nights.sh; without a name all are run. Each says in a line what it saw.
-# NIX_DISPATCH names the program. It needs root, Nix 2.8 or later with its build users, a static busybox, Python 3,
-# OpenSSH's sshd, iproute2 and /dev/net/tun, and installs nothing. No address outside of its namespaces is used. It
-# takes fifteen minutes at most, and leaves nothing behind; with -k the folder with all that it made stays.
+# A case is a function below or in apart/nights.sh. Those that are named are run one after another; without a name all
+# are, some side by side, on machines of their own. Each says in a line what it saw. NIX_DISPATCH names the program. It
+# needs root, Nix 2.8 or later with its build users, a static busybox, Python 3, OpenSSH's sshd, iproute2 and
+# /dev/net/tun, and installs nothing. No address outside of its namespaces is used. It takes fifteen minutes at most:
+# what isn't done by then is ended, and counts as failed. It leaves nothing behind; with -k the folders with all that it
+# made stay.
 set -u
 
 keep=''
-if [ "${1-}" = -k ]; then keep=yes; shift; fi
-for command in nix-store busybox python3 ssh ssh-keygen ip nsenter unshare setpriv flock; do
+if [ "${1-}" = -k ]; then keep=-k; shift; fi
+for command in nix-store busybox python3 ssh ssh-keygen ip nsenter unshare setpriv flock timeout; do
   command -v "$command" > /dev/null || { echo "apart: there is no $command (Debian: nix-bin, busybox-static, python3, openssh-server, iproute2)" >&2; exit 2; }
 done
 [ -c /dev/net/tun ] || { echo 'apart: there is no /dev/net/tun' >&2; exit 2; }
@@ -22,6 +24,35 @@ farm=${FARM-$PWD/farm}
 export NIX_DISPATCH="${NIX_DISPATCH-$PWD/crates/nix_dispatch/out/nix_dispatch}"
 unset NIX_REMOTE NIX_PATH NIX_SSHOPTS NIX_CONF_DIR
 graph=$PWD/checks/bad-day/graph.nix
+
+# What is run side by side; most of a case's time is waiting. `good` and `shared` keep a processor busy by themselves.
+lanes='good,untrusted,differs hung,stuck,key late,stale,lists vanished,away,damaged shared'
+side_by_side() {
+  begun=$(date +%s) running=''
+  # shellcheck disable=SC2086  # process numbers
+  trap 'kill $running 2> /dev/null; wait; exit 130' INT TERM
+  for lane in $lanes; do
+    # shellcheck disable=SC2046,SC2086  # names, and an option or none
+    timeout 900 checks/apart.sh $keep $(echo "$lane" | tr ',' ' ') &
+    running="$running $!"
+  done
+  failed=0
+  for one in $running; do
+    wait "$one"
+    case $? in
+      0) ;;
+      124) echo 'apart: FAILED: fifteen minutes are over'; failed=1 ;;
+      *) failed=1 ;;
+    esac
+  done
+  echo "apart: $(($(date +%s) - begun)) s"
+  return "$failed"
+}
+if [ $# -eq 0 ]; then
+  side_by_side
+  exit
+fi
+
 folder=$(mktemp -d /tmp/apart.XXXXXX)
 # shellcheck source=checks/apart/park.sh
 . checks/apart/park.sh
@@ -29,7 +60,7 @@ folder=$(mktemp -d /tmp/apart.XXXXXX)
 clean_up() {
   if [ -n "$keep" ]; then
     for name in here $names; do stop_machine "$name"; done
-    kill "$router"
+    [ -z "$router" ] || kill "$router"
     echo "apart: $folder"
     return
   fi
@@ -37,8 +68,7 @@ clean_up() {
 }
 trap clean_up EXIT
 trap 'exit 130' INT TERM
-start_machine here here
-for name in $names; do start_machine "$name" machine; done
+make_park
 
 # The derivation of an attribute, with the salt of the case, as root here; it is a root of no collection.
 drv() { on here nix-instantiate "$graph" --argstr salt "$salt" -A "$1" 2> /dev/null; }
@@ -49,7 +79,7 @@ alices() { as_alice nix-instantiate "$graph" --argstr salt "$salt" -A "$1" 2> /d
 build() {
   begin "$@"
   started=$(date +%s%3N)
-  finish 1500
+  finish 3000
   took=$(($(date +%s%3N) - started))
 }
 # The same in the background.
@@ -138,9 +168,7 @@ good() {
 }
 
 failed=0
-all="good $nights"
-# shellcheck disable=SC2086  # words
-for case in ${*:-$all}; do
+for case in "$@"; do
   wrong='' did=''
   begun=$(date +%s)
   "$case"
@@ -150,6 +178,7 @@ for case in ${*:-$all}; do
     echo "$case: $did ($took s)"
   else
     echo "$case: FAILED: ${wrong#; } ($took s)"
+    tail -n 30 "$out.err" | sed 's/^/    /'
     failed=1
   fi
 done

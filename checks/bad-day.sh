@@ -4,7 +4,7 @@
 #
 #     checks/bad-day.sh [-k] [CASE ..]
 #
-# A case is a function below or in bad-day/killed.sh; without a name all are run. Each says in a line what it saw. FARM
+# A case is a function below, in bad-day/killed.sh or in bad-day/ends.sh; without a name all are run. Each says in a line what it saw. FARM
 # names the folder of the scripts, which is farm where it isn't set, and NIX_DISPATCH the program. It needs Nix 2.8 or
 # later, a static busybox, Python 3, OpenSSH's sshd and root, and installs nothing. The sshd listens on
 # port 2223 of 127.0.0.1, or on that of PORT, and ends with the script. With -k the folder with all that it made stays.
@@ -351,6 +351,8 @@ told() {
 
 # shellcheck source=checks/bad-day/killed.sh
 . checks/bad-day/killed.sh
+# shellcheck source=checks/bad-day/ends.sh
+. checks/bad-day/ends.sh
 
 # 7: a folder that is full, from the start and in the run
 full_folder() {
@@ -646,7 +648,7 @@ quick() {
 }
 
 failed=0
-all='blamed slots refused lost resumed collected collected_there gone needed progress told interrupted killed_run killed_all killed_half killed_later begun_anew full_at_start full_folder silent stalled killed_agent small substituted full_machine full_store read_only two_at_once pythons quick'
+all='blamed slots refused lost resumed collected collected_there gone needed progress told interrupted killed_run killed_all killed_half killed_later begun_anew full_at_start full_folder silent stalled killed_agent small statuses killed_builder keyless told_wrongly substituted full_machine full_store read_only two_at_once pythons quick'
 # shellcheck disable=SC2086  # words
 for case in ${*:-$all}; do
   wrong='' did=''

@@ -1,7 +1,6 @@
 # The cases of apart.sh in which something fails, to be read by `.`.
 
 # shellcheck shell=sh disable=SC2034,SC2016,SC2154  # what its reader has set and reads
-nights='damaged key untrusted hung late vanished stuck stale away lists shared'
 
 # A path of this store whose files are gone, and one whose bytes are others: no machine is to blame for it.
 damaged() {
@@ -42,11 +41,15 @@ untrusted() {
   trusts one root machine
   machine one 2 builder > "$folder/builders"
   salt=untrusted
+  build here untrustedbuild --retries 0 "$(drv plain)"
+  want "a build: status $status" is "$status" 1
+  sound 1
+  want "a build: the cause doesn't name trusted-users" has "$folder/untrustedbuild.err" '^lost: .*trusted-users'
   build here untrusted "$(drv sourced)"
   trusts one 'root builder' machine
   want "status $status" is "$status" 1
   sound 1
-  want "the cause doesn't name trusted-users" has "$folder/untrusted.err" 'trusted-users'
+  want "the cause doesn't name trusted-users" has "$folder/untrusted.err" '^down: .*trusted-users'
   trusts here root here
   machine one 2 > "$folder/builders"
   salt=untrustedalice
@@ -56,6 +59,17 @@ untrusted() {
   want "alice: it isn't said" has "$folder/untrustedalice.err" 'takes no builders list from this user: name it in .trusted-users'
   did="a user that a machine doesn't trust, and one that this machine's daemon doesn't: both are told of trusted-users"
 }
+# A builder that makes another thing each time. Nix 2.8 can't look for that in a store that is a folder.
+differs() {
+  machine one 1 > "$folder/builders"
+  salt=differs
+  build here differs --option repeat 1 "$(drv differs)"
+  want "status $status" is "$status" 1
+  sound 1
+  want "$(grep '^failed' "$folder/differs/history")" has "$folder/differs/history" '^failed 0 status 104$'
+  did="a builder that makes another thing when it is repeated: status 104"
+}
+
 # Starts a machine anew that trusts these users: NAME USERS KIND.
 trusts() {
   sed -i "s/^trusted-users = .*/trusted-users = $2/" "$folder/$1/etc-nix/nix.conf"
@@ -207,37 +221,50 @@ lists() {
   did="another builders list with the same folder: round 2, and the report has all 18, $one of them built on the machines before"
 }
 
-# Two coordinators on one machine of two slots, of which one is killed in between and goes on.
+# Two coordinators on one machine of three slots, of which each is killed in between and goes on.
 shared() {
-  machine one 2 > "$folder/builders"
-  key=/etc/nix/alice_key machine one 2 > "$folder/builders.alice"
+  machine one 3 > "$folder/builders"
+  key=/etc/nix/alice_key machine one 3 > "$folder/builders.alice"
   : > "$folder/one/tmp/counting"
   on one sh -c 'while [ -e /tmp/counting ]; do ps -eo user:20= | grep "^nixbld" | sort -u | wc -l; sleep 0.05; done > /tmp/counts' &
   counter=$!
   salt=shared
-  mine=$(drv steps)
+  mine=$(drv hundred)
   salt=sharedalice
-  hers=$(alices none)
+  hers=$(alices hundred)
   begin here shared1 --shared-slots "$mine"
   first=$builder
   list=builders.alice begin alice shared2 --shared-slots "$hers"
   second=$builder
-  sleep 12
+  name=shared1
+  soon 1200 has_built 20
+  want "the first has built only $(built_by_now) when it is killed" has_built 20
   on here pkill -KILL -f "$folder/shared1"
   wait "$first"
   begin here shared1 --shared-slots "$mine"
-  finish 2400
-  want "the first: status $status" is "$status" 0
-  sound 18
-  name=shared2 builder=$second
-  finish 2400
+  first=$builder
+  name=shared2
+  soon 1200 has_built 40
+  want "the second has built only $(built_by_now) when it is killed" has_built 40
+  on here pkill -KILL -f "$folder/shared2"
+  wait "$second"
+  list=builders.alice begin alice shared2 --shared-slots "$hers"
+  finish 4800
   want "the second: status $status" is "$status" 0
-  sound 31
+  sound 100
+  name=shared1 builder=$first
+  finish 4800
+  want "the first: status $status" is "$status" 0
+  sound 100
   rm -f "$folder/one/tmp/counting"
   wait "$counter"
   most=$(sort -n "$folder/one/tmp/counts" | tail -n 1)
-  want "$most builds at once" [ "$most" -le 2 ]
-  want "only $most builds at once" [ "$most" -ge 1 ]
+  want "$most builds at once" [ "$most" -le 3 ]
+  want "only $most builds at once" [ "$most" -ge 2 ]
   want 'that it waits is not said' grep -q '^waits: all slots of ssh://root@one are taken' "$folder/shared1.err" "$folder/shared2.err"
-  did="two coordinators on a machine of two slots, one killed in between: 49 builds, and $most at once at most"
+  looks=$(wc -l < "$folder/one/tmp/counts")
+  did="two coordinators on a machine of three slots, each killed in between: 200 builds, and $most at once at most in $looks looks"
 }
+# How many a run has built by now, by its journal; and whether it has so many.
+built_by_now() { cat "$folder/$name"/journal.* 2> /dev/null | grep -c '^built '; }
+has_built() { [ "$(built_by_now)" -ge "$1" ]; }

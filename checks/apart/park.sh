@@ -9,18 +9,33 @@
 # shellcheck shell=sh disable=SC2016,SC2154  # folder is its reader's
 
 names='one two three'
-cp /etc/group /etc/passwd /etc/shadow "$folder"
-echo 'builder:x:61501:61501::/home/builder:/bin/sh
+router=''
+
+# Makes all of it, and starts the machines.
+make_park() {
+  make_users
+  for name in here $names; do make_machine "$name" 'builder alice'; done
+  make_keys
+  start_router
+  start_machine here here
+  for name in $names; do start_machine "$name" machine; done
+}
+
+# Who is known on the machines, and the machines by their names.
+make_users() {
+  cp /etc/group /etc/passwd /etc/shadow "$folder"
+  echo 'builder:x:61501:61501::/home/builder:/bin/sh
 alice:x:61500:61500::/home/alice:/bin/sh' >> "$folder/passwd"
-echo 'builder:x:61501:
+  echo 'builder:x:61501:
 alice:x:61500:' >> "$folder/group"
-echo 'builder:*:19000:0:99999:7:::
+  echo 'builder:*:19000:0:99999:7:::
 alice:*:19000:0:99999:7:::' >> "$folder/shadow"
-echo '127.0.0.1 localhost
+  echo '127.0.0.1 localhost
 10.77.0.1 here
 10.77.0.2 one
 10.77.0.3 two
 10.77.0.4 three' > "$folder/hosts"
+}
 
 # The files of a machine: NAME TRUSTED-USERS.
 make_machine() {
@@ -43,31 +58,45 @@ max-jobs = 4
 keep-outputs = false
 CONF
 }
-for name in here $names; do make_machine "$name" 'builder alice'; done
-ssh-keygen -q -t ed25519 -N '' -C root -f "$folder/here/etc-nix/builder_key"
-for name in $names; do
-  for home in "$folder/$name/root" "$folder/$name/home/builder"; do
-    cp "$folder/here/etc-nix/builder_key.pub" "$home/.ssh/authorized_keys"
-    chmod 700 "$home" "$home/.ssh"
-    chmod 600 "$home/.ssh/authorized_keys"
+
+# The keys to log in with, and the host keys that are known.
+make_keys() {
+  ssh-keygen -q -t ed25519 -N '' -C root -f "$folder/here/etc-nix/builder_key"
+  for name in $names; do
+    for home in "$folder/$name/root" "$folder/$name/home/builder"; do
+      cp "$folder/here/etc-nix/builder_key.pub" "$home/.ssh/authorized_keys"
+      chmod 700 "$home" "$home/.ssh"
+      chmod 600 "$home/.ssh/authorized_keys"
+    done
+    chown -R 61501:61501 "$folder/$name/home/builder"
+    for home in "$folder/here/root" "$folder/here/home/alice"; do
+      echo "$name $(cut -d' ' -f1,2 "$folder/$name/ssh/ssh_host_ed25519_key.pub")" >> "$home/.ssh/known_hosts"
+    done
   done
-  chown -R 61501:61501 "$folder/$name/home/builder"
-  for home in "$folder/here/root" "$folder/here/home/alice"; do
-    echo "$name $(cut -d' ' -f1,2 "$folder/$name/ssh/ssh_host_ed25519_key.pub")" >> "$home/.ssh/known_hosts"
-  done
-done
-install -m 600 "$folder/here/etc-nix/builder_key" "$folder/here/home/alice/.ssh/id_ed25519"
-chown -R 61500:61500 "$folder/here/home/alice"
-install -m 600 -o 61500 "$folder/here/etc-nix/builder_key" "$folder/here/etc-nix/alice_key"
-chmod 755 "$folder"
+  install -m 600 "$folder/here/etc-nix/builder_key" "$folder/here/home/alice/.ssh/id_ed25519"
+  chown -R 61500:61500 "$folder/here/home/alice"
+  install -m 600 -o 61500 "$folder/here/etc-nix/builder_key" "$folder/here/etc-nix/alice_key"
+  chmod 755 "$folder"
+}
 
 # The router, whose namespaces the machines use.
-mkdir "$folder/network"
-echo 0 > "$folder/network/delay"
-checks/apart/router.py "$folder/network" here 10.77.0.1 one 10.77.0.2 two 10.77.0.3 three 10.77.0.4 > "$folder/networks" 2> "$folder/router.err" &
-router=$!
-left=100
-until grep -q ready "$folder/networks" || [ $left -eq 0 ]; do sleep 0.1; left=$((left - 1)); done
+start_router() {
+  mkdir "$folder/network"
+  echo 0 > "$folder/network/delay"
+  checks/apart/router.py "$folder/network" here 10.77.0.1 one 10.77.0.2 two 10.77.0.3 three 10.77.0.4 > "$folder/networks" 2> "$folder/router.err" &
+  router=$!
+  until_up router "$folder/router.err" grep -q ready "$folder/networks"
+}
+# Waits a minute at most for what was started: NAME LOG COMMAND ..
+until_up() {
+  up=$1 log=$2 left=600
+  shift 2
+  until "$@"; do
+    [ $left -gt 0 ] || { echo "apart: $up doesn't start: $(tail -n 1 "$log")" >&2; exit 2; }
+    sleep 0.1
+    left=$((left - 1))
+  done
+}
 network_of() { sed -n "s/^$1 //p" "$folder/networks"; }
 
 # Starts a machine: NAME KIND; its first process is `$folder/NAME.pid`.
@@ -75,8 +104,8 @@ start_machine() {
   rm -f "$folder/$1/run/up"
   nsenter "--net=$(network_of "$1")" unshare --mount --pid --uts --fork --kill-child sh checks/apart/machine.sh "$folder/$1" "$2" > "$folder/$1.log" 2>&1 &
   above=$!
-  left=100
-  until [ -e "$folder/$1/run/up" ] || [ $left -eq 0 ]; do sleep 0.1; left=$((left - 1)); done
+  echo "$above" > "$folder/$1.above"
+  until_up "$1" "$folder/$1.log" [ -e "$folder/$1/run/up" ]
   cat "/proc/$above/task/$above/children" > "$folder/$1.pid"
 }
 
@@ -84,7 +113,7 @@ start_machine() {
 on() {
   machine_pid=$(tr -d ' ' < "$folder/$1.pid")
   shift
-  nsenter --target "$machine_pid" --mount --pid --net --uts -- env -u NIX_REMOTE HOME=/root sh -c 'cd "$0" 2> /dev/null || cd /; exec "$@"' "$PWD" "$@"
+  checks/apart/enter.py "$machine_pid" env -u NIX_REMOTE HOME=/root sh -c 'cd "$0" 2> /dev/null || cd /; exec "$@"' "$PWD" "$@"
 }
 # The same as the user alice, by the daemon, and with the key of hers.
 as_alice() {
@@ -93,7 +122,9 @@ as_alice() {
 
 # Ends a machine, from one moment to the next.
 stop_machine() {
-  kill -9 "$(tr -d ' ' < "$folder/$1.pid")" 2> /dev/null
+  # shellcheck disable=SC2046  # process numbers
+  kill -9 $(cat "$folder/$1.pid" "$folder/$1.above" 2> /dev/null) 2> /dev/null
+  rm -f "$folder/$1.pid" "$folder/$1.above"
 }
 cut_off() { touch "$folder/network/cut.$1"; sleep 0.1; }
 join() { rm -f "$folder/network/cut.$1"; }
@@ -107,7 +138,7 @@ machine() {
 
 end_park() {
   for name in here $names; do stop_machine "$name"; done
-  kill "$router" 2> /dev/null
+  [ -z "$router" ] || kill "$router" 2> /dev/null
   sleep 0.2
   # what runs have left that were ended with their guard
   for link in "$folder"/*/.agents; do

@@ -23,6 +23,8 @@ let
 in {
   # 49 derivations
   many = wide 48 "sleep 0.1";
+  # 100 derivations
+  hundred = wide 99 "sleep 0.3";
   # a build that says something and takes a while, and what waits for it
   slow = build "after" "echo > $out" { part = build "slow" "echo a line; sleep 10; echo slow > $out" { }; };
   # one that takes longer than any case
@@ -48,5 +50,19 @@ in {
   long = build "long" "echo > $out" { parts = [ (wide 40 "sleep 1") (chain "link" 8 "sleep 1") ]; };
   # what wants a source once something else is built
   wanting = build "wanting" "read line < ${source}; echo $line > $out" { before = build "before" "sleep 6; echo > $out" { }; };
+  # builders that end in ways of their own, with --max-silent-time and `repeat`
+  silent = build "silent" "sleep 30; echo > $out" { };
+  mistaken = build "mistaken" "echo > $out" { outputHashAlgo = "sha256"; outputHash = builtins.hashString "sha256" "other"; };
+  nothing = build "nothing" "echo a line" { };
+  differs = build "differs" "read line < /proc/sys/kernel/random/uuid; echo $line > $out" { };
+  # a failure below the longest chain, and 12 beside
+  barred = build "barred" "echo > $out" {
+    parts = [
+      (build "upper" "echo > $out" { below = build "lower" "echo > $out" { below = build "fails" "exit 9" { }; }; })
+      (wide 11 "sleep 1")
+    ];
+  };
+  # one that needs nothing
+  plain = build "plain" "echo > $out" { };
   sourced = build "sourced" "read line < ${source}; echo $line > $out" { };
 }

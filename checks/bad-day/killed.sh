@@ -65,26 +65,28 @@ interrupted() {
 # 7: the program is killed
 killed_run() {
   machine one 2 > "$folder/builders"
-  salt=killrun
-  root=$(drv steps)
-  begin killrun --jobs 0 "$root"
-  soon 300 has "$folder/$name/journal.1" '^built '
-  # shellcheck disable=SC2046  # process numbers
-  kill -9 $(below_with "$builder" 'run --agents')
-  want 'it goes on' soon 300 ended
-  wait "$builder" 2> /dev/null
-  status=$?
-  want "status $status" is "$status" 5
-  want "the report doesn't say it" has "$folder/killrun/report" '^interrupted KILL$'
-  want "the report doesn't say what was built" [ "$(counted built killrun || echo 0)" -gt 0 ]
-  sound killrun 18
-  want 'something goes on behind it' quiet
-  mark killrun
-  build killrun --jobs 0 "$root"
-  want "again in the folder, it ends with status $status" is "$status" 0
-  sound killrun 18
-  gone_on 'the same command'
-  did="kill -9 of run: status 5, a report of what was built, and the same command goes on"
+  for signal in KILL TERM; do
+    salt=run$signal
+    root=$(drv steps)
+    begin "run$signal" --jobs 0 "$root"
+    soon 300 has "$folder/$name/journal.1" '^built '
+    # shellcheck disable=SC2046  # process numbers
+    kill -"$signal" $(below_with "$builder" 'run --agents')
+    want "$signal: it goes on" soon 300 ended
+    wait "$builder" 2> /dev/null
+    status=$?
+    want "$signal: status $status" is "$status" "$([ "$signal" = KILL ] && echo 5 || echo 143)"
+    want "$signal: the report doesn't say it" has "$folder/$name/report" "^interrupted $signal\$"
+    want "$signal: the report doesn't say what was built" [ "$(counted built "$name" || echo 0)" -gt 0 ]
+    sound "$name" 18
+    want "$signal: something goes on behind it" quiet
+    mark "$name"
+    build "$name" --jobs 0 "$root"
+    want "$signal: again in the folder, it ends with status $status" is "$status" 0
+    sound "$name" 18
+    gone_on "$signal"
+  done
+  did="kill -9 and TERM of run: status 5 and 143, a report of what was built, and the same command goes on"
 }
 
 # All that farm/build has started, and that itself, at once.
@@ -178,7 +180,7 @@ killed_later() {
   { machine one 1; machine two 1; } > "$folder/builders"
   salt=later
   root=$(drv slow)
-  begin later --jobs 0 "$root"
+  begin later --jobs 0 --reconnect 0 "$root"
   soon 300 logged ' begin '
   soon 100 serving
   # shellcheck disable=SC2046  # process numbers
@@ -186,7 +188,7 @@ killed_later() {
   second_round() { grep -q ' - - round 2 ' "$folder/$name/events" && [ "$(grep -c ' begin ' "$folder/$name/events")" -gt 1 ]; }
   soon 300 second_round
   kill_all
-  build later --jobs 0 "$root"
+  build later --jobs 0 --reconnect 0 "$root"
   want "status $status" is "$status" 0
   sound later 2
   gone_on 'in the second round'

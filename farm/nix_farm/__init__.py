@@ -19,6 +19,7 @@ Processes
     bounds      waits that are given up where nothing moves
     guard       the process that ends what a killed farm/build has left
     wire        the numbers and strings of Nix's worker protocol
+    nar         how long the NAR of a path is, by what lies there
     daemon      a `nix-daemon --stdio` that is spoken with: paths that are valid, references, builds, NARs, roots
 
 Machines and slots

@@ -54,7 +54,12 @@ OF_BUILDERS: Sequence[Row] = (
     *_rows("builder", "failed 100", rb"^builder for '.*' failed to produce output path "),
     *_rows("builder", "failed 101", rb" timed out after [0-9]+ seconds"),
     *_rows("builder", "failed 102", rb"^hash mismatch in fixed-output derivation "),
-    *_rows("builder", "failed 104", rb" may not be deterministic"),
+    *_rows(
+        "builder",
+        "failed 104",
+        rb" may not be deterministic",
+        rb"^output '.*' of '.*' differs from ('.*' from )?previous round",
+    ),
     *_rows(
         "builder",
         "failed 100",
@@ -103,6 +108,7 @@ OF_WAYS: Sequence[Row] = (
         rb"path '.*' is required, but there is no substituter",
         rb"cannot build missing derivation",
         rb"cannot open connection to remote store",
+        rb"nix-daemon says nothing any more",
         rb"interrupted by the user",
     ),
 )

@@ -6,7 +6,9 @@ where nothing comes; and what it says to us.
 
 import asyncio
 import time
-from typing import Awaitable, Callable, List, Optional, TypeVar
+from typing import Any, Awaitable, Callable, List, Mapping, Optional, Sequence, TypeVar
+
+from .process import Ended, Processes
 
 _T = TypeVar("_T")
 
@@ -78,9 +80,19 @@ async def watched(doing: "Awaitable[_T]", look: Callable[[], Awaitable[str]]) ->
             if why and not task.done():
                 raise Stalled(why)
     finally:
-        if not task.done():
+        await call_off([task])
+
+
+async def call_off(tasks: "Sequence[asyncio.Future[Any]]") -> None:
+    """Calls tasks off until they have ended: `asyncio.wait_for` before Python 3.12 forgets it where what it waits for is done
+    in that moment."""
+    left = [task for task in tasks if not task.done()]
+    while left:
+        for task in left:
             task.cancel()
-            await asyncio.gather(task, return_exceptions=True)
+        await asyncio.wait(left, timeout=BEAT)
+        left = [task for task in left if not task.done()]
+    await asyncio.gather(*tasks, return_exceptions=True)
 
 
 def stalls(progress: Progress, seconds: float) -> Callable[[], Awaitable[str]]:
@@ -90,6 +102,13 @@ def stalls(progress: Progress, seconds: float) -> Callable[[], Awaitable[str]]:
         return f"no byte of a copy has moved for {seconds:g} seconds" if progress.quiet() > seconds else ""
 
     return look
+
+
+async def run_watched(processes: Processes, words: Sequence[str], env: Optional[Mapping[str, str]], seconds: float) -> Ended:
+    """Runs a command of Nix that copies or reads; Stalled where nothing has moved for so many seconds."""
+    numbers: List[int] = []
+    progress = Progress(lambda: numbers[-1] if numbers else None)
+    return await watched(processes.run(words, env, started=numbers.append), stalls(progress, seconds))
 
 
 class OfBuild:

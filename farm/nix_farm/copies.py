@@ -4,17 +4,19 @@ What is small goes by a process that is kept open, by the NARs that this store g
 that this store lacks is no fault of the machine.
 """
 
-from typing import Callable, List, Optional, Sequence
+from typing import Awaitable, Callable, List, Optional, Sequence, TypeVar
 
 from .blame import TIMED_OUT, Fault, fault_of
-from .bounds import Progress, Stalled, stalls, watched
+from .bounds import Stalled, run_watched, stalls, watched
 from .daemon import Failed, PathInfo
 from .damage import Damage
 from .here import Here
 from .machine import Connection
 from .park import Machine
-from .process import Ended, Processes
+from .process import Processes
 from .settings import NIX
+
+_T = TypeVar("_T")
 
 # The most paths, and the most bytes of their NARs, that go by the process which is kept open.
 FEW = 64
@@ -61,8 +63,8 @@ class Copies:
         """Copies paths, and no other, to the machine, which has what else they refer to; of more than a thousand each
         part goes with what it refers to. None, or whose fault it is; `ended` is told Nix's status. Before a machine is to
         blame this store is looked at."""
-        fault: Optional[Fault] = None
-        for _ in range(TRIES):
+        status, fault = 1, self._known(paths)
+        for _ in range(0 if fault is not None else TRIES):
             try:
                 status, fault = await self._copy_once(paths, log)
             except Stalled as why:
@@ -78,6 +80,11 @@ class Copies:
         ended(status)
         return fault
 
+    def _known(self, paths: Sequence[str]) -> Optional[Fault]:
+        """What is known by now to be damaged here isn't tried."""
+        cause = self._damage.known(paths)
+        return Fault("no", "here", cause) if cause else None
+
     async def _copy_once(self, paths: Sequence[str], log: Callable[[bytes], None]) -> "tuple[int, Optional[Fault]]":
         if len(paths) <= FEW:
             try:
@@ -91,7 +98,7 @@ class Copies:
         for part in parts:
             alone = ["--no-recursive"] if len(parts) == 1 else []
             words = [*NIX, "copy", "--no-check-sigs", *alone, "--to", self._machine.keyed, *part]
-            ended = await self._run(words)
+            ended = await run_watched(self._processes, words, self._connection.env, self._bound)
             log(ended.said + ended.out)
             if ended.status != 0:
                 return ended.status, fault_of(ended.said + ended.out, "copy", ended.status, "there")
@@ -101,7 +108,10 @@ class Copies:
         link = self._connection.link
         async with self._connection.lock:
             try:
-                await watched(self._send_all(infos), stalls(link.progress, self._bound))
+                there = await self._moving(link.valid_paths([info.path for info in infos]))
+                nars = [(info, await self._nar(info)) for info in by_references(infos) if info.path not in there]
+                for info, nar in nars:
+                    await self._moving(link.add(info, nar))
             except Stalled:
                 await link.close()
                 raise
@@ -115,25 +125,16 @@ class Copies:
                 return failed.status, fault_of(said, "copy", failed.status, "there")
         return 0, None
 
-    async def _run(self, words: Sequence[str]) -> Ended:
-        """Runs a command that copies; Stalled where nothing moves any more."""
-        numbers: List[int] = []
-        progress = Progress(lambda: numbers[-1] if numbers else None)
-        running = self._processes.run(words, self._connection.env, started=numbers.append)
-        return await watched(running, stalls(progress, self._bound))
+    async def _moving(self, doing: "Awaitable[_T]") -> _T:
+        """What the machine is asked for; Stalled where nothing moves any more."""
+        return await watched(doing, stalls(self._connection.link.progress, self._bound))
 
-    async def _send_all(self, infos: Sequence[PathInfo]) -> None:
-        there = await self._connection.link.valid_paths([info.path for info in infos])
-        for info in by_references(infos):
-            if info.path not in there:
-                await self._send(info)
-
-    async def _send(self, info: PathInfo) -> None:
+    async def _nar(self, info: PathInfo) -> bytes:
+        """The NAR of a path; _NotHere where this store refuses it. That takes its time, which isn't the machine's."""
         try:
-            nar = await self._here.nar(info)
+            return await self._here.nar(info)
         except Failed as failed:
             raise _NotHere(failed) from failed
-        await self._connection.link.add(info, nar)
 
 
 class _NotHere(Exception):

@@ -14,12 +14,14 @@ from typing import IO, Callable, Deque, Dict, Iterable, List, Mapping, NamedTupl
 
 from . import wire
 from .bounds import Progress
-from .process import Processes, status_of
+from .process import Processes, has_ended, status_of
 from .wire import Message, Operation
 
 _T = TypeVar("_T")
 
-# The seconds for which a store may say nothing in the middle of a NAR: what is shorter than it was registered never comes.
+# The seconds for which a store may say nothing that is asked for what it has at hand.
+ANSWERS = 300.0
+# The same in the middle of a NAR: what is shorter than it was registered never comes.
 _PATIENCE = 30.0
 # The kind of a build that repairs.
 _REPAIR = 1
@@ -55,12 +57,22 @@ class Failed(Exception):
 class Daemon:
     """One such process. It answers one question at a time; whoever asks sees to that."""
 
-    def __init__(self, processes: Processes, folder: str, env: Optional[Mapping[str, str]] = None, name: str = "") -> None:
-        """`env` are the variables that the process has; what it says by itself is kept in the file `name` of a folder."""
+    def __init__(
+        self,
+        processes: Processes,
+        folder: str,
+        env: Optional[Mapping[str, str]] = None,
+        name: str = "",
+        patience: Optional[float] = ANSWERS,
+    ) -> None:
+        """`env` are the variables that the process has; what it says by itself is kept in the file `name` of a folder. It may
+        say nothing for `patience` seconds where it is asked for something, but for a build; None where whoever asks bounds
+        that."""
         self._processes = processes
         self._env = env
         self._folder = folder
         self._name = name
+        self._patience = patience
         self._said: Optional[IO[bytes]] = None
         self._process: Optional[asyncio.subprocess.Process] = None
         self._hear: Optional[wire.Hearing] = None
@@ -104,28 +116,29 @@ class Daemon:
         self._settings = b""
         try:
             await self._greet()
-        except (EOFError, OSError, wire.NotSpoken) as error:
-            raise await self._gone() from error
+        except (EOFError, OSError, wire.NotSpoken, asyncio.TimeoutError) as error:
+            raise await self._gone(error) from error
 
     async def _greet(self) -> None:
         self._send(wire.number(wire.MAGIC_OF_CLIENT))
-        magic, _version = await self._hearing.hear(lambda hear: (hear.number(), hear.number()))
+        magic, _version = await self._hearing.hear(lambda hear: (hear.number(), hear.number()), self._patience)
         if magic != wire.MAGIC_OF_SERVER:
             raise wire.NotSpoken("another magic number")
         # the version, and no processor and no reserved space
         self._send(wire.number(wire.VERSION) + wire.number(0) + wire.number(0))
-        await self._answered(None)
+        await self._answered(None, self._patience)
 
     def _send(self, data: bytes) -> None:
         assert self._process is not None and self._process.stdin is not None
         self._process.stdin.write(data)
 
-    async def _gone(self) -> Failed:
-        """The failure of a process that is gone, or that speaks of something else."""
+    async def _gone(self, error: BaseException) -> Failed:
+        """The failure of a process that is gone, that says nothing any more, or that speaks of something else."""
         process = self._process
         assert process is not None
         await self.close()
-        return Failed(status_of(process.returncode or 0) or 1, self.said())
+        silent = b"error: nix-daemon says nothing any more\n" if isinstance(error, asyncio.TimeoutError) else b""
+        return Failed(status_of(process.returncode or 0) or 1, self.said() + silent)
 
     def said(self) -> bytes:
         """What the process itself has said on standard error: ssh speaks there."""
@@ -143,10 +156,7 @@ class Daemon:
         if process.stdin is not None:
             process.stdin.close()
         if not asked:
-            try:
-                await asyncio.wait_for(asyncio.shield(process.wait()), 1)
-            except asyncio.TimeoutError:
-                pass
+            await has_ended(process, 1)
         await self._processes.end(process)
 
     async def _call(
@@ -157,10 +167,12 @@ class Daemon:
         told: Optional[IO[bytes]] = None,
         patience: Optional[float] = None,
     ) -> Optional[_T]:
-        """Asks, hears what is said up to the answer, and the answer. Failed where there is none.
+        """Asks, hears what is said up to the answer, and the answer. Failed where there is none, or nothing is heard for so
+        many seconds; what is said of a build comes when it comes.
 
         A question that was called off leaves a process that still answers it: the next one has another process.
         """
+        bound = None if told is not None else patience or self._patience
         if self._asked:
             await self.close()
         if not self.is_open:
@@ -168,20 +180,20 @@ class Daemon:
         self._asked = True
         try:
             self._send(wire.number(operation) + words)
-            await self._answered(told)
-            answered = await self._hearing.hear(answer, patience) if answer is not None else None
+            await self._answered(told, bound)
+            answered = await self._hearing.hear(answer, bound) if answer is not None else None
         except Failed:
             self._asked = False
             raise
         except (EOFError, OSError, wire.NotSpoken, asyncio.TimeoutError) as error:
-            raise await self._gone() from error
+            raise await self._gone(error) from error
         self._asked = False
         return answered
 
-    async def _answered(self, told: Optional[IO[bytes]]) -> None:
+    async def _answered(self, told: Optional[IO[bytes]], patience: Optional[float]) -> None:
         """Hears what is said before an answer, and tells what a builder and Nix say of a build."""
         while True:
-            kind, words, status = await self._hearing.hear(_message)
+            kind, words, status = await self._hearing.hear(_message, patience)
             if kind == Message.LAST:
                 return
             if kind == Message.ERROR:
@@ -260,7 +272,6 @@ class Daemon:
             part = [wire.words(link) for link in links[at : at + 128]]
             asked = wire.number(Operation.ADD_INDIRECT_ROOT).join(part)
             await self._call(Operation.ADD_INDIRECT_ROOT, asked, _answers_to(len(part)))
-
 
     async def find_roots(self) -> None:
         """Has the store look for its roots; it takes away what it keeps of links that are gone."""

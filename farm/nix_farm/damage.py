@@ -6,6 +6,7 @@ import os
 import re
 from typing import Dict, Iterable, List, Sequence, Set
 
+from .bounds import Stalled, run_watched
 from .daemon import Failed
 from .here import Here
 from .process import Processes
@@ -19,8 +20,10 @@ _PATH = re.compile(r"/[^ ']+/[0-9a-z]{32}-[0-9a-zA-Z+._?=-]+")
 class Damage:
     """What was looked at of this store, whose paths lie below a folder, and what of it isn't as it was registered."""
 
-    def __init__(self, processes: Processes, here: Here, root: str) -> None:
+    def __init__(self, processes: Processes, here: Here, root: str, bound: float) -> None:
+        """A look may stand still for `bound` seconds."""
         self._processes = processes
+        self._bound = bound
         self._here = here
         self._root = root
         self._good: Set[str] = set()
@@ -32,6 +35,10 @@ class Damage:
         """In each round it is looked at anew, since it may have been repaired."""
         self._good.clear()
         self._known.clear()
+
+    def known(self, paths: Sequence[str]) -> str:
+        """Why paths can't be copied, as far as it was seen by now; empty where nothing is known."""
+        return next((self._known[path] for path in paths if path in self._known), "")
 
     async def of(self, paths: Sequence[str]) -> str:
         """Why paths can't be copied from this store: one that isn't readable, or not as it was registered. Empty where all
@@ -76,7 +83,10 @@ class Damage:
 
     async def _look_at(self, paths: Sequence[str]) -> str:
         """Why one of the paths isn't as it was registered."""
-        looked = await self._processes.run(["nix-store", "--verify-path", *paths])
+        try:
+            looked = await run_watched(self._processes, ["nix-store", "--verify-path", *paths], None, self._bound)
+        except Stalled:
+            return f"path '{paths[0]}' can't be looked at: nothing is read of this store for {self._bound:g} seconds"
         if looked.status == 0:
             self._good.update(paths)
             return ""

@@ -14,8 +14,9 @@ import sys
 import time
 from typing import Optional, Set
 
-# The seconds that a group has to end once it is told to.
+# The seconds that a group has to end once it is told to, and an ssh that is told to end a connection.
 _GRACE = 3.0
+_LONGEST = 5.0
 
 
 class Guard:
@@ -92,7 +93,12 @@ def _run_quietly(words: "list[str]") -> None:
     nothing = os.open(os.devnull, os.O_RDWR)
     actions = [(os.POSIX_SPAWN_DUP2, nothing, at) for at in range(3)]
     try:
-        os.waitpid(os.posix_spawnp(words[0], words, os.environ, file_actions=actions), 0)
+        child = os.posix_spawnp(words[0], words, os.environ, file_actions=actions)
+        end = time.monotonic() + _LONGEST
+        while os.waitpid(child, os.WNOHANG) == (0, 0):
+            if time.monotonic() > end:
+                os.kill(child, signal.SIGKILL)
+            time.sleep(0.01)
     except OSError:
         pass
     finally:

@@ -6,6 +6,7 @@ import os
 from typing import Dict, Iterable, List, Optional, Sequence
 
 from .daemon import Daemon, Failed, PathInfo
+from .nar import nar_size
 from .process import Processes
 
 
@@ -49,7 +50,14 @@ class Here:
         return found
 
     async def nar(self, info: PathInfo) -> bytes:
-        """The NAR of a path; Failed where it isn't valid any more."""
+        """The NAR of a path; Failed where it isn't valid any more, or where it isn't the one that was registered. What has
+        another length isn't asked for: the rest of a shorter one would be waited for."""
+        try:
+            size = nar_size(self._root + info.path)
+        except OSError:
+            size = info.size  # the store says what is wrong
+        if size != info.size:
+            raise Failed(1, f"error: path '{info.path}' isn't as it was registered\n".encode())
         async with self._lock:
             return await self._daemon.nar(info)
 

@@ -40,7 +40,7 @@ class Connection:
         plain = os.environ.get("NIX_SSHOPTS", "")
         self.env: Mapping[str, str] = {**os.environ, "NIX_SSHOPTS": f"{plain} {words} -o ControlPath={self.control}"}
         there = {**self.env, "NIX_REMOTE": machine.keyed}
-        self.link = daemon.Daemon(processes, folder, there)
+        self.link = daemon.Daemon(processes, folder, there, patience=None)
         # who copies by it
         self.lock = asyncio.Lock()
 

@@ -9,13 +9,17 @@ import os
 import signal
 import sys
 import tempfile
+import time
 from typing import IO, Callable, Dict, List, Mapping, NamedTuple, Optional, Sequence, Set
 
 from . import blame
 from .guard import Guard
 
-# The seconds that a child has to end by itself once it is told to.
+# The seconds that a child has to end by itself once it is told to, and those that one has which is killed.
 GRACE = 5.0
+_KILLED = 60.0
+# The seconds between two looks at whether a child has ended whose pipes are held.
+_LOOK = 0.1
 
 
 class Ended(NamedTuple):
@@ -58,6 +62,25 @@ def signal_group(process: int, number: int) -> None:
         os.killpg(process, number)
     except (ProcessLookupError, PermissionError):
         pass
+
+
+async def has_ended(process: asyncio.subprocess.Process, seconds: float) -> bool:
+    """Whether a child ends in so many seconds. From Python 3.11 on `wait` waits for the ends of its pipes too, which never
+    come where more was said than is read, or where a child of its own holds them."""
+    waiting = asyncio.ensure_future(process.wait())
+    until = time.monotonic() + seconds
+    try:
+        while process.returncode is None and time.monotonic() < until:
+            await asyncio.wait([waiting], timeout=_LOOK)
+    finally:
+        waiting.cancel()
+    return process.returncode is not None
+
+
+def _close_pipes(process: asyncio.subprocess.Process) -> None:
+    """Closes the pipes of a child that has ended; asyncio itself leaves those open that somebody else holds."""
+    transport: asyncio.SubprocessTransport = getattr(process, "_transport")
+    transport.close()
 
 
 class Processes:
@@ -143,14 +166,14 @@ class Processes:
         return Ended(0, out, said)
 
     async def end(self, process: asyncio.subprocess.Process, grace: float = GRACE) -> None:
-        """Ends a child: at once where it hears, and by force where it doesn't in so many seconds."""
+        """Ends a child: at once where it hears, and by force where it doesn't in so many seconds. What it has said and nobody
+        has read is gone."""
         if process.returncode is None:
             signal_group(process.pid, signal.SIGTERM)
-            try:
-                await asyncio.wait_for(asyncio.shield(process.wait()), grace)
-            except asyncio.TimeoutError:
+            if not await has_ended(process, grace):
                 signal_group(process.pid, signal.SIGKILL)
-                await process.wait()
+                await has_ended(process, _KILLED)
+        _close_pipes(process)
         self.forget(process)
 
     def end_commands(self) -> None:

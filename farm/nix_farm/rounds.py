@@ -6,6 +6,7 @@ import resource
 import signal
 from typing import Callable, Dict, List, Optional, Sequence
 
+from .bounds import call_off
 from .events import Note
 from .park import Place
 from .pipe import Pipes
@@ -15,8 +16,6 @@ from .slot import Slot
 # The descriptors that a slot takes at most, and those that are open besides.
 _OF_SLOT = 6
 _OTHERS = 64
-# The seconds between two calls to end.
-_BEAT = 1.0
 
 
 def allow_descriptors(slots: int) -> None:
@@ -70,7 +69,7 @@ class Running:
             tasks = [asyncio.ensure_future(slot.serve(pair)) for slot, pair in zip(slots, pipes)]
             return await self._until_end(tasks)
         finally:
-            await _call_off(tasks)
+            await call_off(tasks)
             await asyncio.gather(*(slot.close() for slot in slots))
             for pair in pipes:
                 pair.close()
@@ -91,18 +90,6 @@ class Running:
             if task.done():
                 task.result()
         return status_of(program.returncode or 0)
-
-
-async def _call_off(tasks: Sequence["asyncio.Task[None]"]) -> None:
-    """Calls tasks off until they have ended: `asyncio.wait_for` before Python 3.12 forgets it where what it waits for is done
-    in that moment."""
-    left = [task for task in tasks if not task.done()]
-    while left:
-        for task in left:
-            task.cancel()
-        await asyncio.wait(left, timeout=_BEAT)
-        left = [task for task in left if not task.done()]
-    await asyncio.gather(*tasks, return_exceptions=True)
 
 
 def to_blame_twice(notes: Sequence[Note], before: int) -> Dict[int, str]:

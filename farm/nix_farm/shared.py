@@ -11,7 +11,7 @@ from typing import Callable, List, Optional
 from .blame import Fault, printable
 from .machine import Connection
 from .park import Machine
-from .process import Processes
+from .process import Processes, has_ended
 
 # The seconds for which a slot is waited for.
 BOUND = 3600.0
@@ -99,7 +99,7 @@ class SharedSlot:
         try:
             process.stdin.write(b"done\n")
             process.stdin.close()
-            await asyncio.wait_for(asyncio.shield(process.wait()), 5)
-        except (OSError, asyncio.TimeoutError):
+        except OSError:
             pass
+        await has_ended(process, 5)
         await self._processes.end(process)

@@ -32,7 +32,7 @@ class Workers:
         self._processes = processes
         self._shared = shared
         self._here = here
-        self._damage = Damage(processes, here, root)
+        self._damage = Damage(processes, here, root, options.copy_timeout)
         self.machines: Dict[int, Machine] = {}
         self._connections: Dict[int, Connections] = {}
 

@@ -122,6 +122,14 @@ class MadeUp(unittest.TestCase):
         fault = here(b"error: derivation '" + DRV.encode() + b"' may not be deterministic: output differs")
         self.assertEqual(fault[:2], ("failed 104", "builder"))
 
+    def test_a_repeated_build_that_differs(self) -> None:
+        """As Nix 2.8 says it with `repeat`, here and on a machine; capture.sh can't have it: in a store that is a folder such
+        a build ends otherwise."""
+        words = b"output '/nix/store/x' of '" + DRV.encode() + b"' differs from "
+        self.assertEqual(here(b"error: " + words + b"previous round")[:2], ("failed 104", "builder"))
+        fault = there(hook(words + b"'/nix/store/x.check' from previous round"), END)
+        self.assertEqual(fault[:2], ("failed 104", "builder"))
+
     def test_what_nix_refuses(self) -> None:
         for words in (
             b"output '/nix/store/x' is not allowed to have direct references",

@@ -4,7 +4,8 @@ import asyncio
 import subprocess
 import unittest
 
-from nix_farm import bounds, rounds
+from nix_farm import bounds
+from nix_farm.copies import Copies
 from nix_farm.options import parse
 from nix_farm.settings import bounds_of_builds
 from tests.world import FARM, FarmCase
@@ -18,6 +19,13 @@ class Quiet:
 
     def quiet(self) -> float:
         return self.seconds
+
+
+class Damaged:
+    """What is known to be damaged: each path."""
+
+    def known(self, paths: "list[str]") -> str:
+        return f"path '{paths[0]}' is damaged in this store"
 
 
 class Bounds(unittest.TestCase):
@@ -89,7 +97,7 @@ class Bounds(unittest.TestCase):
         async def call_off() -> bool:
             task = asyncio.ensure_future(forgets())
             await asyncio.sleep(0.05)
-            await rounds._call_off([task])
+            await bounds.call_off([task])
             return task.cancelled()
 
         self.assertTrue(asyncio.run(asyncio.wait_for(call_off(), 20)))
@@ -115,6 +123,13 @@ class Bounds(unittest.TestCase):
         self.assertRegex(self.look(76, lasted=80, silent=15), "60 seconds behind the 15 that it may be silent")
         self.assertEqual(self.look(74, lasted=80, silent=15), "")
 
+    def test_a_path_that_is_known_to_be_damaged(self) -> None:
+        """No copy of it is tried again."""
+        ended = []
+        copies = Copies(None, None, Damaged(), None, None, 1)
+        fault = asyncio.run(copies.copy(["/nix/store/x"], lambda said: None, ended.append))
+        self.assertEqual((fault.who, fault.cause, ended), ("here", "path '/nix/store/x' is damaged in this store", [1]))
+
     def test_what_nix_gives_a_build(self) -> None:
         root = "/nix/store/x.drv"
         self.assertEqual(bounds_of_builds(parse([root]), {}), (0, 0))
@@ -138,8 +153,7 @@ class Hangs(FarmCase):
         for size in (120, 5 << 20):
             with self.subTest(size=size):
                 world = self.world
-                source = world.source(f"source{size}")
-                world.sizes[source] = size
+                source = world.source(f"source{size}", size=size)
                 root = world.drv(f"root{size}", sources=[source])
                 bad = world.machine(f"bad{size}", ssh=True, speed=9)
                 if size == 120:

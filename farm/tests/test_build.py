@@ -51,8 +51,7 @@ class Graphs(FarmCase):
 
     def test_what_is_large_is_copied_too(self) -> None:
         world = self.world
-        sources = [world.source(name) for name in ("large", "small")]
-        world.sizes[sources[0]] = 20 << 20
+        sources = [world.source("large", size=20 << 20), world.source("small", size=120)]
         world.machine("one", ssh=True)
         self.ended(world.build(world.drv("root", sources=sources), jobs=0), 0)
         self.assertEqual(sorted(path for _, path in world.copied()), sorted(sources))
@@ -193,8 +192,7 @@ class Graphs(FarmCase):
 
     def test_report_json(self) -> None:
         world = self.world
-        source = world.source("source")
-        world.sizes[source] = 5000
+        source = world.source("source", size=5000)
         world.drv("first", sources=[source])
         world.machine("one", ssh=True)
         self.ended(world.build(world.drv("second", sources=[source]), jobs=0), 0)

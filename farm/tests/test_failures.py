@@ -307,19 +307,21 @@ class Machines(FarmCase):
 
     def test_a_damaged_path_of_this_store(self) -> None:
         """What needs it is lost, no machine is down, and what is beside it is built."""
-        for how, why in (("gone", "its files are gone"), ("other", "it isn't as it was registered")):
+        other = "it isn't as it was registered"
+        for how, why in (("gone", "its files are gone"), ("other", other), ("shorter", other)):
             for size in (120, 5 << 20):
                 with self.subTest(how=how, size=size):
                     self.world.end()
                     world = self.world = World(self)
-                    source = world.source("source")
-                    world.sizes[source] = size
+                    source = world.source("source", size=size)
                     root, beside = world.drv("root", sources=[source]), world.drv("beside", sources=[world.source("other")])
                     for name in ("one", "two"):
                         world.machine(name, ssh=True)
                     world.damage(source, how)
                     ran = world.build("-k", "--retries", "1", root, beside, jobs=0)
                     self.ended(ran, 1)
+                    asked = [call["path"] for call in world.noted("calls") if call.get("command") == "nar"]
+                    self.assertEqual(source in asked, how != "shorter" and size == 120)
                     self.assertEqual(world.report()["by_name"]["beside"]["status"], "built")
                     self.says(ran, f"lost: root on ssh://.*path '{source}' is damaged in this store: {why}")
                     told = world.history(1) + world.history(2)

@@ -6,14 +6,14 @@ import os
 import unittest
 from typing import Iterator, Tuple
 
-from tests.world import FARM
+from tests.world import FARM, PARSING
 
 MODULES = sorted(glob.glob(os.path.join(FARM, "nix_farm", "*.py")))
 COMMANDS = [os.path.join(FARM, name) for name in ("build", "gather", "watch", "status")]
 
 
 def parsed(file: str) -> ast.Module:
-    with open(file, encoding="utf-8") as text:
+    with open(file, encoding="utf-8") as text, PARSING:
         return ast.parse(text.read(), file, feature_version=(3, 9))
 
 

@@ -15,6 +15,7 @@ import signal
 import subprocess
 import sys
 import tempfile
+import threading
 import time
 import unittest
 from typing import Any, Callable, Dict, List, Optional, Sequence, Tuple
@@ -24,6 +25,10 @@ FARM = os.environ.get("FARM", os.path.dirname(HERE))
 LETTERS = "0123456789abcdfghijklmnpqrsvwxyz"
 # How long anything in a test may take, in seconds.
 PATIENCE = 300.0
+# The bytes of a file's NAR besides what the file has.
+OF_NAR = 112
+# Who parses a text: Python 3.11 refuses it where two threads do so at once.
+PARSING = threading.Lock()
 
 
 def store_path(name: str) -> str:
@@ -80,6 +85,7 @@ class World:
         }
         self.drvs: Dict[str, Dict[str, Any]] = {}
         self.paths: Dict[str, List[str]] = {}
+        # how long the NARs of sources are registered to be, where that isn't what lies there
         self.sizes: Dict[str, int] = {}
         self.happenings: Dict[str, Dict[str, List[Dict[str, Any]]]] = {"builds": {}, "copies": {}, "pings": {}}
         self.substitutes: Dict[str, str] = {}
@@ -99,10 +105,14 @@ class World:
 
     # What there is.
 
-    def source(self, name: str, refs: Sequence[str] = ()) -> str:
+    def source(self, name: str, refs: Sequence[str] = (), size: int = 0) -> str:
+        """A path that is valid, whose NAR has so many bytes where that is said."""
         path = store_path(name)
         self.paths[path] = list(refs)
         self.make_valid(path, "a source\n")
+        if size:
+            os.truncate(self.root + path, size - OF_NAR)
+            self.sizes[path] = size
         return path
 
     def drv(self, name: str, inputs: Sequence[str] = (), sources: Sequence[str] = (), outputs: Sequence[str] = ("out",),
@@ -135,10 +145,12 @@ class World:
         return os.path.exists(self.at("state/valid/" + os.path.basename(path)))
 
     def damage(self, path: str, how: str) -> None:
-        """Has the files of a valid path be gone, or be others than they were registered."""
+        """Has the files of a valid path be gone, or be others than they were registered, or shorter ones."""
         if how == "gone":
             os.unlink(self.root + path)
             return
+        if how == "shorter":
+            os.truncate(self.root + path, 0)
         with open(self.at("state/modified"), "a", encoding="ascii") as file:
             file.write(path + "\n")
 
@@ -279,7 +291,8 @@ class World:
 
     def noted(self, name: str) -> List[Any]:
         """What the stand-ins have noted in a file of `state`."""
-        return [ast.literal_eval(line) for line in self.lines("state/" + name)]
+        with PARSING:
+            return [ast.literal_eval(line) for line in self.lines("state/" + name)]
 
     def calls(self, command: str, *words: str) -> List[List[str]]:
         """The words of each call of a stand-in that has all of these words."""

@@ -24,6 +24,10 @@ import sys
 import time
 
 
+# The bytes of a file's NAR besides what the file has.
+OF_NAR = 112
+
+
 class World:
     """The world as it was written, and what has come about in it."""
 
@@ -139,8 +143,16 @@ class World:
         return status
 
     def size(self, path):
-        """The bytes of a path's NAR."""
-        return self.sizes.get(path, 120)
+        """The bytes of a path's NAR, as it was registered."""
+        return self.sizes.get(path) or self.size_now(path)
+
+    def size_now(self, path):
+        """The bytes of the NAR of what lies there, a file; those of a short one where there is nothing."""
+        try:
+            length = os.path.getsize(self.root + path)
+        except OSError:
+            length = 8
+        return OF_NAR + length + -length % 8
 
     def closure(self, paths):
         """The paths with all that they refer to, each behind what it refers to."""
