@@ -35,6 +35,7 @@ pub struct Desk<L: Opened> {
     /// How many entries the history had when the run began.
     pub(crate) opened: usize,
     ghost counted: { made dispatch.history ≡ book.total },
+    ghost since: { opened ≡ length L.opening.history },
     ghost upheld: { IsUpheld L.opening dispatch misreports progress.handed.entries progress.kept.entries },
 }
 
