@@ -16,8 +16,8 @@ use crate::threads::Stint;
 use nd_history::Entry;
 use nd_ledger::Dispatch;
 use nd_receipts::{
-    ParkPlace, Receipt, Standing, Tables, are_dealt, are_rows_judged, are_rows_noted,
-    has_stop, is_quiet,
+    ParkPlace, Receipt, Standing, Tables, are_dealt, are_rows_judged, are_rows_noted, has_stop,
+    is_quiet,
 };
 use nd_run_desk::entries_since;
 use nd_transports::Transport;

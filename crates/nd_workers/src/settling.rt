@@ -111,11 +111,7 @@ fn take_apart<T: Transport>(
 }
 
 /// Compares what came back with the history, and hands it back.
-pub(crate) fn settle<T: Transport>(
-    served: Served<T>,
-    plan: Plan,
-    back: Back<T>,
-) -> Ran<T>
+pub(crate) fn settle<T: Transport>(served: Served<T>, plan: Plan, back: Back<T>) -> Ran<T>
     requires choices { AreUnknown (length plan.places.items) plan.tables.choices.items }
     requires sized { length plan.tables.choices.items ≡ drvs_in served.dispatch.inputs }
     requires long { plan.opened ≤ length served.dispatch.history }
