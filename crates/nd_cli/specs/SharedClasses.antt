@@ -1,12 +1,8 @@
 -- Which derivations have the same class: the platform and the required features, on which the reply on an idle park
 -- depends. They serve private clauses.
-use Rattle.std.specs.Prelude.{◌≡◌, ◌+◌, ◌/◌, ◌%◌, ◌<◌, ◌++◌, ℕ, min, length, List, Some, slice_get, Result, IfOk}
+use Rattle.std.specs.Prelude.{◌≡◌, ◌++◌, ℕ, List, Some, slice_get}
 use Rattle.std.specs.Borrow.{Bor}
-use Rattle.std.specs.Fork.{slice_chunk}
-use Rattle.std.specs.List.{AllZip, slice_index_or}
-use Rattle.std.specs.declared.alloc.AllocError.{AllocError}
 use Rattle.nd_eligible.specs.declared.need.Need.{Need}
-use Rattle.nd_cli.specs.declared.classes.Classes.{Classes}
 
 -- two needs have the same platform and the same required features
 pub record IsSameClass (one other : Need) : Type 0 where
@@ -25,12 +21,6 @@ pub record MeetsNeed (need : Need) (old new : List (Bor Need)) (class : ℕ) : T
   pub grown : new ≡ old ++ more
   pub is : IsOfClass new need class
 
--- the classes of these needs are known, behind the classes before
-pub record MeetsNeeds (needs old new : List (Bor Need)) (classes : List ℕ) : Type 0 where
-  pub more : List (Bor Need)
-  pub grown : new ≡ old ++ more
-  pub each : AllZip (λ need class. IsOfClass new need.now class) needs classes
-
 -- the class of derivation d is known, behind the classes before
 pub record MeetsClass (needs : List Need) (d : ℕ) (old new : List (Bor Need)) (class : ℕ) : Type 0 where
   pub more : List (Bor Need)
@@ -38,12 +28,6 @@ pub record MeetsClass (needs : List Need) (d : ℕ) (old new : List (Bor Need)) 
   pub need : Need
   pub here : slice_get needs d ≡ Some need
   pub is : IsOfClass new need class
-
--- each share has the classes of so many derivations, the last one perhaps of fewer
-pub record AreClassShares (size : ℕ) (needs : List Need) (shares : List (Result Classes AllocError)) : Type 0 where
-  pub some : 0 < size
-  pub count : length shares ≡ length needs / size + min 1 (length needs % size)
-  pub each : (n : ℕ) (d : Result Classes AllocError) → n < length shares → IfOk (slice_index_or shares n d) (λ classes. AllZip (IsOfClass classes.firsts.items) (slice_chunk needs size n) classes.members.items)
 
 -- this is what was made of the class
 pub record IsMade {X : Type 0} (made : List X) (class : ℕ) (it : X) : Type 0 where

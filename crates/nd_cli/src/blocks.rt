@@ -21,13 +21,10 @@ use std::io::Read;
 use std::mem;
 use std::thread::{Threads, join_mut};
 
-/// How many bytes the first block of an input has: few, since nothing else is done while it is read.
-const FIRST: usize = 262_144;
+/// How many bytes the first block of an input has: fewer, since nothing else is done while it is read.
+const FIRST: usize = 2_097_152;
 
-/// How many times as large as the block before the next one is, up to [`BLOCK`].
-const GROW: usize = 4;
-
-/// How many bytes a block has at most. Threads start and end for each.
+/// How many bytes each other block has. Threads start and end for each.
 const BLOCK: usize = 4_194_304;
 
 /// How many bytes one read asks for at most.
@@ -143,7 +140,7 @@ fn feed_input<T: Threads + Sync, R: Read, P: PartsReader>(
     fill_room(&mut room, size, input)?;
     let mut count = room.len();
     'feeding: while room.len() == size && count <= LIMIT {
-        size = next_size(size);
+        size = BLOCK;
         let most = size.min(LIMIT + 1 - count);
         feed_beside(rt, room.as_slice(), &mut next, most, input, reader)?;
         mem::swap(&mut room, &mut next);
@@ -178,14 +175,6 @@ fn feed_beside<T: Threads + Sync, R: Read, P: PartsReader>(
     filled?;
     fed?;
     Ok(())
-}
-
-/// How large the block behind one of this size is: four times as large, up to [`BLOCK`].
-fn next_size(size: usize) -> usize
-    requires { 0 < size }
-    ensures { 0 < result }
-{
-    size.saturating_mul(GROW).min(BLOCK)
 }
 
 /// Reads on in the input: so many bytes, or fewer where it ends. The room has these alone then. It grows as they come, so

@@ -2,7 +2,7 @@
 
 ghost use Rattle.std.specs.Prelude.{◌≡◌, ◌<◌, length, IfOk, IsTrue};
 ghost use Rattle.std.specs.List.{All, AllZip};
-ghost use Rattle.nd_cli.specs.SharedClasses.{AreClassShares, IsMade, IsOfClass, IsSameClass, MeetsClass, MeetsNeed, MeetsNeeds};
+ghost use Rattle.nd_cli.specs.SharedClasses.{IsMade, IsOfClass, IsSameClass, MeetsClass, MeetsNeed};
 
 use crate::class_marks::ClassMarks;
 use nd_bytes::ByteString;
@@ -21,8 +21,6 @@ type Class<'a> = (&'a ByteString, &'a FeatureSet);
 pub(crate) struct Classes<'a> {
     /// Of each class the need of its first derivation.
     firsts: Vec<&'a Need>,
-    /// Of each class its mark.
-    marks: Vec<u64>,
     /// Of each derivation its class.
     members: Vec<usize>,
 }
@@ -38,47 +36,8 @@ impl<'a> Classes<'a> {
             let class = known.meet(needs, drv)?;
             members.push(class)?;
         }
-        let Known {
-            firsts,
-            first_marks: marks,
-            ..
-        } = known;
-        Ok(Classes {
-            firsts,
-            marks,
-            members,
-        })
-    }
-
-    /// The classes of derivations with these needs, of which these are the classes in shares of so many. A class of
-    /// several shares is one among all.
-    pub(crate) fn join(
-        alloc: Global,
-        needs: &[Need],
-        size: usize,
-        shares: Vec<Result<Classes<'a>, AllocError>>,
-    ) -> Result<Classes<'a>, AllocError>
-        requires { AreClassShares size needs.now shares.items }
-        ensures { IfOk result (λ classes. AllZip (IsOfClass classes.firsts.items) needs.now classes.members.items) }
-    {
-        let mut known = Known::new(alloc);
-        let mut members = Vec::with_capacity(alloc, needs.len())?;
-        for share in shares {
-            let share = share?;
-            let numbers = known.meet_each(alloc, share.firsts(), share.marks.as_slice())?;
-            let mut more = by_class(alloc, &numbers, share.members())?;
-            members.append(&mut more)?;
-        }
-        let Known {
-            firsts,
-            first_marks: marks,
-            ..
-        } = known;
-        Ok(Classes {
-            firsts,
-            marks,
-            members,
-        })
+        let Known { firsts, .. } = known;
+        Ok(Classes { firsts, members })
     }
 
     /// Of each class the need of its first derivation.
@@ -118,8 +77,6 @@ pub(crate) fn by_class<T: Copy>(
 struct Known<'a> {
     /// Of each class the need of its first derivation.
     firsts: Vec<&'a Need>,
-    /// Of each class its mark.
-    first_marks: Vec<u64>,
     /// The class that was met last, or zero. Most derivations are of the class of the one before, and no mark is
     /// made for these.
     latest: usize,
@@ -137,7 +94,6 @@ impl<'a> Known<'a> {
     {
         Known {
             firsts: Vec::new(alloc),
-            first_marks: Vec::new(alloc),
             latest: 0,
             marks: ClassMarks::new(),
             marked: BTreeMap::new(alloc),
@@ -163,25 +119,6 @@ impl<'a> Known<'a> {
         Ok(class)
     }
 
-    /// The classes of derivations with these needs and marks, each with its own, which are known from now on. No two
-    /// of them are of one class, so each is looked up. A mark that is missing may make a look-up slower.
-    fn meet_each(
-        &mut self,
-        alloc: Global,
-        needs: &[&'a Need],
-        marks: &[u64],
-    ) -> Result<Vec<usize>, AllocError>
-        ensures { IfOk result (λ numbers. MeetsNeeds needs.now self.old.firsts.items self.new.firsts.items numbers.items) }
-    {
-        let mut numbers = Vec::with_capacity(alloc, needs.len())?;
-        for place in 0..needs.len() {
-            let mark = marks.get(place).copied().unwrap_or(0);
-            let number = self.meet_marked(needs[place], mark)?;
-            numbers.push(number)?;
-        }
-        Ok(numbers)
-    }
-
     /// The class of a derivation with this need, of which this is the mark.
     #[tactic(auto, using(crate::proofs::SameClass::meets_known))]
     fn meet_marked(&mut self, need: &'a Need, mark: u64) -> Result<usize, AllocError>
@@ -189,18 +126,18 @@ impl<'a> Known<'a> {
     {
         let Some(marked) = self.marked.get(&mark) else {
             self.marked.insert(mark, self.firsts.len())?;
-            return self.begin(need, mark);
+            return self.begin(need);
         };
         let marked = *marked;
         if is_of_class(self.firsts.as_slice(), marked, need) {
             return Ok(marked);
         }
-        self.meet_other(need, mark)
+        self.meet_other(need)
     }
 
     /// As `meet_marked`, where another class has the mark of this one.
     #[tactic(auto, using(crate::proofs::SameClass::meets_known))]
-    fn meet_other(&mut self, need: &'a Need, mark: u64) -> Result<usize, AllocError>
+    fn meet_other(&mut self, need: &'a Need) -> Result<usize, AllocError>
         ensures { IfOk result (MeetsNeed need.now self.old.firsts.items self.new.firsts.items) }
     {
         let class = (&need.system, &need.features);
@@ -211,15 +148,14 @@ impl<'a> Known<'a> {
             }
         }
         self.others.insert(class, self.firsts.len())?;
-        self.begin(need, mark)
+        self.begin(need)
     }
 
-    /// A class of which the derivation with this need and this mark is the first.
-    fn begin(&mut self, need: &'a Need, mark: u64) -> Result<usize, AllocError>
+    /// A class of which the derivation with this need is the first.
+    fn begin(&mut self, need: &'a Need) -> Result<usize, AllocError>
         ensures { IfOk result (MeetsNeed need.now self.old.firsts.items self.new.firsts.items) }
     {
         let class = self.firsts.len();
-        self.first_marks.push(mark)?;
         self.firsts.push(need)?;
         Ok(class)
     }

@@ -6,7 +6,6 @@ mod ask;
 mod asks;
 mod blocks;
 mod class_marks;
-mod class_shares;
 mod classes;
 mod fault;
 mod input;

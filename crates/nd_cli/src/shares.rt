@@ -10,8 +10,7 @@ ghost use Rattle.nd_cli.specs.PlacedReplies.{AreRepliesAt, HaveNeeds};
 ghost use Rattle.nd_cli.specs.Shares.{AreShares};
 
 use crate::asks::replies_about;
-use crate::class_shares::classes_side_by_side;
-use crate::classes::by_class;
+use crate::classes::{Classes, by_class};
 use nd_bundle::Needs;
 use nd_eligible::{Local, Need};
 use nd_hook::Reply;
@@ -34,7 +33,7 @@ fn replies_side_by_side<R: Threads + Sync>(
 ) -> Result<Vec<Reply>, AllocError>
     ensures { IfOk result (λ replies. AllZip (IsIdleReply machines.now local.now) needs.now replies.items) }
 {
-    let classes = classes_side_by_side(rt, alloc, needs)?;
+    let classes = Classes::of(alloc, needs)?;
     let made = class_replies(rt, alloc, machines, local, classes.firsts())?;
     by_class(alloc, &made, classes.members())
 }

@@ -11,15 +11,13 @@ ghost use Rattle.nd_report.specs.Audits.{IsAuditRefused};
 ghost use Rattle.nd_commands.specs.Opened.{park_inputs};
 ghost use Rattle.nd_commands.specs.Audited.{IsAuditAccepted, AnswersAudit, LeavesAudit, IsAuditFault, WritesVerdict, LeavesVerdict, IsVerdictFault, legal_line, illegal_line};
 
-use crate::opening::close_dispatch;
 use crate::reading::read_audit_inputs;
 use crate::verdict::{write_illegal, write_legal};
 use nd_bytes::Items;
 use nd_cli::{CliFault, Park, ParkOptions};
 use nd_devices::{Fault, Told};
 use nd_history::{Entry, Inputs, Rule};
-use nd_ledger::Dispatch;
-use nd_report::{AuditError, admit_all, audit_side_by_side};
+use nd_report::{AuditError, audit_side_by_side};
 use std::alloc::Global;
 use std::io::{Read, Write};
 use std::mem;
@@ -94,9 +92,6 @@ fn write_verdict<W: Write>(
     }
 }
 
-/// A history of fewer entries is audited by one thread, which takes less time than others take to start.
-const LONG: usize = 16_384;
-
 /// Whether these entries are a legal history of the park, as `audit` of `nd_report` says it. What was made for the answer
 /// is left to the system, since the command ends with it.
 fn judge(
@@ -110,9 +105,6 @@ fn judge(
     ensures legal { OnOk result (IsLegal (park_inputs park keep_going) (reverse entries.items)) }
     ensures refused { IfErr result (IsAuditRefused (park_inputs park keep_going) entries.items) }
 {
-    if entries.len() < LONG {
-        return judge_alone(rt, alloc, park, keep_going, entries);
-    }
     let inputs = Inputs {
         graph: park.graph,
         machines: Items::new(park.machines),
@@ -128,39 +120,6 @@ fn judge(
         Err(error) => Err(error),
     };
     mem::forget(inputs);
-    answer
-}
-
-/// The same, where one thread goes through the entries.
-fn judge_alone(
-    rt: &(impl Threads + Sync),
-    alloc: Global,
-    park: Park,
-    keep_going: bool,
-    entries: Vec<Entry>,
-) -> Result<(), AuditError>
-    requires few { length park.machines.items ≤ 1024 }
-    ensures legal { OnOk result (IsLegal (park_inputs park keep_going) (reverse entries.items)) }
-    ensures refused { IfErr result (IsAuditRefused (park_inputs park keep_going) entries.items) }
-{
-    let mut dispatch = match Dispatch::new_side_by_side(
-        rt,
-        alloc,
-        park.graph,
-        park.machines,
-        park.local,
-        park.info,
-        keep_going,
-    ) {
-        Ok(dispatch) => dispatch,
-        Err(parts) => {
-            drop(parts);
-            drop(entries);
-            return Err(AuditError::Memory);
-        }
-    };
-    let answer = admit_all(alloc, &mut dispatch, entries);
-    close_dispatch(dispatch);
     answer
 }
 

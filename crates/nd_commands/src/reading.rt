@@ -96,11 +96,8 @@ pub(crate) fn read_audit_inputs<R: Read>(
     Ok(AuditInputs { park, entries })
 }
 
-/// A history text of no more bytes is read before another thread has started.
-const SHORT: usize = 65_536;
-
 /// What the bundle on the input and the options describe, as [`take_park`], and what [`read_entries_ahead`] answers of
-/// the history text, which another thread reads meanwhile, until the park is refused. A short one isn't read here.
+/// the history text, which another thread reads meanwhile, until the park is refused.
 fn take_park_beside<R: Read>(
     rt: &(impl Threads + Sync),
     alloc: Global,
@@ -113,9 +110,6 @@ fn take_park_beside<R: Read>(
     ensures refused { IfSome result.1 (λ answer. IfErr answer (IsHistoryFault history.now)) }
     ensures exactly { IfSome result.1 (λ answer. (entries : List Entry) → HasHistory history.now entries → OkUnlessMemory answer (λ read. read.items ≡ entries)) }
 {
-    if history.len() <= SHORT {
-        return (take_park(rt, alloc, options, input), None);
-    }
     let stop = AtomicBool::new(false);
     let (entries, park) = join_mut(
         rt,

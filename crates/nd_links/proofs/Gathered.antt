@@ -4,7 +4,7 @@ use Rattle.std.specs.Prelude.{is_none}
 use Rattle.std.specs.List.{AllZip}
 use Rattle.std.specs.Option.{unwrap_or}
 use Rattle.std.proofs.lemmas.Bool.{cases_lt}
-use Rattle.std.proofs.lemmas.List.{get_or_at, get_or_default, length-map, take_all}
+use Rattle.std.proofs.lemmas.List.{get_or_at, get_or_default, length-map}
 use Rattle.nd_graph.specs.Graphs.{IsAt, IsNumber}
 use Rattle.nd_graph.specs.Walks.{AreDistinct}
 use Rattle.nd_graph.specs.declared.graph.Input.{Input}
@@ -17,7 +17,7 @@ use Rattle.nd_links.specs.declared.fault.GraphError.TheVariants as bundle
 use Rattle.nd_line.specs.declared.line.NamedInput.{NamedInput}
 use Rattle.nd_links.specs.declared.link_error.LinkError.{LinkError}
 use Rattle.nd_links.specs.declared.link_error.LinkError.TheVariants.{NoInput, NoOutput, Memory}
-use Rattle.nd_links.proofs.Linked.{is_item, taken, numbered_reach, output_missing, rows_reach}
+use Rattle.nd_links.proofs.Linked.{is_item, numbered_reach, output_missing, rows_reach}
 use Rattle.nd_links.proofs.Zipped.{zip_at, zip_length, zip_push}
 
 -- what inputs are looked up in
@@ -190,22 +190,6 @@ resolved_all known wants rows inputs links linked_all =
     let zip = subst (λ (rs : List (Result (List Input) LinkError)). AllZip (IsLink known) wants rs) linked_all.all links.each in
     let all : AllNumbered known.paths known.names wants inputs = record { each = zip_linked known wants inputs zip } in
     record { there = rows_reach known.paths known.names wants inputs all; numbered = all }
-
--- all lines have their inputs, one after another
-pub rows_none : (known : Known) (wants : List (List NamedInput)) → AllNumbered known.paths known.names (take 0 wants) []
-rows_none known wants = record { each = tt }
-
-pub rows_more : (known : Known) (wants : List (List NamedInput)) (rows : List (List Input)) (i : ℕ) (wanted shown : List NamedInput) (row : List Input) → i < length wants → wanted ≡ get_or wants i wanted → shown ≡ wanted
-    → AllNumbered known.paths known.names (take i wants) rows → AreNumbered known.paths known.names shown row → AllNumbered known.paths known.names (take (i + 1) wants) (rows ++ row ∷ [])
-rows_more known wants rows i wanted shown row lt is same so here = record {
-  each = subst (λ (xs : List (List NamedInput)). AllZip (AreNumbered known.paths known.names) xs (rows ++ row ∷ [])) (sym (taken wants i wanted lt is))
-      (zip_push (AreNumbered known.paths known.names) (take i wants) rows wanted row so.each (subst (λ (w : List NamedInput). AreNumbered known.paths known.names w row) same here));
-}
-
-pub rows_all : (known : Known) (wants : List (List NamedInput)) (rows : List (List Input)) (i : ℕ) → AllNumbered known.paths known.names (take i wants) rows → length wants ≤ i → IsResolved known.paths known.names wants rows
-rows_all known wants rows i so all =
-    let numbered : AllNumbered known.paths known.names wants rows = subst (λ (xs : List (List NamedInput)). AllNumbered known.paths known.names xs rows) (take_all i wants all) so in
-    record { there = rows_reach known.paths known.names wants rows numbered; numbered = numbered }
 
 pub not_resolved : (known : Known) (wants : List (List NamedInput)) (rows : List (Result (List Input) LinkError)) (error : GraphError) → AreLinks known wants rows → IsUngathered rows error → IsLinkFault known.paths known.names wants error
 not_resolved known wants rows error links why = ungathered known.paths known.names wants rows error links why

@@ -1,6 +1,6 @@
 //! The inputs of all nodes by number.
 
-ghost use Rattle.std.specs.Prelude.{◌≡◌, length, IfOk, IfErr, IfSome};
+ghost use Rattle.std.specs.Prelude.{◌≡◌, length, IfOk, IfErr};
 ghost use Rattle.nd_links.specs.Linking.{AreAllLinked, AreLinks, IsLink, IsUngathered, IsUnlinked};
 ghost use Rattle.nd_links.specs.Settled.{AllNamesRise, IsLinkFault, IsResolved};
 
@@ -36,33 +36,11 @@ pub fn link(
     ensures err { IfErr result (IsLinkFault paths.now.keys names.now wants.items) }
 {
     let register = Register::new(paths, names);
-    if let Some(inputs) = link_all(alloc, &register, wants.as_slice())? {
-        return Ok(inputs);
-    }
     link_or_refuse(alloc, &register, wants)
 }
 
-/// The inputs of each line by number, or `None` where those of some line have none.
-#[tactic(auto, using(crate::proofs::Gathered::rows_none, crate::proofs::Gathered::rows_more, crate::proofs::Gathered::rows_all))]
-fn link_all(
-    alloc: Global,
-    register: &Register<'_>,
-    wants: &[Items<Want>],
-) -> Result<Option<Vec<Items<Input>>>, AllocError>
-    ensures { IfOk result (λ found. IfSome found (λ inputs. IsResolved register.now.paths register.now.names wants.now inputs.items)) }
-{
-    let mut rows = Vec::with_capacity(alloc, wants.len())?;
-    for inputs in wants {
-        match link_line(alloc, register, inputs.as_slice()) {
-            Ok(row) => rows.push(row)?,
-            Err(_) => return Ok(None),
-        }
-    }
-    Ok(Some(rows))
-}
-
 /// The inputs of each line by number, or the refusal of the first line without an input, or else of the first line
-/// without an output. A bundle that is refused is linked once more for it.
+/// without an output.
 fn link_or_refuse(
     alloc: Global,
     register: &Register<'_>,

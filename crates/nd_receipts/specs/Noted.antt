@@ -1,6 +1,6 @@
 -- What a worker notes: receipts, and beside each a copy of its entry. No clause of `run` cites these definitions: those of
 -- the functions between a worker's notes and the comparison with the history do. This project's own choice.
-use Rattle.std.specs.Prelude.{◌≡◌, ℕ, ◌+◌, ◌==◌, ◌<◌, ◌≤◌, List, [], ◌∷◌, ◌++◌, ◌⊎◌, Bool, true, false, length, slice_get, take, reverse, Option, Some, None, Vec, All}
+use Rattle.std.specs.Prelude.{◌≡◌, ℕ, ◌+◌, ◌==◌, ◌≤◌, List, [], ◌∷◌, ◌++◌, ◌⊎◌, Bool, true, false, slice_get, take, reverse, Some, Vec, All}
 use Rattle.std.specs.List.{AllZip}
 use Rattle.nd_history.specs.declared.entry.Entry.{Entry}
 use Rattle.nd_history.specs.declared.entry.Entry.TheVariants.{Chosen, NoBuilder, Started, Down, Built, Failed, Stop, Drain, Enable}
@@ -9,7 +9,6 @@ use Rattle.nd_history.specs.declared.entry.Why.TheVariants.{Status, Lost, BadRef
 use Rattle.nd_history.specs.History.{is_started, ends}
 use Rattle.nd_transports.specs.declared.kinds.Answer.{Answer}
 use Rattle.nd_transports.specs.declared.kinds.Answer.TheVariants.{Built as AnswerBuilt, Status as AnswerStatus, Lost as AnswerLost, Memory as AnswerMemory}
-use Rattle.nd_transports.specs.declared.kinds.Call.{Call}
 use Rattle.nd_transports.specs.declared.kinds.Call.TheVariants.{Build}
 use Rattle.nd_transports.specs.Calls.{State, Deed, calls_of}
 use Rattle.nd_receipts.specs.declared.receipt.Behind.{Behind}
@@ -218,18 +217,3 @@ pub record AreRowsNotedBy {A B : Type 0} (these : ℕ → Bool) (history : List 
 
 abbrev pub AreRowsNoted : {A B : Type 0} → ℕ → List Entry → List (Vec Receipt A) → List (Vec Entry B) → Type 0
 AreRowsNoted opened history rows copies = AreRowsNotedBy (λ d. is_building d (reverse (take opened history))) history rows copies
-
--- .. one row, beside the copies that stand there: both have to be there
-abbrev pub IsRowNotedBy : {A B : Type 0} → (ℕ → Bool) → List Entry → Option (Vec Receipt A) → Option (Vec Entry B) → Type 0
-IsRowNotedBy these history (Some row) (Some beside) = AllZip (IsNotedBy these history) row.items beside.items
-IsRowNotedBy these history (Some row) None = ⊥
-IsRowNotedBy these history None (Some beside) = ⊥
-IsRowNotedBy these history None None = ⊥
-
--- .. the row at this place
-abbrev pub IsRowNotedAt : {A B : Type 0} → (ℕ → Bool) → List Entry → List (Vec Receipt A) → List (Vec Entry B) → ℕ → Type 0
-IsRowNotedAt these history rows copies place = IsRowNotedBy these history (slice_get rows place) (slice_get copies place)
-
--- .. the row at each place; there may be more copies
-pub record AreNotedByPlace {A B : Type 0} (these : ℕ → Bool) (history : List Entry) (rows : List (Vec Receipt A)) (copies : List (Vec Entry B)) : Type 0 where
-  pub each : (place : ℕ) → place < length rows → IsRowNotedAt these history rows copies place

@@ -10,7 +10,6 @@ mod notes;
 mod place;
 mod receipt;
 mod rows;
-mod side_by_side;
 mod standing;
 mod tables;
 
@@ -21,6 +20,5 @@ pub use notes::Notes;
 pub use place::ParkPlace;
 pub use receipt::{Behind, Kind, Receipt};
 pub use rows::{are_rows_judged, are_rows_noted};
-pub use side_by_side::are_rows_noted_side_by_side;
 pub use standing::Standing;
 pub use tables::Tables;

@@ -1,5 +1,5 @@
 -- What a run may ask of a machine, and when. The public clauses of a run cite `IsDue`, `IsAsked` and what they are made of. This project's own choice.
-use Rattle.std.specs.Prelude.{◌≡◌, ℕ, reverse, slice_index_or, []}
+use Rattle.std.specs.Prelude.{◌≡◌, ◌<◌, ℕ, true, length, reverse, slice_index_or, []}
 use Rattle.nd_history.specs.References.{outputs_of}
 use Rattle.nd_keeping.specs.Listing.{Listed}
 use Rattle.nd_leases.specs.declared.ticket.Ticket.{Ticket}
@@ -67,3 +67,10 @@ IsNextOf opening (Serve job again) = IsJobOf opening job
 IsNextOf opening Finished = Unit {0}
 IsNextOf opening Wait = Unit {0}
 IsNextOf opening (Short ticket again) = Unit {0}
+
+-- a lease of which a worker is told that it was started before the run was made before it
+abbrev pub IsToldOf : World → Next → Type 0
+IsToldOf opening (Serve job again) = again ≡ true → job.ticket.serial < length opening.history
+IsToldOf opening (Short ticket again) = again ≡ true → ticket.serial < length opening.history
+IsToldOf opening Finished = Unit {0}
+IsToldOf opening Wait = Unit {0}

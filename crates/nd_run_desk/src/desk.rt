@@ -3,10 +3,11 @@
 
 ghost use Rattle.std.specs.Prelude.{◌≡◌, ◌+◌, ◌<◌, ◌≤◌, drop, length, reverse, true, IfOk, IfErr, OnOk, OnErr, IsTrue};
 ghost use Rattle.nd_history.specs.History.{is_started};
+ghost use Rattle.nd_history.specs.Statuses.{IsFinished};
 ghost use Rattle.nd_ledger.specs.Moves.{IsStartRefused, IsEndRefused};
 ghost use Rattle.nd_ledger.specs.Refusals.{IsDownRefused, IsFailRefused};
 ghost use Rattle.nd_receipts.specs.Made.{made};
-ghost use Rattle.nd_run_desk.specs.Jobs.{IsNextOf};
+ghost use Rattle.nd_run_desk.specs.Jobs.{IsNextOf, IsToldOf};
 ghost use Rattle.nd_run_desk.specs.Judgements.{is_own_cause};
 ghost use Rattle.nd_run_desk.specs.Steps.{IsUpheld, Records};
 
@@ -35,6 +36,7 @@ pub struct Desk<L: Opened> {
     /// How many entries the history had when the run began.
     pub(crate) opened: usize,
     ghost counted: { made dispatch.history ≡ book.total },
+    ghost since: { opened ≡ length L.opening.history },
     ghost upheld: { IsUpheld L.opening dispatch misreports progress.handed.entries progress.kept.entries },
 }
 
@@ -244,7 +246,9 @@ impl<L: Opened> Desk<L> {
     /// What there is to do for the worker of this place. A job names the lease's derivation and its outputs by the graph,
     /// and what its machine lacks of the input closure now.
     pub fn next(&mut self, alloc: Global, place: ParkPlace) -> Next
-        ensures { IsNextOf L.opening result }
+        ensures of { IsNextOf L.opening result }
+        ensures again { IsToldOf L.opening result }
+        ensures finished { result ≡ Next.Finished → IsFinished self.new.dispatch.inputs (reverse self.new.dispatch.history) }
     {
         self.pump();
         if self.dispatch.finished() {
@@ -262,7 +266,8 @@ impl<L: Opened> Desk<L> {
 
     /// Whether this lease, which its worker takes up, was started before the run.
     fn was_started(&self, ticket: Ticket) -> bool
-        ensures { result ≡ true → is_started ticket.drv (reverse self.now.dispatch.history) ≡ true }
+        ensures started { result ≡ true → is_started ticket.drv (reverse self.now.dispatch.history) ≡ true }
+        ensures before { result ≡ true → ticket.serial < length L.opening.history }
     {
         if ticket.serial >= self.opened {
             return false;

@@ -16,13 +16,12 @@ use crate::threads::Stint;
 use nd_history::Entry;
 use nd_ledger::Dispatch;
 use nd_receipts::{
-    ParkPlace, Receipt, Standing, Tables, are_dealt, are_rows_judged, are_rows_noted_side_by_side,
-    has_stop, is_quiet,
+    ParkPlace, Receipt, Standing, Tables, are_dealt, are_rows_judged, are_rows_noted, has_stop,
+    is_quiet,
 };
 use nd_run_desk::entries_since;
 use nd_transports::Transport;
 use nd_work::End;
-use std::thread::Threads;
 
 /// Whether a worker ended so since an entry of its own was refused.
 fn is_refused(end: End) -> bool
@@ -73,7 +72,6 @@ fn are_receipted(
 /// Whether each receipt names the entry that its worker noted, in a run that began behind the first `opened`.
 #[tactic(auto, using(crate::proofs::Faulted::all_before))]
 fn are_noted(
-    rt: &(impl Threads + Sync),
     opened: usize,
     dispatch: &Dispatch,
     receipts: &[Vec<Receipt>],
@@ -86,7 +84,7 @@ fn are_noted(
     ensures noted { result ≡ true → AreRowsNoted opened dispatch.now.history receipts.now copies.now }
     ensures unlike { result ≡ false → AreRowsNoted opened dispatch.now.history receipts.now copies.now → ⊥ }
 {
-    are_rows_noted_side_by_side(rt, dispatch.history(), opened, standing, receipts, copies)
+    are_rows_noted(dispatch.history(), opened, standing, receipts, copies)
 }
 
 /// Whether a stop is in the history, where fewer workers had a thread than there are.
@@ -111,7 +109,6 @@ fn is_halted(dispatch: &Dispatch, kept: bool) -> bool
 
 /// Whether what came back of a run that began behind the first `opened` entries is what its history says.
 pub(crate) fn is_alike(
-    rt: &(impl Threads + Sync),
     opened: usize,
     dispatch: &Dispatch,
     places: &[ParkPlace],
@@ -143,7 +140,7 @@ pub(crate) fn is_alike(
         return false;
     }
     let copies = evidence.copies.as_slice();
-    if !are_noted(rt, opened, dispatch, receipts, copies, standing) {
+    if !are_noted(opened, dispatch, receipts, copies, standing) {
         return false;
     }
     if !are_rows_judged(&evidence.misreports, receipts, copies) {

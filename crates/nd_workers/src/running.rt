@@ -242,7 +242,7 @@ fn run_in<
         rt, alloc, dispatch, seats, stations, running, stints, blank, paper,
     );
     let Brought { served, scribe } = brought;
-    let run = settle(rt, served, plan, back);
+    let run = settle(served, plan, back);
     Written { run, scribe }
 }
 

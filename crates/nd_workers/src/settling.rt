@@ -19,7 +19,6 @@ use nd_ledger::Dispatch;
 use nd_receipts::{Misreports, ParkPlace, Receipt, Standing, Tables};
 use nd_transports::Transport;
 use std::alloc::{AllocError, Global};
-use std::thread::Threads;
 
 /// What the end of a run is compared with.
 #[derive(Drop)]
@@ -112,12 +111,7 @@ fn take_apart<T: Transport>(
 }
 
 /// Compares what came back with the history, and hands it back.
-pub(crate) fn settle<T: Transport>(
-    rt: &(impl Threads + Sync),
-    served: Served<T>,
-    plan: Plan,
-    back: Back<T>,
-) -> Ran<T>
+pub(crate) fn settle<T: Transport>(served: Served<T>, plan: Plan, back: Back<T>) -> Ran<T>
     requires choices { AreUnknown (length plan.places.items) plan.tables.choices.items }
     requires sized { length plan.tables.choices.items ≡ drvs_in served.dispatch.inputs }
     requires long { plan.opened ≤ length served.dispatch.history }
@@ -160,7 +154,7 @@ pub(crate) fn settle<T: Transport>(
         kept,
         handed,
     };
-    let fault = judge(rt, plan, &dispatch, receipts.as_slice(), &evidence);
+    let fault = judge(plan, &dispatch, receipts.as_slice(), &evidence);
     Ran {
         dispatch,
         workers,
@@ -173,7 +167,6 @@ pub(crate) fn settle<T: Transport>(
 /// What a run of this plan ended with.
 #[tactic(auto, using(crate::proofs::Faulted::fault_by))]
 fn judge(
-    rt: &(impl Threads + Sync),
     plan: Plan,
     dispatch: &Dispatch,
     receipts: &[Vec<Receipt>],
@@ -191,7 +184,6 @@ fn judge(
         standing,
     } = plan;
     let alike = is_alike(
-        rt,
         opened,
         dispatch,
         places.as_slice(),

@@ -51,8 +51,11 @@ fn answers<R: Threads + Sync>(
     }
 }
 
-/// How many bytes the first block of a bundle has. The one behind it has four times as many.
-const ROOM: u64 = 262_144;
+/// How many bytes the first block of a bundle has.
+const FIRST: u64 = 2_097_152;
+
+/// How many the first two have.
+const BOTH: u64 = 6_291_456;
 
 /// How many bytes that value has in a bundle of so many bytes whose other text is this.
 fn middle_of(size: u64, behind: &[u8]) -> u64 {
@@ -89,8 +92,8 @@ fn refused_read_behind_a_faulty_line(rt: HostRuntime) {
 }
 
 #[test]
-fn bundles_about_as_long_as_the_first_room(rt: HostRuntime) {
-    for size in [ROOM - 1, ROOM, ROOM + 1, 5 * ROOM, 5 * ROOM + 1] {
+fn bundles_about_as_long_as_the_first_blocks(rt: HostRuntime) {
+    for size in [FIRST - 1, FIRST, FIRST + 1, BOTH, BOTH + 1] {
         let replies = Want::Written(b"# accept\nssh://m\n");
         let middle = middle_of(size, JSON_END);
         assert!(rt; answers(&rt, rt.alloc(), LONG, middle, JSON_END, replies));

@@ -1,12 +1,10 @@
-//! Rows of receipts that are compared with a history, by one thread and by many: what these say is the same,
-//! on both sides of the number of receipts from which on threads are started.
+//! Rows of receipts that are compared with a history, few and many.
 
 use nd_closure::Refs;
 use nd_history::Entry;
 use nd_path::PathSet;
-use nd_receipts::{Kind, Receipt, Standing, are_rows_noted, are_rows_noted_side_by_side};
+use nd_receipts::{Kind, Receipt, Standing, are_rows_noted};
 use std::alloc::Global;
-use std::thread::Threads;
 
 /// A history, what workers noted of it in turn, and beside each receipt the copy of its entry.
 #[derive(Drop)]
@@ -72,18 +70,12 @@ fn noted_in_turn(alloc: Global, workers: usize, each: usize) -> Option<Noted> {
     })
 }
 
-/// What one thread says and what many say, where it is the same.
-fn said<R: Threads + Sync>(rt: &R, alloc: Global, noted: &Noted) -> Option<bool> {
-    let (history, rows, copies) = (
-        noted.history.as_slice(),
-        noted.rows.as_slice(),
-        noted.copies.as_slice(),
-    );
+/// What is said of them.
+fn said(alloc: Global, noted: &Noted) -> Option<bool> {
     let standing = Standing::new(alloc, 0).ok()?;
-    let alone = are_rows_noted(history, 0, standing, rows, copies);
-    let standing = Standing::new(alloc, 0).ok()?;
-    let together = are_rows_noted_side_by_side(rt, history, 0, standing, rows, copies);
-    if alone == together { Some(alone) } else { None }
+    let history = noted.history.as_slice();
+    let (rows, copies) = (noted.rows.as_slice(), noted.copies.as_slice());
+    Some(are_rows_noted(history, 0, standing, rows, copies))
 }
 
 /// Names another entry at this place of the row, and hands back the one that was named.
@@ -94,87 +86,70 @@ fn rename(rows: &mut [Vec<Receipt>], row: usize, place: usize, index: usize) -> 
     Some(named)
 }
 
-/// Whether both ways say no where the receipt at this place names another entry. It is put right again.
-fn is_found<R: Threads + Sync>(
-    rt: &R,
-    alloc: Global,
-    noted: &mut Noted,
-    row: usize,
-    place: usize,
-) -> bool {
+/// Whether no is said where the receipt at this place names another entry. It is put right again.
+fn is_found(alloc: Global, noted: &mut Noted, row: usize, place: usize) -> bool {
     let other = if row == 0 && place == 0 { 1 } else { 0 };
     let Some(named) = rename(noted.rows.as_mut_slice(), row, place, other) else {
         return false;
     };
-    if said(rt, alloc, noted) != Some(false) {
+    if said(alloc, noted) != Some(false) {
         return false;
     }
     rename(noted.rows.as_mut_slice(), row, place, named) == Some(other)
 }
 
-/// Whether of what so many workers noted both ways say yes, and no where one of the receipts at these places of
+/// Whether of what so many workers noted yes is said, and no where one of the receipts at these places of
 /// a row is wrong, whichever row it is in.
-fn are_found<R: Threads + Sync>(
-    rt: &R,
-    alloc: Global,
-    workers: usize,
-    each: usize,
-    places: &[usize],
-) -> bool {
+fn are_found(alloc: Global, workers: usize, each: usize, places: &[usize]) -> bool {
     let Some(mut noted) = noted_in_turn(alloc, workers, each) else {
         return false;
     };
     for row in 0..workers {
         for place in places {
-            if !is_found(rt, alloc, &mut noted, row, *place) {
+            if !is_found(alloc, &mut noted, row, *place) {
                 return false;
             }
         }
     }
-    said(rt, alloc, &noted) == Some(true)
+    said(alloc, &noted) == Some(true)
 }
 
-/// Whether both ways say no where the copies of the last row are wanting, and where there are copies of no row.
-fn are_lengths_found<R: Threads + Sync>(
-    rt: &R,
-    alloc: Global,
-    workers: usize,
-    each: usize,
-) -> bool {
+/// Whether no is said where the copies of the last row are wanting, and where there are copies of no row.
+fn are_lengths_found(alloc: Global, workers: usize, each: usize) -> bool {
     let Some(mut noted) = noted_in_turn(alloc, workers, each) else {
         return false;
     };
     let Some(copies) = noted.copies.pop() else {
         return false;
     };
-    if said(rt, alloc, &noted) != Some(false) {
+    if said(alloc, &noted) != Some(false) {
         return false;
     }
     if noted.copies.push(copies).is_err() || noted.copies.push(Vec::new(alloc)).is_err() {
         return false;
     }
-    said(rt, alloc, &noted) == Some(false)
+    said(alloc, &noted) == Some(false)
 }
 
 #[test]
 fn few_receipts(rt: HostRuntime) {
     let alloc = rt.alloc();
-    assert!(rt; are_found(&rt, alloc, 3, 4, &[0, 1, 2, 3]));
-    assert!(rt; are_found(&rt, alloc, 1, 1, &[0]));
-    assert!(rt; are_lengths_found(&rt, alloc, 3, 4));
+    assert!(rt; are_found(alloc, 3, 4, &[0, 1, 2, 3]));
+    assert!(rt; are_found(alloc, 1, 1, &[0]));
+    assert!(rt; are_lengths_found(alloc, 3, 4));
 }
 
 #[test]
 fn many_receipts(rt: HostRuntime) {
     let alloc = rt.alloc();
-    assert!(rt; are_found(&rt, alloc, 5, 4_000, &[0, 1, 1_999, 2_000, 3_998, 3_999]));
-    assert!(rt; are_found(&rt, alloc, 1, 17_000, &[0, 8_500, 16_999]));
-    assert!(rt; are_lengths_found(&rt, alloc, 5, 4_000));
+    assert!(rt; are_found(alloc, 5, 4_000, &[0, 1, 1_999, 2_000, 3_998, 3_999]));
+    assert!(rt; are_found(alloc, 1, 17_000, &[0, 8_500, 16_999]));
+    assert!(rt; are_lengths_found(alloc, 5, 4_000));
 }
 
 #[test]
-fn about_the_least_of_many(rt: HostRuntime) {
+fn many_workers(rt: HostRuntime) {
     let alloc = rt.alloc();
-    assert!(rt; are_found(&rt, alloc, 127, 129, &[128]));
-    assert!(rt; are_found(&rt, alloc, 128, 128, &[127]));
+    assert!(rt; are_found(alloc, 127, 129, &[128]));
+    assert!(rt; are_found(alloc, 128, 128, &[127]));
 }

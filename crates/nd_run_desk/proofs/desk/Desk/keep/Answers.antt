@@ -10,5 +10,6 @@ invariant_of-self g c =
     let begins : BeginsWith c.args.self.now.progress.handed.entries c.handed.result.entries = search rules in
     record {
       counted = c.args.self.now.counted;
+      since = c.args.self.now.since;
       upheld = upheld_durable _ _ _ _ _ _ _ c.args.self.now.upheld c.handed.ensures.scribing (subst P c.handed.ensures.handed begins) (ap (λ (l : Listed). l.entries) c.kept.ensures.kept);
     }
